@@ -1,0 +1,39 @@
+-- Laws of little-endian numbers: what lies past the end, and a u32 written as two u16.
+use Prim.Native.Nat.{ℕ, suc, _+_, _/_, _≤_}
+use mathlib.Core.Path.{_≡_, refl, ap, _∙_}
+use mathlib.Core.List.{List, [], _∷_}
+use native.Mathlib.Omega.{arith}
+use native.Mathlib.Numerals.{add-two}
+use lib.ListN.{length, set, List·getD-eq-default}
+use lib.Seq.{sets, set-out}
+use Rattle.laws.specs.Bytes.{byteAt, u16At, u32At, u16Bytes, u32Bytes}
+
+-- past the end every number reads as 0
+pub byte-out : (s : List ℕ) (at : ℕ) → length s ≤ at → byteAt s at ≡ 0
+byte-out s at h = List·getD-eq-default s 0 h
+
+pub u16-out : (s : List ℕ) (at : ℕ) → length s ≤ at → u16At s at ≡ 0
+unfolding u16At
+u16-out s at h =
+    let a : byteAt s at ≡ 0 = byte-out s at h in
+    let b : byteAt s (at + 1) ≡ 0 = byte-out s (at + 1) (omega arith) in
+    omega arith
+
+pub u32-out : (s : List ℕ) (at : ℕ) → length s ≤ at → u32At s at ≡ 0
+unfolding u32At
+u32-out s at h =
+    let a : u16At s at ≡ 0 = u16-out s at h in
+    let b : u16At s (at + 2) ≡ 0 = u16-out s (at + 2) (omega arith) in
+    omega arith
+
+-- stores past the end change nothing
+pub sets-out : (l : List ℕ) (at : ℕ) (vs : List ℕ) → length l ≤ at → sets l at vs ≡ l
+sets-out l at [] h = refl
+sets-out l at (v ∷ vs) h =
+    let e : set l at v ≡ l = set-out l at v h in
+    ap (λ (k : List ℕ). sets k (suc at) vs) e ∙ sets-out l (suc at) vs (omega arith)
+
+-- a u32 is its lower and its upper half, each a u16
+pub u32-halves : (l : List ℕ) (at n : ℕ) → sets l at (u32Bytes n) ≡ sets (sets l at (u16Bytes n)) (at + 2) (u16Bytes (n / 65536))
+unfolding u32Bytes u16Bytes
+u32-halves l at n = rw add-two

@@ -1,0 +1,5 @@
+-- The laws of the definitions in specs/, each under its definition's name.
+pub mod Search
+pub mod Fold
+pub mod Listed
+pub mod Bytes

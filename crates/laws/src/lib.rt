@@ -1,0 +1,81 @@
+// Little-endian numbers in a caller's bytes: total readers and writers.
+ghost use mathlib.Core.Path.{_≡_};
+ghost use Prim.Native.Nat.{_<_};
+ghost use lib.ListN.{set};
+ghost use lib.Seq.{sets};
+ghost use Rattle.laws.specs.Bytes.{byteAt, u16At, u32At, biasedAt, u16Bytes, u32Bytes};
+
+fn wide(b: u8) -> usize
+    ensures { λ r. ⌜ (r ≡ b) × (r < 256) ⌝ }
+{
+    b as usize
+}
+
+// The byte at a position, 0 past the end.
+pub fn byte_at(s: &[u8], at: usize) -> usize
+    ensures { λ r. ⌜ (r ≡ byteAt (now (s .entry)) at) × (r < 256) ⌝ }
+{
+    if at < s.len() { wide(s[at]) } else { 0 }
+}
+
+// The u16 that starts at a position; its bytes past the end count as 0.
+pub fn u16_at(s: &[u8], at: usize) -> usize
+    ensures { λ r. ⌜ (r ≡ u16At (now (s .entry)) at) × (r < 65536) ⌝ }
+{
+    if at < s.len() {
+        let low = byte_at(s, at);
+        let high = byte_at(s, at + 1);
+        low + 256 * high
+    } else {
+        0
+    }
+}
+
+// The u32 that starts at a position; its bytes past the end count as 0.
+pub fn u32_at(s: &[u8], at: usize) -> usize
+    ensures { λ r. ⌜ (r ≡ u32At (now (s .entry)) at) × (r < 4294967296) ⌝ }
+{
+    if at < s.len() {
+        let low = u16_at(s, at);
+        let high = u16_at(s, at + 2);
+        low + 65536 * high
+    } else {
+        0
+    }
+}
+
+// The i32 that starts at a position, plus 2147483648.
+pub fn biased_at(s: &[u8], at: usize) -> usize
+    ensures { λ r. ⌜ (r ≡ biasedAt (now (s .entry)) at) × (r < 4294967296) ⌝ }
+{
+    (u32_at(s, at) + 2147483648) % 4294967296
+}
+
+// Puts a byte at a position; past the end nothing changes.
+pub fn put_byte(s: &mut [u8], at: usize, b: u8)
+    ensures { λ _. ⌜ now (s .exit) ≡ set (now (s .entry)) at b ⌝ }
+{
+    if at < s.len() {
+        s[at] = b;
+    }
+}
+
+// Puts the two bytes of a u16: of a larger number, its lowest two.
+pub fn put_u16(s: &mut [u8], at: usize, n: usize)
+    ensures { λ _. ⌜ now (s .exit) ≡ sets (now (s .entry)) at (u16Bytes n) ⌝ }
+{
+    if at < s.len() {
+        put_byte(s, at, (n % 256) as u8);
+        put_byte(s, at + 1, (n / 256 % 256) as u8);
+    }
+}
+
+// Puts the four bytes of a u32.
+pub fn put_u32(s: &mut [u8], at: usize, n: usize)
+    ensures { λ _. ⌜ now (s .exit) ≡ sets (now (s .entry)) at (u32Bytes n) ⌝ }
+{
+    if at < s.len() {
+        put_u16(s, at, n);
+        put_u16(s, at + 2, n / 65536);
+    }
+}
