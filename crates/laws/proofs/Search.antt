@@ -1,15 +1,15 @@
 -- Laws of bounded search: to and from plain statements, and the steps of a loop that searches.
 use Prim.Native.Nat.{ℕ, zero, suc, _+_, _≤_, _<_, min}
 use mathlib.Core.Path.{_≡_, refl, sym, ap, ap₂, _∙_}
-use mathlib.Core.Bool.{Bool, true, false, cond, _||_, _&&_, or-true, or-false, and-true, and-false}
+use mathlib.Core.Bool.{Bool, true, false, cond, _||_, _&&_, or-true, and-false}
 use mathlib.Core.Logic.{_⊎_, inl, inr, ⊎-elim}
 use native.Mathlib.Nat.{eq-or-lt-of-le, le-of-suc-le-suc, not-suc-le-zero, min-eq-left, min-eq-right}
 use native.Mathlib.Numerals.{add-one}
 use native.Mathlib.Decide.{decLt, decLe}
 use native.Mathlib.Omega.{arith}
-use borrow.Author.Tests.{lt-ltb, le-ltb, ltb-true, ltb-false}
-use lib.Dec.{ltb}
-use Rattle.laws.specs.Search.{any, all, lowest}
+use borrow.Author.Tests.{lt-ltb, le-ltb, eq-eqb, ne-eqb}
+use lib.Dec.{ltb, eqb}
+use Rattle.laws.specs.Search.{any, all, lowest, lowestOwner}
 
 -- a test passes or fails
 pub either : (b : Bool) → (b ≡ true) ⊎ (b ≡ false)
@@ -24,6 +24,19 @@ contrary t f = absurd (let z : _≡_ {A = ℕ} 0 1 = ap (λ (x : Bool). cond x 0
 pub or-both : (a b : Bool) → (a || b) ≡ false → (a ≡ false) × (b ≡ false)
 or-both true b e = contrary refl e
 or-both false b e = (refl, e)
+
+-- both halves of a test that passes
+pub and-both : (a b : Bool) → (a && b) ≡ true → (a ≡ true) × (b ≡ true)
+and-both true b e = (refl, e)
+and-both false b e = contrary e refl
+
+-- of two numbers one is lower, or they are equal
+pub by-order {ℓ} : {A : Type ℓ} (a b : ℕ) → (a < b → A) → (b < a → A) → (a ≡ b → A) → A
+by-order {A} a b f g h = elim (decLt a b) [ yes l ↦ f l | no l ↦ go (decLt b a) l ]
+  where
+    go : Dec (b < a) → (a < b → ⊥) → A
+    go (yes r) l = g r
+    go (no r) l = h (omega arith)
 
 -- the last index below suc n, or one below n
 pub last-or-below : {k n : ℕ} → k < suc n → (k ≡ n) ⊎ (k < n)
@@ -74,9 +87,14 @@ module _ (p : ℕ → Bool) where
       (λ (f : all n p ≡ false). contrary e (ap (λ b. b && p n) f))
       (either (all n p))
 
-  lowest-none : lowest 0 p ≡ 0
+  -- nothing has been searched
+  pub lowest-start : lowest 0 p ≡ 0
   unfolding lowest
-  lowest-none = refl
+  lowest-start = refl
+
+  pub any-start : any 0 p ≡ false
+  unfolding any
+  any-start = refl
 
   -- the search of one more index: found before, found here, found nowhere
   lowest-keep : (n : ℕ) → lowest n p < n → lowest (suc n) p ≡ lowest n p
@@ -93,7 +111,7 @@ module _ (p : ℕ → Bool) where
 
   -- what the lowest is: nothing below it passes, and it passes unless it is n
   pub lowest-is : (n k : ℕ) → k ≤ n → ((j : ℕ) → j < k → p j ≡ false) → (k < n → p k ≡ true) → lowest n p ≡ k
-  lowest-is zero k h below here = let e : k ≡ 0 = omega arith in lowest-none ∙ sym e
+  lowest-is zero k h below here = let e : k ≡ 0 = omega arith in lowest-start ∙ sym e
   lowest-is (suc n) k h below here =
       elim (decLt k n) [
         | yes l ↦
@@ -108,7 +126,7 @@ module _ (p : ℕ → Bool) where
       ]
 
   pub lowest-facts : (n : ℕ) → (lowest n p ≤ n) × ((j : ℕ) → j < lowest n p → p j ≡ false) × (lowest n p < n → p (lowest n p) ≡ true)
-  lowest-facts zero = rw lowest-none (omega arith, λ j h. absurd (not-suc-le-zero h), λ h. absurd (not-suc-le-zero h))
+  lowest-facts zero = rw lowest-start (omega arith, λ j h. absurd (not-suc-le-zero h), λ h. absurd (not-suc-le-zero h))
   lowest-facts (suc n) =
       let w = lowest-facts n in
       elim (decLt (lowest n p) n) [
@@ -192,3 +210,75 @@ lowest-cong p q n h =
 
 pub any-cong : (p q : ℕ → Bool) (n : ℕ) → ((k : ℕ) → k < n → p k ≡ q k) → any n p ≡ any n q
 any-cong p q n h = any-lowest p n ∙ ap (λ k. ltb k n) (lowest-cong p q n h) ∙ sym (any-lowest q n)
+
+-- A loop that keeps the lowest owner found so far starts from n, and lowers it at an index that passes.
+module _ (n : ℕ) (owner : ℕ → ℕ) (p : ℕ → Bool) where
+  pub owner-start : lowestOwner n 0 owner p ≡ n
+  unfolding lowestOwner
+  owner-start =
+      lowest-is (λ s. any 0 (λ k. eqb (owner k) s && p k)) n n (omega arith)
+      (λ j h. any-start (λ k. eqb (owner k) j && p k))
+      (λ h. absurd (let z : n < n = h in omega arith))
+
+  -- who owns one of the first m + 1: who owns one of the first m, or the owner of m if it passes
+  more : (m s : ℕ) → any (m + 1) (λ k. eqb (owner k) s && p k) ≡ (any m (λ k. eqb (owner k) s && p k) || (eqb (owner m) s && p m))
+  unfolding any
+  more m s = rw add-one
+
+  -- one more index leaves the answer where it does not pass or its owner is no lower
+  owner-same : (m : ℕ) → (p m ≡ true → lowestOwner n m owner p ≤ owner m) → lowestOwner n (m + 1) owner p ≡ lowestOwner n m owner p
+  unfolding lowestOwner
+  owner-same m h =
+      let q : ℕ → Bool = λ s. any m (λ k. eqb (owner k) s && p k) in
+      lowest-is (λ s. any (m + 1) (λ k. eqb (owner k) s && p k)) n (lowest n q) (lowest-le q n)
+      (λ j l.
+      more m j
+      ∙ ap (λ b. b || (eqb (owner m) j && p m)) (lowest-facts q n .1 j l)
+      ∙ ⊎-elim
+      (λ (t : p m ≡ true). ap (λ b. b && p m) (ne-eqb (owner m) j (λ e. let g = h t in omega arith)))
+      (λ (f : p m ≡ false). ap (λ b. eqb (owner m) j && b) f ∙ and-false (eqb (owner m) j))
+      (either (p m)))
+      (λ l. more m (lowest n q) ∙ ap (λ b. b || (eqb (owner m) (lowest n q) && p m)) (lowest-facts q n .2 l))
+
+  owner-lower : (m : ℕ) → p m ≡ true → owner m < lowestOwner n m owner p → lowestOwner n (m + 1) owner p ≡ owner m
+  unfolding lowestOwner
+  owner-lower m t h =
+      let q : ℕ → Bool = λ s. any m (λ k. eqb (owner k) s && p k) in
+      lowest-is (λ s. any (m + 1) (λ k. eqb (owner k) s && p k)) n (owner m) (omega (arith, lowest-le q n))
+      (λ j l.
+      more m j
+      ∙ ap (λ b. b || (eqb (owner m) j && p m)) (lowest-facts q n .1 j (omega arith))
+      ∙ ap (λ b. b && p m) (ne-eqb (owner m) j (omega arith)))
+      (λ l.
+      more m (owner m)
+      ∙ ap (λ b. any m (λ k. eqb (owner k) (owner m) && p k) || b) (ap₂ _&&_ (eq-eqb (owner m) (owner m) refl) t)
+      ∙ or-true (q (owner m)))
+
+  -- the next answer, from the last one, what the code's test gave and the owner that it read
+  pub owner-more : (m : ℕ) {best step next : ℕ} {r : Bool} → best ≡ lowestOwner n m owner p → r ≡ p m → step ≡ owner m → next ≡ cond (r && ltb step best) step best → next ≡ lowestOwner n (m + 1) owner p
+  owner-more m {best} {step} {next} {r} e q o w =
+      w ∙ ⊎-elim
+      (λ (t : r ≡ true).
+      elim (decLt step best) [
+        | yes l ↦ rw (t, lt-ltb _ _ l) (o ∙ sym (owner-lower m (sym q ∙ t) (omega arith)))
+        | no l ↦ rw (t, le-ltb step best (omega arith)) (e ∙ sym (owner-same m (λ _. omega arith)))
+      ])
+      (λ (f : r ≡ false). rw f (e ∙ sym (owner-same m (λ t. contrary t (sym q ∙ f)))))
+      (either r)
+
+  pub owner-end : (m i : ℕ) {best : ℕ} → best ≡ lowestOwner n i owner p → i ≤ m → m ≤ i → best ≡ lowestOwner n m owner p
+  owner-end m i e h g = let q : i ≡ m = omega arith in e ∙ ap (λ k. lowestOwner n k owner p) q
+
+  -- there is none only if no index with an owner below n passes
+  pub owner-none : (m : ℕ) → n ≤ lowestOwner n m owner p → (k : ℕ) → k < m → owner k < n → p k ≡ false
+  unfolding lowestOwner
+  owner-none m h k l o =
+      ⊎-elim
+      (λ (t : p k ≡ true).
+      absurd
+      (let g : lowest n (λ s. any m (λ j. eqb (owner j) s && p j)) < n =
+      lowest-lt (λ s. any m (λ j. eqb (owner j) s && p j)) n (owner k) o
+      (any-intro (λ j. eqb (owner j) (owner k) && p j) m k l (ap₂ _&&_ (eq-eqb (owner k) (owner k) refl) t))
+      in omega arith))
+      (λ f. f)
+      (either (p k))

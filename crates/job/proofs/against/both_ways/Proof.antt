@@ -1,0 +1,20 @@
+-- The fields that are read are those that `bothWays` tests.
+use Rattle.job.specs.Against.{bothWays}
+use borrow.Author.Needs.{needs}
+use Rattle.job.proofs.against.both_ways.Statement.{statement}
+use Rattle.job.proofs.against.both_ways.Tie as tie
+
+pub both-ways-spec : {M : Type 1} → statement M
+unfolding bothWays
+both-ways-spec =
+    tie.close
+    (tie.spec
+    (λ c κs. search needs)
+    (λ c κs. search needs)
+    (λ c κs. search needs)
+    (λ c κs. search needs)
+    (λ c κs. search needs)
+    (λ c κs. search needs)
+    (λ c κs. search needs)
+    (λ c κs. search needs)
+    (λ c. cc))

@@ -1,0 +1,26 @@
+-- The lowest step found so far is kept; one more index lowers it or not.
+use Prim.Native.Nat.{_≤_, _-_}
+use mathlib.Core.Path.{_≡_, sym}
+use Rattle.laws.specs.Search.{lowestOwner}
+use Rattle.laws.proofs.Search.{owner-start, owner-more, owner-end}
+use Rattle.job.specs.Model.{view}
+use Rattle.job.specs.Against.{usedBefore, usesTwiceStep}
+use borrow.Author.Needs.{needs}
+use Rattle.job.proofs.against.uses_twice_step.Statement.{statement}
+use Rattle.job.proofs.against.uses_twice_step.Tie as tie
+
+pub uses-twice-step-spec : {M : Type 1} → statement M
+unfolding usesTwiceStep
+uses-twice-step-spec =
+    tie.close
+    (tie.spec
+    (λ s job n best₀ u₀ best u. (u ≤ n) × (best ≡ lowestOwner (job .count .steps) u (view job s .useStep) (usedBefore (view job s))))
+    (λ s job n best₀ u₀ best u. n - u)
+    (λ c. (search needs, sym (owner-start _ _ _)))
+    (λ c κs. search needs)
+    (λ c κs. search needs)
+    (λ c κs. search needs)
+    (λ c. search needs)
+    (λ c. search needs)
+    (λ c. (search needs, owner-more _ _ _ _ (c .before .before .before .before .loop .inv .1) (c .before .before .used-before .ensures) (c .before .use-step .ensures) (c .lower-if .ensures)))
+    (λ c. owner-end _ _ _ _ _ (c .before .loop .inv .1) (c .before .loop .inv .0) (c .loop-test .left)))

@@ -1,0 +1,16 @@
+-- The parts are those of `jobOf`.
+use Rattle.job.specs.Layout.{jobOf}
+use borrow.Author.Needs.{needs}
+use Rattle.job.proofs.layout.Job.read.Statement.{statement}
+use Rattle.job.proofs.layout.Job.read.Tie as tie
+
+pub read-spec : {M : Type 1} → statement M
+unfolding jobOf
+read-spec =
+    tie.close
+    (tie.spec
+    (λ c κs. search needs)
+    (λ c. search needs)
+    (λ c κs. search needs)
+    (λ c κs. search needs)
+    (λ c. cc))

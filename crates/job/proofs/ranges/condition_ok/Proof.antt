@@ -1,0 +1,18 @@
+-- The fields that are read are those that `conditionOk` tests.
+use Rattle.job.specs.Ranges.{conditionOk}
+use borrow.Author.Needs.{needs}
+use Rattle.job.proofs.ranges.condition_ok.Statement.{statement}
+use Rattle.job.proofs.ranges.condition_ok.Tie as tie
+
+pub condition-ok-spec : {M : Type 1} → statement M
+unfolding conditionOk
+condition-ok-spec =
+    tie.close
+    (tie.spec
+    (λ c κs. search needs)
+    (λ c κs. search needs)
+    (λ c κs. search needs)
+    (λ c κs. search needs)
+    (λ c κs. search needs)
+    (λ c κs. search needs)
+    (λ c. cc))

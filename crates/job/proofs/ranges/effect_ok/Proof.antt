@@ -1,0 +1,17 @@
+-- The fields that are read are those that `effectOk` tests.
+use Rattle.job.specs.Ranges.{effectOk}
+use borrow.Author.Needs.{needs}
+use Rattle.job.proofs.ranges.effect_ok.Statement.{statement}
+use Rattle.job.proofs.ranges.effect_ok.Tie as tie
+
+pub effect-ok-spec : {M : Type 1} → statement M
+unfolding effectOk
+effect-ok-spec =
+    tie.close
+    (tie.spec
+    (λ c κs. search needs)
+    (λ c κs. search needs)
+    (λ c κs. search needs)
+    (λ c κs. search needs)
+    (λ c κs. search needs)
+    (λ c. cc))

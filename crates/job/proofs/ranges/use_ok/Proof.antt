@@ -1,0 +1,17 @@
+-- The fields that are read are those that `useOk` tests.
+use Rattle.job.specs.Ranges.{useOk}
+use borrow.Author.Needs.{needs}
+use Rattle.job.proofs.ranges.use_ok.Statement.{statement}
+use Rattle.job.proofs.ranges.use_ok.Tie as tie
+
+pub use-ok-spec : {M : Type 1} → statement M
+unfolding useOk
+use-ok-spec =
+    tie.close
+    (tie.spec
+    (λ c κs. search needs)
+    (λ c κs. search needs)
+    (λ c κs. search needs)
+    (λ c κs. search needs)
+    (λ c κs. search needs)
+    (λ c. cc))

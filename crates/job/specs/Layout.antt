@@ -1,0 +1,71 @@
+-- "The job file": the header, the record widths, where each table starts, the highest counts.
+use Prim.Native.Nat.{ℕ, zero, suc, _+_, _*_}
+use mathlib.Core.Bool.{Bool, _&&_}
+use mathlib.Core.List.{List, [], _∷_}
+use lib.ListN.{length, getD}
+use lib.Dec.{ltb, eqb}
+use Rattle.laws.specs.Search.{any}
+use Rattle.laws.specs.Bytes.{u16At, u32At}
+use Rattle.job.specs.declared.layout.Counts.{Counts}
+use Rattle.job.specs.declared.layout.Positions.{Positions}
+use Rattle.job.specs.declared.layout.Job.{Job}
+
+-- "Widths in bytes", in the tables' order: facts, levels, steps, conditions, effects, uses, goals
+abbrev pub widths : List ℕ
+widths = 1 ∷ 12 ∷ 10 ∷ 14 ∷ 10 ∷ 12 ∷ 8 ∷ []
+
+-- "Highest counts in that order"
+abbrev pub highest : List ℕ
+highest = 256 ∷ 16 ∷ 64 ∷ 512 ∷ 512 ∷ 256 ∷ 32 ∷ []
+
+-- the counts of the header, which names goals before conditions
+unfoldable pub countsOf : List ℕ → Counts
+countsOf s = record {
+  facts = u16At s 4;
+  levels = u16At s 6;
+  steps = u16At s 8;
+  conditions = u16At s 12;
+  effects = u16At s 14;
+  uses = u16At s 16;
+  goals = u16At s 10;
+}
+
+-- the counts in the tables' order
+abbrev pub countList : Counts → List ℕ
+countList c = c .facts ∷ c .levels ∷ c .steps ∷ c .conditions ∷ c .effects ∷ c .uses ∷ c .goals ∷ []
+
+-- "The tables follow the header without gaps": where table t starts; for t = 7, where the file ends
+unfoldable pub tableAt : Counts → ℕ → ℕ
+tableAt c zero = 48
+tableAt c (suc t) = tableAt c t + getD widths t 0 * getD (countList c) t 0
+
+-- the positions of the seven tables and of the file's end
+unfoldable pub positionsOf : Counts → Positions
+positionsOf c = record {
+  facts = tableAt c 0;
+  levels = tableAt c 1;
+  steps = tableAt c 2;
+  conditions = tableAt c 3;
+  effects = tableAt c 4;
+  uses = tableAt c 5;
+  goals = tableAt c 6;
+  end = tableAt c 7;
+}
+
+-- what the header says, and where it puts the tables
+unfoldable pub jobOf : List ℕ → Job
+jobOf s = record { serial = u16At s 2; count = countsOf s; at = positionsOf (countsOf s) }
+
+-- refusal 4: a count exceeds its highest
+unfoldable pub countTooHigh : Counts → Bool
+countTooHigh c = any 7 (λ t. ltb (getD highest t 0) (getD (countList c) t 0))
+
+-- refusal 5, the other way round: every offset and the file's length agree with the tables
+unfoldable pub layoutAgrees : List ℕ → Positions → Bool
+layoutAgrees s p =
+    eqb (u32At s 20) (p .facts) && eqb (u32At s 24) (p .levels) && eqb (u32At s 28) (p .steps)
+    && eqb (u32At s 32) (p .conditions)
+    && eqb (u32At s 36) (p .effects)
+    && eqb (u32At s 40) (p .uses)
+    && eqb (u32At s 44) (p .goals)
+    && eqb (length s) (p .end)

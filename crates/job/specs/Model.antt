@@ -1,0 +1,86 @@
+-- The job that a file holds: counts, and functions of an index. Its meaning is stated over this record alone.
+use Prim.Native.Nat.{ℕ, _+_, _*_, _-_}
+use mathlib.Core.List.{List}
+use Rattle.laws.specs.Bytes.{byteAt, u16At, u32At, biasedAt}
+use Rattle.job.specs.declared.layout.Job.{Job}
+use Rattle.job.specs.Layout.{jobOf}
+
+pub record Model : Type 0 where
+  -- the serial mark
+  pub serial : ℕ
+  -- how many of each there are
+  pub facts : ℕ
+  pub levels : ℕ
+  pub steps : ℕ
+  pub conditions : ℕ
+  pub effects : ℕ
+  pub uses : ℕ
+  pub goals : ℕ
+  -- a fact's initial value
+  pub initial : ℕ → ℕ
+  -- a level's numbers, each plus 2147483648
+  pub levelInitial : ℕ → ℕ
+  pub levelLeast : ℕ → ℕ
+  pub levelMost : ℕ → ℕ
+  -- a step's written start, its length and its fixed mark
+  pub start : ℕ → ℕ
+  pub stepLength : ℕ → ℕ
+  pub fixed : ℕ → ℕ
+  pub conditionStep : ℕ → ℕ
+  pub conditionFact : ℕ → ℕ
+  pub conditionFrom : ℕ → ℕ
+  pub conditionTo : ℕ → ℕ
+  pub conditionValue : ℕ → ℕ
+  pub effectStep : ℕ → ℕ
+  pub effectFact : ℕ → ℕ
+  pub effectAt : ℕ → ℕ
+  pub effectValue : ℕ → ℕ
+  -- a use's amount plus 2147483648
+  pub useStep : ℕ → ℕ
+  pub useLevel : ℕ → ℕ
+  pub useAt : ℕ → ℕ
+  pub useAmount : ℕ → ℕ
+  -- a goal's deadline, or 4294967295 for none
+  pub goalFact : ℕ → ℕ
+  pub goalValue : ℕ → ℕ
+  pub goalDeadline : ℕ → ℕ
+
+-- the job in bytes whose tables lie as given: record k of a table of width w starts at w * k
+abbrev pub view : Job → List ℕ → Model
+view j s = record {
+  serial = j .serial;
+  facts = j .count .facts;
+  levels = j .count .levels;
+  steps = j .count .steps;
+  conditions = j .count .conditions;
+  effects = j .count .effects;
+  uses = j .count .uses;
+  goals = j .count .goals;
+  initial = λ k. byteAt s (j .at .facts + 1 * k);
+  levelInitial = λ k. biasedAt s (j .at .levels + 12 * k);
+  levelLeast = λ k. biasedAt s (j .at .levels + 12 * k + 4);
+  levelMost = λ k. biasedAt s (j .at .levels + 12 * k + 8);
+  start = λ k. u32At s (j .at .steps + 10 * k);
+  stepLength = λ k. u32At s (j .at .steps + 10 * k + 4);
+  fixed = λ k. u16At s (j .at .steps + 10 * k + 8);
+  conditionStep = λ k. u16At s (j .at .conditions + 14 * k);
+  conditionFact = λ k. u16At s (j .at .conditions + 14 * k + 2);
+  conditionFrom = λ k. u32At s (j .at .conditions + 14 * k + 4);
+  conditionTo = λ k. u32At s (j .at .conditions + 14 * k + 8);
+  conditionValue = λ k. u16At s (j .at .conditions + 14 * k + 12);
+  effectStep = λ k. u16At s (j .at .effects + 10 * k);
+  effectFact = λ k. u16At s (j .at .effects + 10 * k + 2);
+  effectAt = λ k. u32At s (j .at .effects + 10 * k + 4);
+  effectValue = λ k. u16At s (j .at .effects + 10 * k + 8);
+  useStep = λ k. u16At s (j .at .uses + 12 * k);
+  useLevel = λ k. u16At s (j .at .uses + 12 * k + 2);
+  useAt = λ k. u32At s (j .at .uses + 12 * k + 4);
+  useAmount = λ k. biasedAt s (j .at .uses + 12 * k + 8);
+  goalFact = λ k. u16At s (j .at .goals + 8 * k);
+  goalValue = λ k. u16At s (j .at .goals + 8 * k + 2);
+  goalDeadline = λ k. u32At s (j .at .goals + 8 * k + 4);
+}
+
+-- the job that a file holds
+abbrev pub modelOf : List ℕ → Model
+modelOf s = view (jobOf s) s

@@ -1,0 +1,61 @@
+-- What holds of the job in a file that refusals 1 to 7 pass: plain statements, one a sentence.
+use Prim.Native.Nat.{ℕ, _≤_, _<_}
+use mathlib.Core.Path.{_≡_}
+use mathlib.Core.Logic.{_⊎_}
+use Rattle.job.specs.Model.{Model}
+use Rattle.job.specs.Ranges.{noDeadline}
+
+pub record WellFormed (m : Model) : Type 0 where
+  -- marks and counts
+  pub serialMark : m .serial ≤ 1
+  pub factCount : m .facts ≤ 256
+  pub levelCount : m .levels ≤ 16
+  pub stepCount : m .steps ≤ 64
+  pub conditionCount : m .conditions ≤ 512
+  pub effectCount : m .effects ≤ 512
+  pub useCount : m .uses ≤ 256
+  pub goalCount : m .goals ≤ 32
+  -- facts and levels
+  pub initialValue : (k : ℕ) → k < m .facts → m .initial k ≤ 1
+  pub levelFrom : (k : ℕ) → k < m .levels → 1147483648 ≤ m .levelLeast k
+  pub levelLow : (k : ℕ) → k < m .levels → m .levelLeast k ≤ m .levelInitial k
+  pub levelHigh : (k : ℕ) → k < m .levels → m .levelInitial k ≤ m .levelMost k
+  pub levelTo : (k : ℕ) → k < m .levels → m .levelMost k ≤ 3147483648
+  -- steps
+  pub startRange : (k : ℕ) → k < m .steps → m .start k ≤ 1000000
+  pub lengthRange : (k : ℕ) → k < m .steps → m .stepLength k ≤ 100000
+  pub fixedMark : (k : ℕ) → k < m .steps → m .fixed k ≤ 1
+  -- conditions
+  pub conditionStep : (k : ℕ) → k < m .conditions → m .conditionStep k < m .steps
+  pub conditionFact : (k : ℕ) → k < m .conditions → m .conditionFact k < m .facts
+  pub conditionSpan : (k : ℕ) → k < m .conditions → m .conditionFrom k ≤ m .conditionTo k
+  pub conditionEnd : (k : ℕ) → k < m .conditions → m .conditionTo k ≤ m .stepLength (m .conditionStep k)
+  pub conditionValue : (k : ℕ) → k < m .conditions → m .conditionValue k ≤ 1
+  -- effects
+  pub effectStep : (k : ℕ) → k < m .effects → m .effectStep k < m .steps
+  pub effectFact : (k : ℕ) → k < m .effects → m .effectFact k < m .facts
+  pub effectEnd : (k : ℕ) → k < m .effects → m .effectAt k ≤ m .stepLength (m .effectStep k)
+  pub effectValue : (k : ℕ) → k < m .effects → m .effectValue k ≤ 1
+  -- uses
+  pub useStep : (k : ℕ) → k < m .uses → m .useStep k < m .steps
+  pub useLevel : (k : ℕ) → k < m .uses → m .useLevel k < m .levels
+  pub useEnd : (k : ℕ) → k < m .uses → m .useAt k ≤ m .stepLength (m .useStep k)
+  pub useFrom : (k : ℕ) → k < m .uses → 2146483648 ≤ m .useAmount k
+  pub useTo : (k : ℕ) → k < m .uses → m .useAmount k ≤ 2148483648
+  pub useNotZero : (k : ℕ) → k < m .uses → m .useAmount k ≡ 2147483648 → ⊥
+  -- goals
+  pub goalFact : (k : ℕ) → k < m .goals → m .goalFact k < m .facts
+  pub goalValue : (k : ℕ) → k < m .goals → m .goalValue k ≤ 1
+  pub goalDeadline : (k : ℕ) → k < m .goals → (m .goalDeadline k ≤ 1100000) ⊎ (m .goalDeadline k ≡ noDeadline)
+  -- no step is against itself
+  pub oneWay :
+      (e f : ℕ) → e < m .effects → f < m .effects → m .effectStep e ≡ m .effectStep f → m .effectFact e ≡ m .effectFact f
+      → m .effectAt e ≡ m .effectAt f
+      → m .effectValue e ≡ m .effectValue f
+  pub oneUse :
+      (u v : ℕ) → u < m .uses → v < m .uses → m .useStep u ≡ m .useStep v → m .useLevel u ≡ m .useLevel v → m .useAt u ≡ m .useAt v → u ≡ v
+  pub keepsOwn :
+      (e c : ℕ) → e < m .effects → c < m .conditions → m .effectStep e ≡ m .conditionStep c → m .effectFact e ≡ m .conditionFact c
+      → m .conditionFrom c ≤ m .effectAt e
+      → m .effectAt e < m .conditionTo c
+      → m .effectValue e ≡ m .conditionValue c

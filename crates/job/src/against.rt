@@ -1,0 +1,156 @@
+// Refusal 7: a step against itself, found in three searches.
+ghost use mathlib.Core.Path.{_≡_};
+ghost use mathlib.Core.Bool.{_&&_, cond};
+ghost use Prim.Native.Nat.{min};
+ghost use lib.Dec.{ltb};
+ghost use Rattle.job.specs.Model.{view};
+ghost use Rattle.job.specs.Against.{bothWays, usesTwice, opposesOwn, setBefore, usedBefore, opposesAny, bothWaysStep, usesTwiceStep, opposesOwnStep};
+ghost use Rattle.job.specs.Refusals.{stepCheck};
+use crate::layout::Job;
+use crate::records::*;
+use crate::verdict::Verdict;
+use crate::verdict::refuse_if;
+
+fn both_ways(s: &[u8], job: Job, e: u16, f: u16) -> bool
+    ensures { λ r. ⌜ r ≡ bothWays (view job (now (s .entry))) e f ⌝ }
+{
+    (effect_step(s, job, e) == effect_step(s, job, f))
+        & (effect_fact(s, job, e) == effect_fact(s, job, f))
+        & (effect_at(s, job, e) == effect_at(s, job, f))
+        & (effect_value(s, job, e) != effect_value(s, job, f))
+}
+
+fn uses_twice(s: &[u8], job: Job, u: u16, v: u16) -> bool
+    ensures { λ r. ⌜ r ≡ usesTwice (view job (now (s .entry))) u v ⌝ }
+{
+    (use_step(s, job, u) == use_step(s, job, v))
+        & (use_level(s, job, u) == use_level(s, job, v))
+        & (use_at(s, job, u) == use_at(s, job, v))
+}
+
+fn opposes_own(s: &[u8], job: Job, e: u16, c: u16) -> bool
+    ensures { λ r. ⌜ r ≡ opposesOwn (view job (now (s .entry))) e c ⌝ }
+{
+    let at = effect_at(s, job, e);
+    (effect_step(s, job, e) == condition_step(s, job, c))
+        & (effect_fact(s, job, e) == condition_fact(s, job, c))
+        & (effect_value(s, job, e) != condition_value(s, job, c))
+        & (condition_from(s, job, c) <= at)
+        & (at < condition_to(s, job, c))
+}
+
+// Whether an effect before e sets e's fact the other way, in e's step at e's tick.
+fn set_before(s: &[u8], job: Job, e: u16) -> bool
+    ensures { λ r. ⌜ r ≡ setBefore (view job (now (s .entry))) e ⌝ }
+{
+    let mut f = 0;
+    while f < e {
+        if both_ways(s, job, e, f) {
+            return true;
+        }
+        f += 1;
+    }
+    false
+}
+
+// Whether a use before u uses u's level in u's step at u's tick.
+fn used_before(s: &[u8], job: Job, u: u16) -> bool
+    ensures { λ r. ⌜ r ≡ usedBefore (view job (now (s .entry))) u ⌝ }
+{
+    let mut v = 0;
+    while v < u {
+        if uses_twice(s, job, u, v) {
+            return true;
+        }
+        v += 1;
+    }
+    false
+}
+
+// Whether e opposes a condition of its own step before that condition's last tick.
+fn opposes_any(s: &[u8], job: Job, e: u16) -> bool
+    ensures { λ r. ⌜ r ≡ opposesAny (view job (now (s .entry))) e ⌝ }
+{
+    let n = job.count.conditions;
+    let mut c = 0;
+    while c < n {
+        if opposes_own(s, job, e, c) {
+            return true;
+        }
+        c += 1;
+    }
+    false
+}
+
+fn lower_if(found: bool, step: u16, best: u16) -> u16
+    ensures { λ r. ⌜ r ≡ cond (found && ltb step best) step best ⌝ }
+{
+    if found & (step < best) { step } else { best }
+}
+
+fn lower(a: u16, b: u16) -> u16
+    ensures { λ r. ⌜ r ≡ min a b ⌝ }
+{
+    if a < b { a } else { b }
+}
+
+// The lowest step that sets a fact both ways at one tick, or the count of steps.
+fn both_ways_step(s: &[u8], job: Job) -> u16
+    ensures { λ r. ⌜ r ≡ bothWaysStep (view job (now (s .entry))) ⌝ }
+{
+    let n = job.count.effects;
+    let mut best = job.count.steps;
+    let mut e = 0;
+    while e < n {
+        let found = set_before(s, job, e);
+        best = lower_if(found, effect_step(s, job, e), best);
+        e += 1;
+    }
+    best
+}
+
+// The lowest step that uses a level twice at one tick, or the count of steps.
+fn uses_twice_step(s: &[u8], job: Job) -> u16
+    ensures { λ r. ⌜ r ≡ usesTwiceStep (view job (now (s .entry))) ⌝ }
+{
+    let n = job.count.uses;
+    let mut best = job.count.steps;
+    let mut u = 0;
+    while u < n {
+        let found = used_before(s, job, u);
+        best = lower_if(found, use_step(s, job, u), best);
+        u += 1;
+    }
+    best
+}
+
+// The lowest step that opposes its own condition before its last tick, or the count of steps.
+fn opposes_own_step(s: &[u8], job: Job) -> u16
+    ensures { λ r. ⌜ r ≡ opposesOwnStep (view job (now (s .entry))) ⌝ }
+{
+    let n = job.count.effects;
+    let mut best = job.count.steps;
+    let mut e = 0;
+    while e < n {
+        let found = opposes_any(s, job, e);
+        best = lower_if(found, effect_step(s, job, e), best);
+        e += 1;
+    }
+    best
+}
+
+// Refusal 7.
+pub fn check_steps(s: &[u8], job: Job) -> Verdict
+    ensures { λ r. ⌜ r ≡ stepCheck (view job (now (s .entry))) ⌝ }
+{
+    let sets = both_ways_step(s, job);
+    let uses = uses_twice_step(s, job);
+    let opposes = opposes_own_step(s, job);
+    let step = lower(lower(sets, uses), opposes);
+    let n = job.count.steps;
+    refuse_if(
+        Verdict::Accepted,
+        step < n,
+        Verdict::StepAgainstItself(step),
+    )
+}

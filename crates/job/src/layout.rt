@@ -1,0 +1,176 @@
+// The job file's header: counts, limits, and where the tables lie.
+ghost use mathlib.Core.Path.{_≡_};
+ghost use Rattle.job.specs.Layout.{countsOf, positionsOf, jobOf, countTooHigh, layoutAgrees};
+ghost use Rattle.job.specs.Refusals.{headerCheck};
+use crate::verdict::Verdict;
+use crate::verdict::refuse_if;
+
+// The tables, in their order in the file.
+pub enum Table {
+    Facts,
+    Levels,
+    Steps,
+    Conditions,
+    Effects,
+    Uses,
+    Goals,
+}
+
+// How many records each table has.
+pub struct Counts {
+    pub facts: u16,
+    pub levels: u16,
+    pub steps: u16,
+    pub conditions: u16,
+    pub effects: u16,
+    pub uses: u16,
+    pub goals: u16,
+}
+
+// Where each table starts, and where the file ends.
+pub struct Positions {
+    pub facts: u32,
+    pub levels: u32,
+    pub steps: u32,
+    pub conditions: u32,
+    pub effects: u32,
+    pub uses: u32,
+    pub goals: u32,
+    pub end: u32,
+}
+
+// What the header says of a job, and where that puts its tables.
+pub struct Job {
+    pub serial: u16,
+    pub count: Counts,
+    pub at: Positions,
+}
+
+// Record widths in bytes, in the tables' order.
+pub const WIDTHS: [usize; 7] = [1, 12, 10, 14, 10, 12, 8];
+
+pub const FACT: usize = 0;
+
+pub const LEVEL: usize = 1;
+
+pub const STEP: usize = 2;
+
+pub const CONDITION: usize = 3;
+
+pub const EFFECT: usize = 4;
+
+pub const USE: usize = 5;
+
+pub const GOAL: usize = 6;
+
+impl Job {
+    // The highest counts.
+    pub const FACTS: u16 = 256;
+
+    pub const LEVELS: u16 = 16;
+
+    pub const STEPS: u16 = 64;
+
+    pub const CONDITIONS: u16 = 512;
+
+    pub const EFFECTS: u16 = 512;
+
+    pub const USES: u16 = 256;
+
+    pub const GOALS: u16 = 32;
+
+    pub fn read(s: &[u8]) -> Job
+        ensures { λ r. ⌜ r ≡ jobOf (now (s .entry)) ⌝ }
+    {
+        let serial = laws::u16_at(s, 2) as u16;
+        let count = Counts::read(s);
+        let at = Positions::of(count);
+        Job { serial, count, at }
+    }
+}
+
+impl Counts {
+    // The header counts goals before conditions.
+    pub fn read(s: &[u8]) -> Counts
+        ensures { λ r. ⌜ r ≡ countsOf (now (s .entry)) ⌝ }
+    {
+        Counts {
+            facts: laws::u16_at(s, 4) as u16,
+            levels: laws::u16_at(s, 6) as u16,
+            steps: laws::u16_at(s, 8) as u16,
+            goals: laws::u16_at(s, 10) as u16,
+            conditions: laws::u16_at(s, 12) as u16,
+            effects: laws::u16_at(s, 14) as u16,
+            uses: laws::u16_at(s, 16) as u16,
+        }
+    }
+}
+
+impl Positions {
+    // The tables follow the header without gaps.
+    pub fn of(count: Counts) -> Positions
+        ensures { λ r. ⌜ r ≡ positionsOf count ⌝ }
+    {
+        let facts = 48;
+        let levels = facts + WIDTHS[FACT] * count.facts as usize;
+        let steps = levels + WIDTHS[LEVEL] * count.levels as usize;
+        let conditions = steps + WIDTHS[STEP] * count.steps as usize;
+        let effects = conditions + WIDTHS[CONDITION] * count.conditions as usize;
+        let uses = effects + WIDTHS[EFFECT] * count.effects as usize;
+        let goals = uses + WIDTHS[USE] * count.uses as usize;
+        let end = goals + WIDTHS[GOAL] * count.goals as usize;
+        Positions {
+            facts: facts as u32,
+            levels: levels as u32,
+            steps: steps as u32,
+            conditions: conditions as u32,
+            effects: effects as u32,
+            uses: uses as u32,
+            goals: goals as u32,
+            end: end as u32,
+        }
+    }
+}
+
+fn count_too_high(count: Counts) -> bool
+    ensures { λ r. ⌜ r ≡ countTooHigh count ⌝ }
+{
+    (Job::FACTS < count.facts)
+        | (Job::LEVELS < count.levels)
+        | (Job::STEPS < count.steps)
+        | (Job::CONDITIONS < count.conditions)
+        | (Job::EFFECTS < count.effects)
+        | (Job::USES < count.uses)
+        | (Job::GOALS < count.goals)
+}
+
+fn layout_agrees(s: &[u8], at: Positions) -> bool
+    ensures { λ r. ⌜ r ≡ layoutAgrees (now (s .entry)) at ⌝ }
+{
+    (laws::u32_at(s, 20) == at.facts as usize)
+        & (laws::u32_at(s, 24) == at.levels as usize)
+        & (laws::u32_at(s, 28) == at.steps as usize)
+        & (laws::u32_at(s, 32) == at.conditions as usize)
+        & (laws::u32_at(s, 36) == at.effects as usize)
+        & (laws::u32_at(s, 40) == at.uses as usize)
+        & (laws::u32_at(s, 44) == at.goals as usize)
+        & (s.len() == at.end as usize)
+}
+
+// Refusals 1 to 5.
+pub fn check_header(s: &[u8]) -> Verdict
+    ensures { λ r. ⌜ r ≡ headerCheck (now (s .entry)) ⌝ }
+{
+    let short = s.len() < 48;
+    let edition = laws::u16_at(s, 0) != 1;
+    let marks = (1 < laws::u16_at(s, 2)) | (laws::u16_at(s, 18) != 0);
+    let count = Counts::read(s);
+    let high = count_too_high(count);
+    let at = Positions::of(count);
+    let layout = !layout_agrees(s, at);
+    let v = refuse_if(Verdict::Accepted, short, Verdict::FileTooShort);
+    let v = refuse_if(v, edition, Verdict::UnknownEdition);
+    let v = refuse_if(v, marks, Verdict::MarkOutOfRange);
+    let v = refuse_if(v, high, Verdict::CountTooHigh);
+    refuse_if(v, layout, Verdict::LayoutDisagrees)
+}

@@ -1,0 +1,167 @@
+// A field of a record, read from the caller's own bytes. A record that is not there reads as what stands in its place, and
+// bytes past the end as 0, so no reader asks anything of its caller.
+ghost use mathlib.Core.Path.{_≡_};
+ghost use Prim.Native.Nat.{_<_};
+ghost use Rattle.job.specs.Model.{view};
+use crate::layout::CONDITION;
+use crate::layout::EFFECT;
+use crate::layout::FACT;
+use crate::layout::GOAL;
+use crate::layout::Job;
+use crate::layout::LEVEL;
+use crate::layout::STEP;
+use crate::layout::USE;
+use crate::layout::WIDTHS;
+
+pub fn fact_initial(s: &[u8], job: Job, k: u16) -> u16
+    ensures { λ r. ⌜ r ≡ view job (now (s .entry)) .initial k ⌝ }
+{
+    laws::byte_at(s, job.at.facts as usize + WIDTHS[FACT] * k as usize) as u16
+}
+
+pub fn level_initial(s: &[u8], job: Job, k: u16) -> usize
+    ensures { λ r. ⌜ (r ≡ view job (now (s .entry)) .levelInitial k) × (r < 4294967296) ⌝ }
+{
+    laws::biased_at(s, job.at.levels as usize + WIDTHS[LEVEL] * k as usize)
+}
+
+pub fn level_least(s: &[u8], job: Job, k: u16) -> usize
+    ensures { λ r. ⌜ (r ≡ view job (now (s .entry)) .levelLeast k) × (r < 4294967296) ⌝ }
+{
+    laws::biased_at(s, job.at.levels as usize + WIDTHS[LEVEL] * k as usize + 4)
+}
+
+pub fn level_most(s: &[u8], job: Job, k: u16) -> usize
+    ensures { λ r. ⌜ (r ≡ view job (now (s .entry)) .levelMost k) × (r < 4294967296) ⌝ }
+{
+    laws::biased_at(s, job.at.levels as usize + WIDTHS[LEVEL] * k as usize + 8)
+}
+
+pub fn step_start(s: &[u8], job: Job, k: u16) -> usize
+    ensures { λ r. ⌜ (r ≡ view job (now (s .entry)) .start k) × (r < 4294967296) ⌝ }
+{
+    laws::u32_at(s, job.at.steps as usize + WIDTHS[STEP] * k as usize)
+}
+
+pub fn step_length(s: &[u8], job: Job, k: u16) -> usize
+    ensures { λ r. ⌜ (r ≡ view job (now (s .entry)) .stepLength k) × (r < 4294967296) ⌝ }
+{
+    laws::u32_at(s, job.at.steps as usize + WIDTHS[STEP] * k as usize + 4)
+}
+
+pub fn step_fixed(s: &[u8], job: Job, k: u16) -> u16
+    ensures { λ r. ⌜ r ≡ view job (now (s .entry)) .fixed k ⌝ }
+{
+    laws::u16_at(s, job.at.steps as usize + WIDTHS[STEP] * k as usize + 8) as u16
+}
+
+pub fn condition_step(s: &[u8], job: Job, k: u16) -> u16
+    ensures { λ r. ⌜ r ≡ view job (now (s .entry)) .conditionStep k ⌝ }
+{
+    laws::u16_at(
+        s,
+        job.at.conditions as usize + WIDTHS[CONDITION] * k as usize,
+    ) as u16
+}
+
+pub fn condition_fact(s: &[u8], job: Job, k: u16) -> u16
+    ensures { λ r. ⌜ r ≡ view job (now (s .entry)) .conditionFact k ⌝ }
+{
+    laws::u16_at(
+        s,
+        job.at.conditions as usize + WIDTHS[CONDITION] * k as usize + 2,
+    ) as u16
+}
+
+pub fn condition_from(s: &[u8], job: Job, k: u16) -> usize
+    ensures { λ r. ⌜ (r ≡ view job (now (s .entry)) .conditionFrom k) × (r < 4294967296) ⌝ }
+{
+    laws::u32_at(
+        s,
+        job.at.conditions as usize + WIDTHS[CONDITION] * k as usize + 4,
+    )
+}
+
+pub fn condition_to(s: &[u8], job: Job, k: u16) -> usize
+    ensures { λ r. ⌜ (r ≡ view job (now (s .entry)) .conditionTo k) × (r < 4294967296) ⌝ }
+{
+    laws::u32_at(
+        s,
+        job.at.conditions as usize + WIDTHS[CONDITION] * k as usize + 8,
+    )
+}
+
+pub fn condition_value(s: &[u8], job: Job, k: u16) -> u16
+    ensures { λ r. ⌜ r ≡ view job (now (s .entry)) .conditionValue k ⌝ }
+{
+    laws::u16_at(
+        s,
+        job.at.conditions as usize + WIDTHS[CONDITION] * k as usize + 12,
+    ) as u16
+}
+
+pub fn effect_step(s: &[u8], job: Job, k: u16) -> u16
+    ensures { λ r. ⌜ r ≡ view job (now (s .entry)) .effectStep k ⌝ }
+{
+    laws::u16_at(s, job.at.effects as usize + WIDTHS[EFFECT] * k as usize) as u16
+}
+
+pub fn effect_fact(s: &[u8], job: Job, k: u16) -> u16
+    ensures { λ r. ⌜ r ≡ view job (now (s .entry)) .effectFact k ⌝ }
+{
+    laws::u16_at(s, job.at.effects as usize + WIDTHS[EFFECT] * k as usize + 2) as u16
+}
+
+pub fn effect_at(s: &[u8], job: Job, k: u16) -> usize
+    ensures { λ r. ⌜ (r ≡ view job (now (s .entry)) .effectAt k) × (r < 4294967296) ⌝ }
+{
+    laws::u32_at(s, job.at.effects as usize + WIDTHS[EFFECT] * k as usize + 4)
+}
+
+pub fn effect_value(s: &[u8], job: Job, k: u16) -> u16
+    ensures { λ r. ⌜ r ≡ view job (now (s .entry)) .effectValue k ⌝ }
+{
+    laws::u16_at(s, job.at.effects as usize + WIDTHS[EFFECT] * k as usize + 8) as u16
+}
+
+pub fn use_step(s: &[u8], job: Job, k: u16) -> u16
+    ensures { λ r. ⌜ r ≡ view job (now (s .entry)) .useStep k ⌝ }
+{
+    laws::u16_at(s, job.at.uses as usize + WIDTHS[USE] * k as usize) as u16
+}
+
+pub fn use_level(s: &[u8], job: Job, k: u16) -> u16
+    ensures { λ r. ⌜ r ≡ view job (now (s .entry)) .useLevel k ⌝ }
+{
+    laws::u16_at(s, job.at.uses as usize + WIDTHS[USE] * k as usize + 2) as u16
+}
+
+pub fn use_at(s: &[u8], job: Job, k: u16) -> usize
+    ensures { λ r. ⌜ (r ≡ view job (now (s .entry)) .useAt k) × (r < 4294967296) ⌝ }
+{
+    laws::u32_at(s, job.at.uses as usize + WIDTHS[USE] * k as usize + 4)
+}
+
+pub fn use_amount(s: &[u8], job: Job, k: u16) -> usize
+    ensures { λ r. ⌜ (r ≡ view job (now (s .entry)) .useAmount k) × (r < 4294967296) ⌝ }
+{
+    laws::biased_at(s, job.at.uses as usize + WIDTHS[USE] * k as usize + 8)
+}
+
+pub fn goal_fact(s: &[u8], job: Job, k: u16) -> u16
+    ensures { λ r. ⌜ r ≡ view job (now (s .entry)) .goalFact k ⌝ }
+{
+    laws::u16_at(s, job.at.goals as usize + WIDTHS[GOAL] * k as usize) as u16
+}
+
+pub fn goal_value(s: &[u8], job: Job, k: u16) -> u16
+    ensures { λ r. ⌜ r ≡ view job (now (s .entry)) .goalValue k ⌝ }
+{
+    laws::u16_at(s, job.at.goals as usize + WIDTHS[GOAL] * k as usize + 2) as u16
+}
+
+pub fn goal_deadline(s: &[u8], job: Job, k: u16) -> usize
+    ensures { λ r. ⌜ (r ≡ view job (now (s .entry)) .goalDeadline k) × (r < 4294967296) ⌝ }
+{
+    laws::u32_at(s, job.at.goals as usize + WIDTHS[GOAL] * k as usize + 4)
+}
