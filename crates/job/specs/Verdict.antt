@@ -4,7 +4,7 @@ use mathlib.Core.Bool.{Bool, cond}
 use lib.Dec.{ltb, eqb}
 use Rattle.laws.specs.Search.{lowest}
 use Rattle.job.specs.declared.verdict.Verdict.{Verdict}
-use Rattle.job.specs.declared.verdict.Verdict.the-variants.{Accepted, FileTooShort, UnknownEdition, MarkOutOfRange, CountTooHigh, LayoutDisagrees, RecordOutOfRange, StepAgainstItself}
+use Rattle.job.specs.declared.verdict.Verdict.the-variants.{Accepted, FileTooShort, UnknownEdition, MarkOutOfRange, CountTooHigh, LayoutDisagrees, RecordOutOfRange, StepAgainstItself, StartsMiscounted, FixedStepMoved, EffectsConflict, ConditionFails, LevelOutOfBounds, GoalFails, StepsOverlap}
 
 -- the place where none is named
 abbrev pub nowhere : ℕ
@@ -20,6 +20,13 @@ number CountTooHigh = 4
 number LayoutDisagrees = 5
 number (RecordOutOfRange k) = 6
 number (StepAgainstItself k) = 7
+number StartsMiscounted = 8
+number (FixedStepMoved k) = 9
+number (EffectsConflict k) = 10
+number (ConditionFails k) = 11
+number (LevelOutOfBounds k) = 12
+number (GoalFails k) = 13
+number (StepsOverlap k) = 14
 
 -- the place of a refusal
 abbrev pub place : Verdict → ℕ
@@ -31,6 +38,13 @@ place CountTooHigh = nowhere
 place LayoutDisagrees = nowhere
 place (RecordOutOfRange k) = k
 place (StepAgainstItself k) = k
+place StartsMiscounted = nowhere
+place (FixedStepMoved k) = k
+place (EffectsConflict k) = k
+place (ConditionFails k) = k
+place (LevelOutOfBounds k) = k
+place (GoalFails k) = k
+place (StepsOverlap k) = k
 
 infixl 20 _then_
 -- a check, and where it accepts the next one

@@ -12,6 +12,13 @@ pub enum Verdict {
     LayoutDisagrees,
     RecordOutOfRange(u16),
     StepAgainstItself(u16),
+    StartsMiscounted,
+    FixedStepMoved(u16),
+    EffectsConflict(u16),
+    ConditionFails(u16),
+    LevelOutOfBounds(u16),
+    GoalFails(u16),
+    StepsOverlap(u16),
 }
 
 // The place where none is named.
@@ -30,6 +37,13 @@ pub fn number(v: Verdict) -> u16
         Verdict::LayoutDisagrees => 5,
         Verdict::RecordOutOfRange(_) => 6,
         Verdict::StepAgainstItself(_) => 7,
+        Verdict::StartsMiscounted => 8,
+        Verdict::FixedStepMoved(_) => 9,
+        Verdict::EffectsConflict(_) => 10,
+        Verdict::ConditionFails(_) => 11,
+        Verdict::LevelOutOfBounds(_) => 12,
+        Verdict::GoalFails(_) => 13,
+        Verdict::StepsOverlap(_) => 14,
     }
 }
 
@@ -46,6 +60,13 @@ pub fn place(v: Verdict) -> u16
         Verdict::LayoutDisagrees => NOWHERE,
         Verdict::RecordOutOfRange(k) => k,
         Verdict::StepAgainstItself(k) => k,
+        Verdict::StartsMiscounted => NOWHERE,
+        Verdict::FixedStepMoved(k) => k,
+        Verdict::EffectsConflict(k) => k,
+        Verdict::ConditionFails(k) => k,
+        Verdict::LevelOutOfBounds(k) => k,
+        Verdict::GoalFails(k) => k,
+        Verdict::StepsOverlap(k) => k,
     }
 }
 
