@@ -1,0 +1,228 @@
+//! A file of cases, and the line expected of each.
+//!
+//! A case is one command byte and its fields; a field is a u32 length and that many bytes.
+
+use crate::bytes::{put_u32, u32_at};
+use crate::loosen::loosen;
+use crate::order_file::{alike, read_header, read_record, Link, Record, LINKS_TABLE, NONE};
+use crate::refusal::{number_and_place, Refusal};
+use crate::timing::{check_job, check_timing};
+use crate::well_formed::well_formed;
+
+/// The commands: well-formedness, job check, timing check, header, record, alike, loosening.
+pub const COMMANDS: &str = "wcthral";
+
+pub const LONGEST_FIELD: usize = 65_536;
+
+/// What a buffer holds before loosening.
+const FILLING: u8 = 165;
+
+#[derive(Clone, Debug, PartialEq, Eq)]
+pub struct Case {
+    pub command: char,
+    pub fields: Vec<Vec<u8>>,
+}
+
+impl Case {
+    /// Commands `w` and `c`: a job.
+    pub fn job(command: char, job: Vec<u8>) -> Case {
+        let fields = vec![job];
+        Case { command, fields }
+    }
+
+    pub fn timing(job: Vec<u8>, starts: &[u32]) -> Case {
+        let mut list = Vec::new();
+        for &start in starts {
+            put_u32(&mut list, start);
+        }
+        Case {
+            command: 't',
+            fields: vec![job, list],
+        }
+    }
+
+    pub fn loosening(job: Vec<u8>, length: usize) -> Case {
+        Case {
+            command: 'l',
+            fields: vec![job, number_field(length as u32)],
+        }
+    }
+
+    pub fn header(file: Vec<u8>) -> Case {
+        Case {
+            command: 'h',
+            fields: vec![file],
+        }
+    }
+
+    pub fn record(file: Vec<u8>, table: u32, number: u32) -> Case {
+        Case {
+            command: 'r',
+            fields: vec![file, number_field(table), number_field(number)],
+        }
+    }
+
+    pub fn alike(a: Vec<u8>, b: Vec<u8>) -> Case {
+        Case {
+            command: 'a',
+            fields: vec![a, b],
+        }
+    }
+}
+
+fn number_field(number: u32) -> Vec<u8> {
+    number.to_le_bytes().to_vec()
+}
+
+// ---------------------------------------------------------------------------------------------
+// The file
+
+pub fn cases_file(cases: &[Case]) -> Vec<u8> {
+    let mut file = Vec::new();
+    for case in cases {
+        file.push(case.command as u8);
+        for field in &case.fields {
+            put_u32(&mut file, field.len());
+            file.extend(field);
+        }
+    }
+    file
+}
+
+/// One line a case, until the end or `bad cases`.
+pub fn answers(file: &[u8]) -> String {
+    let mut lines = String::new();
+    let mut rest = file;
+    while !rest.is_empty() {
+        match next_case(&mut rest).and_then(|case| answer(&case)) {
+            Some(line) => lines += &format!("{line}\n"),
+            None => return lines + "bad cases\n",
+        }
+    }
+    lines
+}
+
+fn next_case(rest: &mut &[u8]) -> Option<Case> {
+    let command = char::from(take(rest, 1)?[0]);
+    let fields = (0..fields_of(command)?).map(|_| next_field(rest));
+    let fields = fields.collect::<Option<_>>()?;
+    Some(Case { command, fields })
+}
+
+fn fields_of(command: char) -> Option<usize> {
+    match command {
+        'w' | 'c' | 'h' => Some(1),
+        't' | 'l' | 'a' => Some(2),
+        'r' => Some(3),
+        _ => None,
+    }
+}
+
+fn next_field(rest: &mut &[u8]) -> Option<Vec<u8>> {
+    let length = u32_at(take(rest, 4)?, 0) as usize;
+    if length > LONGEST_FIELD {
+        return None;
+    }
+    take(rest, length).map(<[u8]>::to_vec)
+}
+
+fn take<'a>(rest: &mut &'a [u8], length: usize) -> Option<&'a [u8]> {
+    if rest.len() < length {
+        return None;
+    }
+    let (taken, left) = rest.split_at(length);
+    *rest = left;
+    Some(taken)
+}
+
+// ---------------------------------------------------------------------------------------------
+// The lines
+
+/// The line of a case, or nothing where a field does not have the length it must have.
+pub fn answer(case: &Case) -> Option<String> {
+    let field = |number: usize| case.fields[number].as_slice();
+    match case.command {
+        'w' => Some(verdict_line('w', &well_formed(field(0)))),
+        'c' => Some(verdict_line('c', &check_job(field(0)))),
+        't' => {
+            let starts = numbers_in(field(1))?;
+            Some(verdict_line('t', &check_timing(field(0), &starts)))
+        }
+        'h' => Some(header_line(field(0))),
+        'r' => {
+            let table = number_in(field(1))?;
+            let number = number_in(field(2))?;
+            Some(record_line(field(0), table, number))
+        }
+        'a' => Some(alike_line(field(0), field(1))),
+        'l' => {
+            let length = number_in(field(1))? as usize;
+            (length <= LONGEST_FIELD).then(|| loosening_line(field(0), length))
+        }
+        _ => None,
+    }
+}
+
+fn number_in(field: &[u8]) -> Option<u32> {
+    (field.len() == 4).then(|| u32_at(field, 0))
+}
+
+fn numbers_in(field: &[u8]) -> Option<Vec<u32>> {
+    let numbers = field.chunks(4);
+    numbers.map(number_in).collect()
+}
+
+fn verdict_line<T>(command: char, answer: &Result<T, Refusal>) -> String {
+    let (number, place) = number_and_place(answer);
+    format!("{command} {number} {place}")
+}
+
+fn header_line(file: &[u8]) -> String {
+    let header = read_header(file);
+    let numbers = header.unwrap_or([0; 8]).map(i64::from);
+    with_numbers(verdict_line('h', &header), &numbers)
+}
+
+/// After a refusal as many zeros as that table's records have numbers.
+fn record_line(file: &[u8], table: u32, number: u32) -> String {
+    let record = read_record(file, table, number);
+    let numbers = match record {
+        Ok(Record::Window(window)) => {
+            let latest = window.latest.unwrap_or(i64::from(NONE));
+            vec![window.limit, latest, window.earliest]
+        }
+        Ok(Record::Order(order)) => vec![order.first as i64, order.second as i64, order.gap],
+        Ok(Record::Link(link)) => vec![link_number(link)],
+        Err(_) if table == LINKS_TABLE => vec![0],
+        Err(_) => vec![0; 3],
+    };
+    with_numbers(verdict_line('r', &record), &numbers)
+}
+
+fn link_number(link: Link) -> i64 {
+    i64::from(link.number())
+}
+
+fn alike_line(a: &[u8], b: &[u8]) -> String {
+    let answer = alike(a, b);
+    let yes = i64::from(answer.unwrap_or(false));
+    with_numbers(verdict_line('a', &answer), &[yes])
+}
+
+fn loosening_line(job: &[u8], length: usize) -> String {
+    let mut buffer = vec![FILLING; length];
+    let answer = loosen(job, &mut buffer);
+    let hex: String = buffer.iter().map(|byte| format!("{byte:02x}")).collect();
+    let hex = if hex.is_empty() { "-" } else { &hex };
+    format!(
+        "l {} {} {} {hex}",
+        answer.number, answer.place, answer.length
+    )
+}
+
+fn with_numbers(mut line: String, numbers: &[i64]) -> String {
+    for number in numbers {
+        line += &format!(" {number}");
+    }
+    line
+}

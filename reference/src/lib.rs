@@ -1,0 +1,19 @@
+//! The second program: the literal meaning of every rule of document 01, one function a rule,
+//! with made jobs and the answers expected of them.
+
+pub mod brute;
+pub mod bytes;
+pub mod cases;
+pub mod job;
+pub mod loosen;
+pub mod made;
+pub mod make;
+pub mod order_file;
+pub mod orders;
+pub mod random;
+pub mod refusal;
+pub mod samples;
+pub mod show;
+pub mod stored;
+pub mod timing;
+pub mod well_formed;

@@ -1,0 +1,146 @@
+//! Made cases, one by one, as they come from a seed.
+
+use crate::cases::Case;
+use crate::job::Job;
+use crate::loosen::order_file_of;
+use crate::make::near_miss::near_miss;
+use crate::make::order_files::{broken_files, slightly_changed, some_good_file};
+use crate::make::own_conflicts::some_own_conflict;
+use crate::make::scribbled::scribbled_job;
+use crate::make::sound::{small_sound_job, some_sound_job};
+use crate::make::timings::some_starts;
+use crate::make::{damage, order_files};
+use crate::random::Random;
+
+/// A made case of a command.
+pub fn made_case(random: &mut Random, command: char) -> Case {
+    match command {
+        'w' => Case::job('w', file_for_well_formedness(random)),
+        'c' => Case::job('c', file_for_the_job_check(random)),
+        't' => timing_case(random),
+        'h' => Case::header(some_order_file(random)),
+        'r' => record_case(random),
+        'a' => alike_case(random),
+        'l' => loosening_case(random),
+        _ => panic!("there is no command {command}"),
+    }
+}
+
+fn one_of<T>(random: &mut Random, mut items: Vec<T>) -> T {
+    let number = random.below(items.len());
+    items.swap_remove(number)
+}
+
+// ---------------------------------------------------------------------------------------------
+// Jobs
+
+fn file_for_well_formedness(random: &mut Random) -> Vec<u8> {
+    match random.below(100) {
+        0..15 => small_sound_job(random).to_file(),
+        15..30 => scribbled_job(random).to_file(),
+        30..50 => some_own_conflict(random).to_file(),
+        _ => damaged_file(random),
+    }
+}
+
+fn file_for_the_job_check(random: &mut Random) -> Vec<u8> {
+    match random.below(100) {
+        0..30 => some_sound_job(random).to_file(),
+        30..70 => some_near_miss(random).to_file(),
+        70..85 => scribbled_job(random).to_file(),
+        85..92 => some_own_conflict(random).to_file(),
+        _ => damaged_file(random),
+    }
+}
+
+fn some_near_miss(random: &mut Random) -> Job {
+    let number = random.pick(&[10, 11, 12, 13, 14]);
+    near_miss(random, number)
+}
+
+/// A file damaged in one of the ways of refusals 1 to 6, or no file at all.
+fn damaged_file(random: &mut Random) -> Vec<u8> {
+    let job = small_sound_job(random);
+    let file = job.to_file();
+    match random.below(10) {
+        0..4 => damage::some_byte(random, &file),
+        4..6 => one_of(random, damage::ranges(&job)).to_file(),
+        6..8 => damage::two_faults(random, &file),
+        8 => one_of(random, damage::layouts(&file)),
+        _ => damage::garbage(random),
+    }
+}
+
+fn timing_case(random: &mut Random) -> Case {
+    let job = match random.below(100) {
+        0..75 => some_sound_job(random),
+        75..90 => scribbled_job(random),
+        _ => some_near_miss(random),
+    };
+    let starts = some_starts(random, &job);
+    if random.chance(4) {
+        return Case::timing(damage::some_byte(random, &job.to_file()), &starts);
+    }
+    Case::timing(job.to_file(), &starts)
+}
+
+/// A buffer of just the length, a byte too short, or with room that must stay as it was.
+fn loosening_case(random: &mut Random) -> Case {
+    let file = match random.below(100) {
+        0..80 => some_sound_job(random).to_file(),
+        _ => file_for_the_job_check(random),
+    };
+    let length = match order_file_of(&file) {
+        Ok(written) => written.to_file().len(),
+        Err(_) => random.below(30),
+    };
+    let length = match random.below(10) {
+        0 if random.chance(50) => length.saturating_sub(1),
+        0 => random.below(length + 1),
+        1..4 => length + 1 + random.below(9),
+        _ => length,
+    };
+    Case::loosening(file, length)
+}
+
+// ---------------------------------------------------------------------------------------------
+// Order files
+
+fn some_order_file(random: &mut Random) -> Vec<u8> {
+    match random.below(10) {
+        0..6 => some_good_file(random).to_file(),
+        6..9 => order_files::damaged_file(random),
+        _ => one_of(random, broken_files()).1,
+    }
+}
+
+/// Mostly a record that is there, else the one past the last, or none that could be.
+fn record_case(random: &mut Random) -> Case {
+    if random.chance(15) {
+        let file = some_order_file(random);
+        let table = random.pick(&[0, 1, 2, 3, 256, u32::MAX]);
+        let number = random.pick(&[0, 1, 65_536, u32::MAX]);
+        return Case::record(file, table, number);
+    }
+    let file = some_good_file(random);
+    let counts = [file.windows.len(), file.orders.len(), file.links.len()];
+    let table = random.below(3);
+    let number = match counts[table] {
+        0 => 0,
+        count if random.chance(15) => count,
+        count => random.below(count),
+    };
+    Case::record(file.to_file(), table as u32, number as u32)
+}
+
+fn alike_case(random: &mut Random) -> Case {
+    let file = some_good_file(random);
+    let (a, b) = match random.below(10) {
+        0..6 => (file.to_file(), slightly_changed(random, &file).to_file()),
+        6 => (file.to_file(), some_order_file(random)),
+        7 => (some_order_file(random), file.to_file()),
+        8 => (some_order_file(random), some_order_file(random)),
+        _ => (file.to_file(), file.to_file()),
+    };
+    Case::alike(a, b)
+}

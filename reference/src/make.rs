@@ -1,0 +1,12 @@
+//! Made jobs, made timings and made order files: the same for the same seed.
+
+pub mod damage;
+pub mod edges;
+pub mod highest;
+pub mod near_miss;
+pub mod order_files;
+pub mod own_conflicts;
+pub mod scribbled;
+pub mod sound;
+pub mod telling;
+pub mod timings;

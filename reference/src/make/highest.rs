@@ -1,0 +1,39 @@
+//! Jobs as large as jobs can be.
+
+use crate::job::{Job, HIGHEST};
+use crate::make::sound::{sound_job, Shape};
+use crate::random::Random;
+
+/// Every table at its highest count, and sound.
+pub fn highest_job(seed: u64, facts: usize) -> Job {
+    let mut random = Random::seeded(seed);
+    let shape = Shape::highest(&mut random, facts);
+    sound_job(&mut random, &shape)
+}
+
+/// 64 steps that all overlap, each taking at its start and giving back at its end: 4,032 orders.
+pub fn every_pair_ordered_both_ways() -> Job {
+    let steps = HIGHEST[2];
+    let mut job = Job::default().level(64, 0, 64);
+    for step in 0..steps {
+        job = job
+            .step(7 * step as i64, 1_000)
+            .uses(step, 0, 0, -1)
+            .uses(step, 0, 1_000, 1);
+    }
+    job
+}
+
+/// 64 steps, each supporting the one numbered before it: 64 rounds.
+pub fn chain_of_all_steps() -> Job {
+    let steps = HIGHEST[2];
+    let mut job = Job::with_facts(&vec![0; steps]);
+    for step in 0..steps {
+        let start = 10 * (steps - 1 - step) as i64;
+        job = job.step(start, 4).effect(step, step, 4, 1);
+        if step + 1 < steps {
+            job = job.condition(step, step + 1, 0, 4, 1);
+        }
+    }
+    job
+}

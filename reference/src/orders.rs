@@ -1,0 +1,268 @@
+//! Orders from a sound job: links, the five rules, windows, rounds.
+
+use std::collections::BTreeMap;
+
+use crate::job::{Condition, Effect, Goal, Job, Use};
+use crate::order_file::{Link, Order, OrderFile, Window};
+use crate::timing::finishes_in_time;
+
+/// What a sound job is loosened to.
+pub fn orders_of(job: &Job) -> OrderFile {
+    let starts = job.written_starts();
+    let links = links(job, &starts);
+    let orders = largest_gaps(
+        [
+            support_orders(job, &links),
+            opposing_effects_orders(job, &starts),
+            condition_orders(job, &starts),
+            level_orders(job, &starts),
+            serial_orders(job, &starts),
+        ]
+        .concat(),
+    );
+    let limits: Vec<i64> = job
+        .steps
+        .iter()
+        .map(|step| if step.is_fixed() { step.start } else { 0 })
+        .collect();
+    let (earliest, rounds) = earliest_times(&limits, &orders);
+    let windows = (0..job.steps.len())
+        .map(|step| Window {
+            limit: limits[step],
+            latest: latest_start(job, &links, step),
+            earliest: earliest[step],
+        })
+        .collect();
+    OrderFile {
+        rounds,
+        windows,
+        orders,
+        links,
+    }
+}
+
+// ---------------------------------------------------------------------------------------------
+// Rule 1: support
+
+/// One link for each condition, then each goal.
+fn links(job: &Job, starts: &[i64]) -> Vec<Link> {
+    let conditions = job
+        .conditions
+        .iter()
+        .map(|c| supporter(job, starts, c.fact, c.wanted, c.first_tick(starts)));
+    // Every effect lies before the end of time, so for a goal all of them count.
+    let goals = job
+        .goals
+        .iter()
+        .map(|g| supporter(job, starts, g.fact, g.value, i64::MAX));
+    conditions.chain(goals).collect()
+}
+
+/// The supporter of a value wanted from a tick on.
+fn supporter(job: &Job, starts: &[i64], fact: usize, wanted: u16, first: i64) -> Link {
+    let last_opposing = job
+        .effects
+        .iter()
+        .filter(|e| e.opposes(fact, wanted) && e.tick(starts) < first)
+        .map(|e| e.tick(starts))
+        .max();
+    if last_opposing.is_none() && job.facts[fact] == wanted {
+        return Link::InitialState;
+    }
+    let after_that = |e: &Effect| last_opposing.is_none_or(|tick| tick < e.tick(starts));
+    let earliest = (0..job.effects.len())
+        .filter(|&n| job.effects[n].gives(fact, wanted) && after_that(&job.effects[n]))
+        .min_by_key(|&n| (job.effects[n].tick(starts), n));
+    Link::Effect(earliest.expect("in a sound job some effect gives the wanted value"))
+}
+
+fn support_orders(job: &Job, links: &[Link]) -> Vec<Order> {
+    let mut orders = Vec::new();
+    for (condition, link) in job.conditions.iter().zip(links) {
+        if let Link::Effect(number) = *link {
+            let supporter = Point::of_effect(&job.effects[number]);
+            order(&mut orders, supporter, Point::first_of(condition));
+        }
+    }
+    orders
+}
+
+// ---------------------------------------------------------------------------------------------
+// Rules 2 to 5
+
+/// Rule 2: opposing effects are ordered as they lie.
+fn opposing_effects_orders(job: &Job, starts: &[i64]) -> Vec<Order> {
+    let mut orders = Vec::new();
+    for a in &job.effects {
+        for b in &job.effects {
+            if a.opposes(b.fact, b.value) && a.tick(starts) < b.tick(starts) {
+                order(&mut orders, Point::of_effect(a), Point::of_effect(b));
+            }
+        }
+    }
+    orders
+}
+
+/// Rule 3: a condition and another step's opposing effect.
+fn condition_orders(job: &Job, starts: &[i64]) -> Vec<Order> {
+    let mut orders = Vec::new();
+    for c in &job.conditions {
+        for e in &job.effects {
+            if !e.opposes(c.fact, c.wanted) {
+                continue;
+            }
+            if e.tick(starts) < c.first_tick(starts) {
+                order(&mut orders, Point::of_effect(e), Point::first_of(c));
+            }
+            if c.last_tick(starts) < e.tick(starts) {
+                order(&mut orders, Point::last_of(c), Point::of_effect(e));
+            }
+        }
+    }
+    orders
+}
+
+/// Rule 4: two uses of one level at different ticks are ordered as they lie.
+fn level_orders(job: &Job, starts: &[i64]) -> Vec<Order> {
+    let mut orders = Vec::new();
+    for a in &job.uses {
+        for b in &job.uses {
+            if a.level == b.level && a.tick(starts) < b.tick(starts) {
+                order(&mut orders, Point::of_use(a), Point::of_use(b));
+            }
+        }
+    }
+    orders
+}
+
+/// Rule 5: in a serial job the step that finishes no later than the other starts is first, gap
+/// its length; if that holds both ways, the lower step.
+fn serial_orders(job: &Job, starts: &[i64]) -> Vec<Order> {
+    let mut orders = Vec::new();
+    if job.serial != 1 {
+        return orders;
+    }
+    for first in 0..job.steps.len() {
+        for second in 0..job.steps.len() {
+            let forth = finishes_in_time(job, starts, first, second);
+            let back = finishes_in_time(job, starts, second, first);
+            if first != second && forth && (!back || first < second) {
+                let gap = job.steps[first].length;
+                orders.push(Order { first, second, gap });
+            }
+        }
+    }
+    orders
+}
+
+/// A point of a step, counted from the step's start.
+struct Point {
+    step: usize,
+    at: i64,
+}
+
+impl Point {
+    fn of_effect(effect: &Effect) -> Point {
+        Point {
+            step: effect.step,
+            at: effect.at,
+        }
+    }
+
+    fn of_use(used: &Use) -> Point {
+        Point {
+            step: used.step,
+            at: used.at,
+        }
+    }
+
+    fn first_of(condition: &Condition) -> Point {
+        Point {
+            step: condition.step,
+            at: condition.from,
+        }
+    }
+
+    fn last_of(condition: &Condition) -> Point {
+        Point {
+            step: condition.step,
+            at: condition.to,
+        }
+    }
+}
+
+/// Point p strictly before point q. Only different steps are ordered.
+fn order(orders: &mut Vec<Order>, p: Point, q: Point) {
+    if p.step != q.step {
+        orders.push(Order {
+            first: p.step,
+            second: q.step,
+            gap: p.at - q.at + 1,
+        });
+    }
+}
+
+/// Of several orders from one step to the same other, the largest gap stays; ascending by first,
+/// then second.
+fn largest_gaps(orders: Vec<Order>) -> Vec<Order> {
+    let mut gaps = BTreeMap::new();
+    for Order { first, second, gap } in orders {
+        let largest = gaps.entry((first, second)).or_insert(gap);
+        *largest = gap.max(*largest);
+    }
+    gaps.into_iter()
+        .map(|((first, second), gap)| Order { first, second, gap })
+        .collect()
+}
+
+// ---------------------------------------------------------------------------------------------
+// Windows and rounds
+
+/// The written start of a fixed step, else the least (deadline − at) over goals with a deadline
+/// that its effects support, else none.
+fn latest_start(job: &Job, links: &[Link], step: usize) -> Option<i64> {
+    if job.steps[step].is_fixed() {
+        return Some(job.steps[step].start);
+    }
+    let goal_links = &links[job.conditions.len()..];
+    let supported = job.goals.iter().zip(goal_links);
+    supported
+        .filter_map(|(goal, link)| demanded_latest(job, goal, link, step))
+        .min()
+}
+
+fn demanded_latest(job: &Job, goal: &Goal, link: &Link, step: usize) -> Option<i64> {
+    let Link::Effect(number) = *link else {
+        return None;
+    };
+    let effect = &job.effects[number];
+    let deadline = goal.deadline.filter(|_| effect.step == step)?;
+    Some(deadline - effect.at)
+}
+
+/// The rounds from the earliest limits, and how many they are. The last one changes nothing.
+fn earliest_times(limits: &[i64], orders: &[Order]) -> (Vec<i64>, usize) {
+    let mut starts = limits.to_vec();
+    let mut rounds = 0;
+    if starts.is_empty() {
+        return (starts, rounds);
+    }
+    loop {
+        let raised = round(&starts, orders);
+        rounds += 1;
+        if raised == starts {
+            return (starts, rounds);
+        }
+        starts = raised;
+    }
+}
+
+/// Takes all starts from the round before and raises each to the largest demanded by its orders.
+fn round(before: &[i64], orders: &[Order]) -> Vec<i64> {
+    let mut raised = before.to_vec();
+    for order in orders {
+        let demanded = before[order.first] + order.gap;
+        raised[order.second] = raised[order.second].max(demanded);
+    }
+    raised
+}

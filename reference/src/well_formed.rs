@@ -1,0 +1,124 @@
+//! Refusals 1 to 7: what a file must be before it is a job.
+
+use crate::bytes::u16_at;
+use crate::job::{
+    counts_in, layout, offsets_in, records_in, Condition, Effect, Goal, Job, Level, Step, Use,
+    EDITION, EDITION_AT, HEADER, HIGHEST, SERIAL_AT, TABLES, ZERO_AT,
+};
+use crate::refusal::{refuse_at, refuse_if, Refusal};
+
+/// The job in a file, or the first of the refusals 1 to 7 in checking order.
+pub fn well_formed(file: &[u8]) -> Result<Job, Refusal> {
+    refuse_if(1, file.len() < HEADER)?;
+    refuse_if(2, u16_at(file, EDITION_AT) != EDITION)?;
+    refuse_if(3, u16_at(file, SERIAL_AT) > 1 || u16_at(file, ZERO_AT) != 0)?;
+    refuse_if(4, a_count_exceeds_its_highest(file))?;
+    refuse_if(5, layout_disagrees(file))?;
+    let job = records_in(file);
+    refuse_at(6, first_broken_record(&job))?;
+    refuse_at(7, first_step_against_itself(&job))?;
+    Ok(job)
+}
+
+/// Refusal 4.
+fn a_count_exceeds_its_highest(file: &[u8]) -> bool {
+    let counts = counts_in(file);
+    (0..TABLES).any(|table| counts[table] > HIGHEST[table])
+}
+
+/// Refusal 5.
+fn layout_disagrees(file: &[u8]) -> bool {
+    let (offsets, end) = layout(counts_in(file));
+    let written = offsets_in(file);
+    file.len() != end || (0..TABLES).any(|table| written[table] as usize != offsets[table])
+}
+
+/// Refusal 6: the lowest broken record of the first table, in table order, that has one.
+fn first_broken_record(job: &Job) -> Option<usize> {
+    lowest_not(&job.facts, |&initial| initial <= 1)
+        .or_else(|| lowest_not(&job.levels, level_in_range))
+        .or_else(|| lowest_not(&job.steps, step_in_range))
+        .or_else(|| lowest_not(&job.conditions, |c| condition_in_range(job, c)))
+        .or_else(|| lowest_not(&job.effects, |e| effect_in_range(job, e)))
+        .or_else(|| lowest_not(&job.uses, |u| use_in_range(job, u)))
+        .or_else(|| lowest_not(&job.goals, |g| goal_in_range(job, g)))
+}
+
+fn lowest_not<R>(records: &[R], in_range: impl Fn(&R) -> bool) -> Option<usize> {
+    records.iter().position(|record| !in_range(record))
+}
+
+fn level_in_range(level: &Level) -> bool {
+    let bounded = |n: i64| (-1_000_000_000..=1_000_000_000).contains(&n);
+    bounded(level.initial)
+        && bounded(level.least)
+        && bounded(level.most)
+        && level.least <= level.initial
+        && level.initial <= level.most
+}
+
+fn step_in_range(step: &Step) -> bool {
+    step.start <= 1_000_000 && step.length <= 100_000 && step.fixed <= 1
+}
+
+fn condition_in_range(job: &Job, condition: &Condition) -> bool {
+    condition.step < job.steps.len()
+        && condition.fact < job.facts.len()
+        && condition.from <= condition.to
+        && condition.to <= job.steps[condition.step].length
+        && condition.wanted <= 1
+}
+
+fn effect_in_range(job: &Job, effect: &Effect) -> bool {
+    effect.step < job.steps.len()
+        && effect.fact < job.facts.len()
+        && effect.at <= job.steps[effect.step].length
+        && effect.value <= 1
+}
+
+fn use_in_range(job: &Job, used: &Use) -> bool {
+    used.step < job.steps.len()
+        && used.level < job.levels.len()
+        && used.at <= job.steps[used.step].length
+        && used.amount != 0
+        && (-1_000_000..=1_000_000).contains(&used.amount)
+}
+
+fn goal_in_range(job: &Job, goal: &Goal) -> bool {
+    goal.fact < job.facts.len()
+        && goal.value <= 1
+        && goal.deadline.is_none_or(|deadline| deadline <= 1_100_000)
+}
+
+/// Refusal 7: the lowest step that breaks any of its three parts.
+fn first_step_against_itself(job: &Job) -> Option<usize> {
+    (0..job.steps.len()).find(|&step| {
+        sets_a_fact_both_ways(job, step)
+            || uses_a_level_twice(job, step)
+            || opposes_its_own_condition(job, step)
+    })
+}
+
+fn sets_a_fact_both_ways(job: &Job, step: usize) -> bool {
+    let own = || job.effects.iter().filter(move |e| e.step == step);
+    own().any(|a| own().any(|b| a.opposes(b.fact, b.value) && a.at == b.at))
+}
+
+fn uses_a_level_twice(job: &Job, step: usize) -> bool {
+    let own = || {
+        job.uses
+            .iter()
+            .enumerate()
+            .filter(move |(_, u)| u.step == step)
+    };
+    own().any(|(i, a)| own().any(|(k, b)| i != k && a.level == b.level && a.at == b.at))
+}
+
+/// From the condition's first tick to before its last.
+fn opposes_its_own_condition(job: &Job, step: usize) -> bool {
+    let conditions = job.conditions.iter().filter(|c| c.step == step);
+    let own = || job.effects.iter().filter(move |e| e.step == step);
+    conditions
+        .into_iter()
+        .any(|c| own().any(|e| e.opposes(c.fact, c.wanted) && c.from <= e.at && e.at < c.to))
+}

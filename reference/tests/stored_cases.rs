@@ -1,0 +1,110 @@
+//! The stored cases are those that this program writes, and a damaged file of cases is told.
+
+use std::fs;
+use std::path::PathBuf;
+
+use reference::cases::{answers, cases_file, Case, COMMANDS};
+use reference::make::order_files::plain_file;
+use reference::make::telling::small_job;
+use reference::stored::{cases_of, stored, SERVED};
+
+fn replay() -> PathBuf {
+    PathBuf::from(env!("CARGO_MANIFEST_DIR")).join("../crates/replay")
+}
+
+#[test]
+fn writing_them_again_gives_the_same_bytes() {
+    let again = stored(SERVED);
+    let cases = fs::read(replay().join("data/cases")).expect("the stored cases");
+    let stdout = fs::read(replay().join("stdout")).expect("the expected lines");
+    assert!(cases == again.cases, "other cases are stored");
+    assert!(
+        stdout == again.stdout.as_bytes(),
+        "other lines are expected"
+    );
+}
+
+#[test]
+fn all_commands_together_stay_small() {
+    let all = stored(COMMANDS);
+    assert!(all.cases.len() < 4_000_000);
+    assert!(all.stdout.len() < 2_000_000);
+    let cases: usize = COMMANDS
+        .chars()
+        .map(|command| cases_of(command).len())
+        .sum();
+    assert_eq!(all.stdout.lines().count(), cases);
+    assert!(!all.stdout.contains("bad cases"));
+}
+
+#[test]
+fn lines_of_each_command() {
+    let job = small_job().to_file();
+    let orders = plain_file().to_file();
+    let cases = [
+        Case::job('w', job.clone()),
+        Case::job('c', job.clone()),
+        Case::timing(job.clone(), &[10, 15]),
+        Case::header(orders.clone()),
+        Case::header(vec![]),
+        Case::record(orders.clone(), 1, 3),
+        Case::record(orders.clone(), 0, 0),
+        Case::record(orders.clone(), 2, 1),
+        Case::record(orders.clone(), 2, 4),
+        Case::record(orders.clone(), 3, 4),
+        Case::alike(orders.clone(), orders.clone()),
+        Case::alike(orders, vec![]),
+        Case::loosening(job.clone(), 3),
+        Case::loosening(job, 0),
+    ];
+    let lines = "\
+w 0 65535
+c 0 65535
+t 11 0
+h 0 65535 1 4 5 4 3 24 72 112
+h 16 0 0 0 0 0 0 0 0 0
+r 0 65535 2 0 -99
+r 0 65535 0 4294967295 0
+r 0 65535 65535
+r 16 0 0
+r 16 0 0 0 0
+a 0 65535 1
+a 16 1 0
+l 15 65535 0 a5a5a5
+l 15 65535 0 -
+";
+    assert_eq!(answers(&cases_file(&cases)), lines);
+}
+
+#[test]
+fn a_damaged_file_of_cases_ends_with_a_line() {
+    let job = small_job().to_file();
+    let good = cases_file(&[Case::job('w', job.clone())]);
+    assert_eq!(answers(&[]), "");
+    let then = |more: &[u8]| answers(&[&good[..], more].concat());
+    let bad = "w 0 65535\nbad cases\n";
+    assert_eq!(then(&[]), "w 0 65535\n");
+    assert_eq!(then(b"x"), bad);
+    assert_eq!(then(b"w"), bad);
+    assert_eq!(then(b"w\x01\x00\x00"), bad);
+    assert_eq!(then(b"w\x02\x00\x00\x00!"), bad);
+    assert_eq!(then(b"w\x00\x00\x00\x00"), "w 0 65535\nw 1 65535\n");
+    let longest = cases_file(&[Case::job('w', vec![0; 65_536])]);
+    assert_eq!(then(&longest), "w 0 65535\nw 2 65535\n");
+    let too_long = cases_file(&[Case::job('w', vec![0; 65_537])]);
+    assert_eq!(then(&too_long), bad);
+    assert_eq!(
+        then(&cases_file(&[Case::loosening(job.clone(), 65_537)])),
+        bad
+    );
+    let odd_starts = Case {
+        command: 't',
+        fields: vec![job.clone(), vec![0; 7]],
+    };
+    assert_eq!(then(&cases_file(&[odd_starts])), bad);
+    let odd_number = Case {
+        command: 'l',
+        fields: vec![job, vec![0; 3]],
+    };
+    assert_eq!(then(&cases_file(&[odd_number])), bad);
+}
