@@ -1,0 +1,3 @@
+-- The laws of order files.
+pub mod AllLoop
+pub mod Both
