@@ -1,5 +1,6 @@
 -- What the reader and the alike test answer, and the paper's number, place and values of each answer.
 use Prim.Native.Nat.{ℕ}
+use mathlib.Core.Path.{_≡_}
 use mathlib.Core.Bool.{Bool, true, false, cond, _&&_}
 use mathlib.Core.List.{List, [], _∷_}
 use lib.Dec.{ltb, eqb}
@@ -24,20 +25,16 @@ noPlace = 65535
 abbrev pub signedGap : ℕ → ℤ
 signedGap gap = subℕ gap gapBias
 
--- the number and the place of an answer about one file: 0 and no place of a well formed one, else 16 and place 0
-abbrev pub fileNumber : Bool → ℕ
-fileNumber ok = cond ok 0 16
+-- the header's numbers as they stand in the file
+unfoldable pub headerOf : List ℕ → HeaderRead
+headerOf b =
+    header.Header (u16At b 0) (u16At b 2) (u16At b 4) (u16At b 6) (u32At b 8) (u32At b 12) (u32At b 16) (u32At b 20)
 
-abbrev pub filePlace : Bool → ℕ
-filePlace ok = cond ok noPlace 0
-
--- the header, read: its numbers as they stand in the file
+-- "The reader returns the header's numbers": of a well formed file
 unfoldable pub headerRead : List ℕ → HeaderRead
-headerRead b =
-    cond (wellFormed b)
-    (header.Header (u16At b 0) (u16At b 2) (u16At b 4) (u16At b 6) (u32At b 8) (u32At b 12) (u32At b 16) (u32At b 20))
-    header.Broken
+headerRead b = cond (wellFormed b) (headerOf b) header.Broken
 
+-- refusal 16, place 0, of a broken file; every other number is then 0
 abbrev pub headerNumber : HeaderRead → ℕ
 headerNumber (header.Header edition steps orders links rounds windows ordersFrom linksFrom) = 0
 headerNumber header.Broken = 16
@@ -66,10 +63,11 @@ recordOf c table k =
 unfoldable pub recordThere : List ℕ → ℕ → ℕ → Bool
 recordThere b table k = wellFormed b && ltb k (recordCount (contentsOf b) table)
 
--- one record, read
+-- "or one record named by table and number": where it is there
 unfoldable pub recordRead : List ℕ → ℕ → ℕ → RecordRead
 recordRead b table k = cond (recordThere b table k) (recordOf (contentsOf b) table k) recorded.Broken
 
+-- refusal 16, place 0, of a broken file or a record that is not there; every other number is then 0
 abbrev pub recordNumber : RecordRead → ℕ
 recordNumber (recorded.Window limit latest earliest) = 0
 recordNumber (recorded.Order first second gap) = 0
@@ -88,13 +86,14 @@ recordValues (recorded.Order first second gap) = pos first ∷ pos second ∷ ga
 recordValues (recorded.Link link) = pos link ∷ pos 0 ∷ pos 0 ∷ []
 recordValues recorded.Broken = pos 0 ∷ pos 0 ∷ pos 0 ∷ []
 
--- the alike test: the first broken file is named
+-- the alike test: of two broken files the first is named
 unfoldable pub alikeAnswer : List ℕ → List ℕ → AlikeAnswer
 alikeAnswer a b =
     cond (wellFormed a)
     (cond (wellFormed b) (cond (alikeContents (contentsOf a) (contentsOf b)) Alike Different) SecondBroken)
     FirstBroken
 
+-- refusal 16 with the broken file's place; yes or no is then no
 abbrev pub alikeNumber : AlikeAnswer → ℕ
 alikeNumber Alike = 0
 alikeNumber Different = 0
@@ -112,3 +111,22 @@ alikeYes Alike = true
 alikeYes Different = false
 alikeYes FirstBroken = false
 alikeYes SecondBroken = false
+
+-- What each entry point promises: its answer, and the paper's number, place and values of that.
+pub record HeaderPromise (b : List ℕ) (r : HeaderRead) : Type 0 where
+  pub answer : r ≡ headerRead b
+  pub number : headerNumber r ≡ cond (wellFormed b) 0 16
+  pub place : headerPlace r ≡ cond (wellFormed b) noPlace 0
+  pub values : headerValues r ≡ cond (wellFormed b) (headerValues (headerOf b)) (headerValues header.Broken)
+
+pub record RecordPromise (b : List ℕ) (table k : ℕ) (r : RecordRead) : Type 0 where
+  pub answer : r ≡ recordRead b table k
+  pub number : recordNumber r ≡ cond (recordThere b table k) 0 16
+  pub place : recordPlace r ≡ cond (recordThere b table k) noPlace 0
+  pub values : recordValues r ≡ cond (recordThere b table k) (recordValues (recordOf (contentsOf b) table k)) (recordValues recorded.Broken)
+
+pub record AlikePromise (a b : List ℕ) (r : AlikeAnswer) : Type 0 where
+  pub answer : r ≡ alikeAnswer a b
+  pub number : alikeNumber r ≡ cond (wellFormed a && wellFormed b) 0 16
+  pub place : alikePlace r ≡ cond (wellFormed a) (cond (wellFormed b) noPlace 1) 0
+  pub yes : alikeYes r ≡ (wellFormed a && wellFormed b && alikeContents (contentsOf a) (contentsOf b))

@@ -4,10 +4,9 @@ mod compare;
 mod layout;
 
 ghost use mathlib.Core.Path.{_≡_};
-ghost use Prim.Native.Nat.{_<_, _≤_};
+ghost use Prim.Native.Nat.{_<_};
 ghost use Rattle.order_file.specs.Layout.{contentsOf};
-ghost use Rattle.order_file.specs.WellFormed.{wellFormed};
-ghost use Rattle.order_file.specs.Answers.{fileNumber, filePlace, headerRead, headerNumber, headerPlace, recordCount, recordOf, recordThere, recordRead, recordNumber, recordPlace, signedGap, alikeAnswer, alikeNumber, alikePlace};
+ghost use Rattle.order_file.specs.Answers.{recordCount, recordOf, signedGap, HeaderPromise, RecordPromise, AlikePromise};
 
 // What reading the header finds.
 pub enum HeaderRead {
@@ -52,7 +51,7 @@ pub enum AlikeAnswer {
 
 // All of the header's numbers.
 pub fn read_header(file: &[u8]) -> HeaderRead
-    ensures { λ r. ⌜ r ≡ headerRead (now (file .entry)) ⌝ }
+    ensures { λ r. ⌜ HeaderPromise (now (file .entry)) r ⌝ }
 {
     if checks::well_formed(file) {
         HeaderRead::Header {
@@ -121,7 +120,7 @@ fn record_of(file: &[u8], table: u32, k: usize) -> RecordRead
 
 // One record: of table 0 a window, of 1 an order, of 2 a link.
 pub fn read_record(file: &[u8], table: u32, number: u32) -> RecordRead
-    ensures { λ r. ⌜ r ≡ recordRead (now (file .entry)) table number ⌝ }
+    ensures { λ r. ⌜ RecordPromise (now (file .entry)) table number r ⌝ }
 {
     let k = number as usize;
     if checks::well_formed(file) & (k < record_count(file, table)) {
@@ -133,7 +132,7 @@ pub fn read_record(file: &[u8], table: u32, number: u32) -> RecordRead
 
 // Whether two files are alike.
 pub fn alike(a: &[u8], b: &[u8]) -> AlikeAnswer
-    ensures { λ r. ⌜ r ≡ alikeAnswer (now (a .entry)) (now (b .entry)) ⌝ }
+    ensures { λ r. ⌜ AlikePromise (now (a .entry)) (now (b .entry)) r ⌝ }
 {
     if !checks::well_formed(a) {
         return AlikeAnswer::FirstBroken;

@@ -3,20 +3,21 @@ use mathlib.Core.Bool.{true, false}
 use borrow.Author.Needs.{needs}
 use denote.Ref.{now}
 use Rattle.order_file.specs.WellFormed.{wellFormed}
-use Rattle.order_file.specs.Answers.{headerRead}
+use Rattle.order_file.specs.Answers.{headerOf, headerRead}
+use Rattle.order_file.proofs.Answers.{header-promise}
 use Rattle.order_file.proofs.read_header.Statement.{statement}
 use Rattle.order_file.proofs.read_header.Tie as tie
 
 returns : tie.Need-returns
-unfolding headerRead
+unfolding headerRead headerOf
 returns c =
     let b = now (c .before .before .before .before .before .before .before .before .before .before .before .args .file) in
     let e : wellFormed b ≡ true = cc in
-    simp e (cc)
+    header-promise _ _ (simp e (cc))
 
 returns-2 : tie.Need-returns-2
 unfolding headerRead
-returns-2 c = simp (sym (c .before .well-formed .ensures) ∙ c .if1 .left)
+returns-2 c = header-promise _ _ (simp (sym (c .before .well-formed .ensures) ∙ c .if1 .left))
 
 pub read-header-spec : {M : Type 1} → statement M
 read-header-spec =

@@ -6,6 +6,7 @@ use native.Mathlib.Omega.{arith}
 use denote.Ref.{now}
 use lib.Dec.{ltb}
 use Rattle.order_file.specs.Answers.{recordRead, recordThere}
+use Rattle.order_file.proofs.Answers.{record-promise}
 use Rattle.order_file.proofs.Both.{and-r}
 use Rattle.order_file.proofs.read_record.Statement.{statement}
 use Rattle.order_file.proofs.read_record.Tie as tie
@@ -22,14 +23,14 @@ unfolding recordRead recordThere
 returns c =
     let a = c .before .before .before .before .before .args in
     let e : recordThere (now (a .file)) (a .table) (a .number) ≡ true = cc in
-    simp e (c .record-of .ensures)
+    record-promise _ _ _ _ (simp e (c .record-of .ensures))
 
 returns-2 : tie.Need-returns-2
 unfolding recordRead recordThere
 returns-2 c =
     let a = c .before .before .before .before .args in
     let e : recordThere (now (a .file)) (a .table) (a .number) ≡ false = cc in
-    simp e
+    record-promise _ _ _ _ (simp e)
 
 pub read-record-spec : {M : Type 1} → statement M
 read-record-spec =
