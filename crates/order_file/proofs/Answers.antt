@@ -1,28 +1,21 @@
 -- The answers: what follows from which answer it is, and what the reader answers about an encoded file.
-use Prim.Native.Nat.{ℕ, _≤_, _<_}
-use mathlib.Core.Path.{_≡_, refl, sym, ap, _∙_}
-use mathlib.Core.Bool.{Bool, true, false, cond, _&&_, and-false}
+use Prim.Native.Nat.{ℕ}
+use mathlib.Core.Path.{_≡_, refl, ap, _∙_}
+use mathlib.Core.Bool.{Bool, true, false, cond, _&&_}
 use mathlib.Core.List.{List}
 use mathlib.Core.Logic.{⊎-elim}
-use native.Mathlib.Omega.{arith}
 use lib.Dec.{eqb}
-use borrow.Author.Tests.{lt-ltb, le-ltb, eq-eqb}
 use Rattle.laws.proofs.Search.{either}
 use Rattle.order_file.specs.Contents.{Contents}
-use Rattle.order_file.specs.Layout.{windowsAt, ordersAt, linksAt, contentsOf}
-use Rattle.order_file.specs.Encode.{encode}
+use Rattle.order_file.specs.Layout.{contentsOf}
 use Rattle.order_file.specs.WellFormed.{wellFormed}
 use Rattle.order_file.specs.Alike.{alikeContents}
-use Rattle.order_file.specs.Within.{Within}
-use Rattle.order_file.specs.Answers.{noPlace, signedGap, headerOf, headerRead, headerNumber, headerPlace, headerValues, recordCount, recordOf, recordThere, recordRead, recordNumber, recordPlace, recordValues, alikeAnswer, alikeNumber, alikePlace, alikeYes, HeaderPromise, RecordPromise, AlikePromise}
+use Rattle.order_file.specs.Answers.{noPlace, signedGap, headerOf, headerRead, headerNumber, headerPlace, headerValues, recordOf, recordThere, recordRead, recordNumber, recordPlace, recordValues, alikeAnswer, alikeNumber, alikePlace, alikeYes, HeaderPromise, RecordPromise, AlikePromise}
 use Rattle.order_file.specs.declared.HeaderRead.{HeaderRead}
-use Rattle.order_file.specs.declared.HeaderRead.the-variants.{Header}
 use Rattle.order_file.specs.declared.RecordRead.{RecordRead}
 use Rattle.order_file.specs.declared.RecordRead.the-variants.{Window, Order, Link, Broken}
 use Rattle.order_file.specs.declared.AlikeAnswer.{AlikeAnswer}
 use Rattle.order_file.specs.declared.AlikeAnswer.the-variants.{Alike, Different, FirstBroken, SecondBroken}
-use Rattle.order_file.proofs.RoundTrip.{round-trip, edition-back, steps-back, orders-back, links-back, rounds-back, windows-at-back, orders-at-back, links-at-back}
-use Rattle.order_file.proofs.WellFormed.{encode-well-formed}
 
 -- the number, the place and the values follow from the answer
 pub header-promise : (b : List ℕ) (r : HeaderRead) → r ≡ headerRead b → HeaderPromise b r

@@ -1,4 +1,4 @@
--- Two tests that both pass, taken apart and put together; one of two that passes.
+-- Two tests that both pass, and two of which one passes.
 use mathlib.Core.Path.{_≡_, refl}
 use mathlib.Core.Bool.{Bool, true, false, _&&_, _||_}
 use mathlib.Core.Logic.{_⊎_, inl, inr}
@@ -11,10 +11,6 @@ and-l false b e = e
 pub and-r : (a b : Bool) → (a && b) ≡ true → b ≡ true
 and-r true b e = e
 and-r false b e = contrary e refl
-
-pub and-in : (a b : Bool) → a ≡ true → b ≡ true → (a && b) ≡ true
-and-in true b e f = f
-and-in false b e f = e
 
 pub or-out : (a b : Bool) → (a || b) ≡ true → (a ≡ true) ⊎ (b ≡ true)
 or-out true b e = inl refl

@@ -1,9 +1,9 @@
 -- What is encoded reads back: every count, and every field of every record.
 use Prim.Native.Nat.{ℕ, _+_, _*_, _/_, _%_, _≤_, _<_}
-use mathlib.Core.Path.{_≡_, refl, sym, ap, ap₂, _∙_}
-use mathlib.Core.List.{List, _++_}
+use mathlib.Core.Path.{_≡_, sym, ap, ap₂, _∙_}
+use mathlib.Core.List.{List}
 use mathlib.Core.Logic.{⊎-elim}
-use native.Mathlib.Nat.{zero-add, add-zero, mul-le-mul-left}
+use native.Mathlib.Nat.{zero-add, add-zero}
 use native.Mathlib.Omega.{arith}
 use lib.ListN.{length, getD}
 use Rattle.laws.specs.Listed.{concatenate}
@@ -14,7 +14,7 @@ use Rattle.order_file.specs.Encode.{headerBytes, windowBytes, orderBytes
 use Rattle.order_file.specs.Within.{Within}
 use Rattle.order_file.specs.Agree.{Agree}
 use Rattle.order_file.proofs.Stands.{Stands, stands-behind, stands-longer, stands-within, stands-part, length-parts, stands-u16, stands-u32}
-use Rattle.order_file.proofs.Encode.{length-header, length-window, length-order, length-link, length-up-to-window, length-up-to-order, length-up-to-link}
+use Rattle.order_file.proofs.Encode.{length-header, length-window, length-order, length-link, length-up-to-window, length-up-to-order}
 
 -- the bytes of a number give the number
 u16-back : (n : ℕ) → n < 65536 → n % 256 + 256 * (n / 256 % 256) ≡ n

@@ -1,7 +1,7 @@
 -- A well formed file holds contents within the limits, and the file of such contents is well formed.
 use Prim.Native.Nat.{ℕ, _+_, _-_, _≤_, _<_}
-use mathlib.Core.Path.{_≡_, refl, sym, ap, ap₂, _∙_}
-use mathlib.Core.Bool.{Bool, true, false, _&&_, _||_, not, or-true}
+use mathlib.Core.Path.{_≡_, sym, ap, ap₂, _∙_}
+use mathlib.Core.Bool.{true, _&&_, or-true}
 use mathlib.Core.List.{List}
 use mathlib.Core.Logic.{_⊎_, inl, inr, ⊎-elim}
 use native.Mathlib.Omega.{arith}
@@ -17,7 +17,7 @@ use Rattle.order_file.specs.Encode.{encode}
 use Rattle.order_file.specs.WellFormed.{layoutHolds, lengthHolds, countsHold, orderHolds, ascends, linkHolds, roundsHold, windowHolds, wellFormed}
 use Rattle.order_file.specs.Within.{Within}
 use Rattle.order_file.specs.Agree.{Agree}
-use Rattle.order_file.proofs.Both.{and-l, and-r, and-in, or-out}
+use Rattle.order_file.proofs.Both.{and-l, and-r, or-out}
 use Rattle.order_file.proofs.Encode.{length-encode}
 use Rattle.order_file.proofs.RoundTrip.{round-trip, edition-back, windows-at-back, orders-at-back, links-at-back}
 

@@ -6,6 +6,23 @@ ghost use Rattle.laws.specs.Search.{all};
 ghost use Rattle.order_file.specs.Layout.{contentsOf};
 ghost use Rattle.order_file.specs.WellFormed.{layoutHolds, lengthHolds, countsHold, orderHolds, ascends, linkHolds, roundsHold, windowHolds, wellFormed};
 
+// The highest counts.
+const MOST_STEPS: usize = 64;
+
+const MOST_ORDERS: usize = 4032;
+
+const MOST_LINKS: usize = 544;
+
+// The range of a gap, plus 100000.
+const LEAST_GAP: usize = layout::GAP_BIAS - 99999;
+
+const MOST_GAP: usize = layout::GAP_BIAS + 100001;
+
+// The highest number of an effect, and the link to the initial state.
+const LAST_EFFECT: usize = 511;
+
+const INITIAL_STATE: usize = 65535;
+
 // Edition 1, and the offsets of tables without gaps.
 fn layout_holds(file: &[u8]) -> bool
     ensures { λ r. ⌜ r ≡ layoutHolds (now (file .entry)) ⌝ }
@@ -32,7 +49,9 @@ fn length_holds(file: &[u8]) -> bool
 fn counts_hold(file: &[u8]) -> bool
     ensures { λ r. ⌜ r ≡ countsHold (contentsOf (now (file .entry))) ⌝ }
 {
-    (layout::steps(file) <= 64) & (layout::orders(file) <= 4032) & (layout::links(file) <= 544)
+    (layout::steps(file) <= MOST_STEPS)
+        & (layout::orders(file) <= MOST_ORDERS)
+        & (layout::links(file) <= MOST_LINKS)
 }
 
 // One order: its steps counted and apart, its gap in range.
@@ -44,7 +63,7 @@ fn order_holds(file: &[u8], k: usize) -> bool
     let first = layout::first(file, k);
     let second = layout::second(file, k);
     let gap = layout::gap(file, k);
-    (first < steps) & (second < steps) & (first != second) & (1 <= gap) & (gap <= 200001)
+    (first < steps) & (second < steps) & (first != second) & (LEAST_GAP <= gap) & (gap <= MOST_GAP)
 }
 
 fn orders_hold(file: &[u8]) -> bool
@@ -93,7 +112,7 @@ fn link_holds(file: &[u8], k: usize) -> bool
     ensures { λ r. ⌜ r ≡ linkHolds (contentsOf (now (file .entry))) k ⌝ }
 {
     let link = layout::link(file, k);
-    (link <= 511) | (link == 65535)
+    (link <= LAST_EFFECT) | (link == INITIAL_STATE)
 }
 
 fn links_hold(file: &[u8]) -> bool

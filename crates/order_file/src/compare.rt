@@ -1,7 +1,7 @@
 // Whether two order files say the same.
 use crate::layout;
 ghost use mathlib.Core.Path.{_≡_};
-ghost use Prim.Native.Nat.{_<_, _≤_};
+ghost use Prim.Native.Nat.{_<_};
 ghost use Rattle.laws.specs.Search.{all};
 ghost use Rattle.order_file.specs.Layout.{contentsOf};
 ghost use Rattle.order_file.specs.Alike.{sameCounts, sameWindow, sameOrder, alikeContents};

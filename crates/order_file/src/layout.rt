@@ -1,6 +1,6 @@
 // Where an order file holds what it says, and its fields read from there.
 ghost use mathlib.Core.Path.{_≡_};
-ghost use Prim.Native.Nat.{_<_, _≤_, _+_};
+ghost use Prim.Native.Nat.{_<_, _+_};
 ghost use Rattle.order_file.specs.Layout.{windowAt, orderAt, linkAt, gapOf, contentsOf};
 
 // The widths of a window, an order and a link.
@@ -8,6 +8,11 @@ const WIDTHS: [usize; 3] = [12, 8, 2];
 
 // Where the windows begin.
 pub const WINDOWS_AT: usize = 24;
+
+// What a gap here has more than the paper's gap, and what an i32 has that is read without a sign.
+pub const GAP_BIAS: usize = 100000;
+
+const SIGN_BIAS: usize = 2147483648;
 
 // Where a window begins; that of the number past the last is where the orders begin.
 pub fn window_at(k: usize) -> usize
@@ -85,10 +90,10 @@ fn gap_of(biased: usize) -> usize
     requires { ⌜ biased < 4294967296 ⌝ }
     ensures { λ r. ⌜ (r ≡ gapOf biased) × (r < 2147583648) ⌝ }
 {
-    if biased < 2147483648 - 100000 {
+    if biased < SIGN_BIAS - GAP_BIAS {
         0
     } else {
-        biased + 100000 - 2147483648
+        biased + GAP_BIAS - SIGN_BIAS
     }
 }
 

@@ -89,10 +89,10 @@ fn signed_gap(gap: usize) -> i32
     requires { ⌜ gap < 2147583648 ⌝ }
     ensures { λ r. ⌜ r ≡ signedGap gap ⌝ }
 {
-    if gap < 100000 {
+    if gap < layout::GAP_BIAS {
         (gap as i32) - 100000
     } else {
-        (gap - 100000) as i32
+        (gap - layout::GAP_BIAS) as i32
     }
 }
 
