@@ -6,5 +6,6 @@ pub mod Encode
 pub mod RoundTrip
 pub mod WellFormed
 pub mod Answers
+pub mod Ascending
 pub mod ReadBack
 pub mod Signed

@@ -1,7 +1,7 @@
-use Rattle.order_file.proofs.Answers.{alike-promise}
 use mathlib.Core.Path.{sym, _∙_}
 use borrow.Author.Needs.{needs}
 use borrow.Author.Tests.{not-true, not-false}
+use Rattle.order_file.proofs.Answers.{alike-promise}
 use Rattle.order_file.specs.Answers.{alikeAnswer}
 use Rattle.order_file.proofs.alike.Statement.{statement}
 use Rattle.order_file.proofs.alike.Tie as tie

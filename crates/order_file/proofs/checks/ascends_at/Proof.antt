@@ -1,5 +1,5 @@
-use Rattle.order_file.specs.WellFormed.{ascends}
 use borrow.Author.Needs.{needs}
+use Rattle.order_file.specs.WellFormed.{ascends}
 use Rattle.order_file.proofs.checks.ascends_at.Statement.{statement}
 use Rattle.order_file.proofs.checks.ascends_at.Tie as tie
 

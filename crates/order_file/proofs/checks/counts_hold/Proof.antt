@@ -1,5 +1,5 @@
-use Rattle.order_file.specs.WellFormed.{countsHold}
 use borrow.Author.Needs.{needs}
+use Rattle.order_file.specs.WellFormed.{countsHold}
 use Rattle.order_file.proofs.checks.counts_hold.Statement.{statement}
 use Rattle.order_file.proofs.checks.counts_hold.Tie as tie
 

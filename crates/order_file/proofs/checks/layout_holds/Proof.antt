@@ -1,5 +1,5 @@
-use Rattle.order_file.specs.WellFormed.{layoutHolds}
 use borrow.Author.Needs.{needs}
+use Rattle.order_file.specs.WellFormed.{layoutHolds}
 use Rattle.order_file.proofs.checks.layout_holds.Statement.{statement}
 use Rattle.order_file.proofs.checks.layout_holds.Tie as tie
 

@@ -1,5 +1,5 @@
-use Rattle.order_file.specs.WellFormed.{lengthHolds}
 use borrow.Author.Needs.{needs}
+use Rattle.order_file.specs.WellFormed.{lengthHolds}
 use Rattle.order_file.proofs.checks.length_holds.Statement.{statement}
 use Rattle.order_file.proofs.checks.length_holds.Tie as tie
 

@@ -1,5 +1,5 @@
-use Rattle.order_file.specs.WellFormed.{linkHolds}
 use borrow.Author.Needs.{needs}
+use Rattle.order_file.specs.WellFormed.{linkHolds}
 use Rattle.order_file.proofs.checks.link_holds.Statement.{statement}
 use Rattle.order_file.proofs.checks.link_holds.Tie as tie
 

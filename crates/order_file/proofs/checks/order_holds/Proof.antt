@@ -1,5 +1,5 @@
-use Rattle.order_file.specs.WellFormed.{orderHolds}
 use borrow.Author.Needs.{needs}
+use Rattle.order_file.specs.WellFormed.{orderHolds}
 use Rattle.order_file.proofs.checks.order_holds.Statement.{statement}
 use Rattle.order_file.proofs.checks.order_holds.Tie as tie
 

@@ -1,5 +1,5 @@
-use Rattle.order_file.specs.WellFormed.{roundsHold}
 use borrow.Author.Needs.{needs}
+use Rattle.order_file.specs.WellFormed.{roundsHold}
 use Rattle.order_file.proofs.checks.rounds_hold.Statement.{statement}
 use Rattle.order_file.proofs.checks.rounds_hold.Tie as tie
 

@@ -1,5 +1,5 @@
-use Rattle.order_file.specs.WellFormed.{windowHolds}
 use borrow.Author.Needs.{needs}
+use Rattle.order_file.specs.WellFormed.{windowHolds}
 use Rattle.order_file.proofs.checks.window_holds.Statement.{statement}
 use Rattle.order_file.proofs.checks.window_holds.Tie as tie
 

@@ -1,5 +1,5 @@
-use Rattle.order_file.specs.Alike.{sameCounts}
 use borrow.Author.Needs.{needs}
+use Rattle.order_file.specs.Alike.{sameCounts}
 use Rattle.order_file.proofs.compare.same_counts.Statement.{statement}
 use Rattle.order_file.proofs.compare.same_counts.Tie as tie
 

@@ -1,5 +1,5 @@
-use Rattle.order_file.specs.Alike.{sameOrder}
 use borrow.Author.Needs.{needs}
+use Rattle.order_file.specs.Alike.{sameOrder}
 use Rattle.order_file.proofs.compare.same_order.Statement.{statement}
 use Rattle.order_file.proofs.compare.same_order.Tie as tie
 

@@ -1,5 +1,5 @@
-use Rattle.order_file.specs.Alike.{sameWindow}
 use borrow.Author.Needs.{needs}
+use Rattle.order_file.specs.Alike.{sameWindow}
 use Rattle.order_file.proofs.compare.same_window.Statement.{statement}
 use Rattle.order_file.proofs.compare.same_window.Tie as tie
 

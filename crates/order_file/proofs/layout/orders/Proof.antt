@@ -1,5 +1,5 @@
-use Rattle.order_file.specs.Layout.{contentsOf}
 use borrow.Author.Needs.{needs}
+use Rattle.order_file.specs.Layout.{contentsOf}
 use Rattle.order_file.proofs.layout.orders.Statement.{statement}
 use Rattle.order_file.proofs.layout.orders.Tie as tie
 
