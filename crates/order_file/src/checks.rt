@@ -1,0 +1,175 @@
+// Whether bytes are an order file: the clauses of refusal 16.
+use crate::layout;
+ghost use mathlib.Core.Path.{_≡_};
+ghost use Prim.Native.Nat.{_<_, _-_};
+ghost use Rattle.laws.specs.Search.{all};
+ghost use Rattle.order_file.specs.Layout.{contentsOf};
+ghost use Rattle.order_file.specs.WellFormed.{layoutHolds, lengthHolds, countsHold, orderHolds, ascends, linkHolds, roundsHold, windowHolds, wellFormed};
+
+// The highest counts.
+const MOST_STEPS: usize = 64;
+
+const MOST_ORDERS: usize = 4032;
+
+const MOST_LINKS: usize = 544;
+
+// The range of a gap, plus 100000.
+const LEAST_GAP: usize = layout::GAP_BIAS - 99999;
+
+const MOST_GAP: usize = layout::GAP_BIAS + 100001;
+
+// The highest number of an effect, and the link to the initial state.
+const LAST_EFFECT: usize = 511;
+
+const INITIAL_STATE: usize = 65535;
+
+// Edition 1, and the offsets of tables without gaps.
+fn layout_holds(file: &[u8]) -> bool
+    ensures { λ r. ⌜ r ≡ layoutHolds (now (file .entry)) ⌝ }
+{
+    let steps = layout::steps(file);
+    let orders = layout::orders(file);
+    (laws::u16_at(file, 0) == 1)
+        & (laws::u32_at(file, 12) == layout::WINDOWS_AT)
+        & (laws::u32_at(file, 16) == layout::window_at(steps))
+        & (laws::u32_at(file, 20) == layout::order_at(steps, orders))
+}
+
+// As long as the tables.
+fn length_holds(file: &[u8]) -> bool
+    ensures { λ r. ⌜ r ≡ lengthHolds (now (file .entry)) ⌝ }
+{
+    let steps = layout::steps(file);
+    let orders = layout::orders(file);
+    let links = layout::links(file);
+    file.len() == layout::link_at(steps, orders, links)
+}
+
+// No count over its highest.
+fn counts_hold(file: &[u8]) -> bool
+    ensures { λ r. ⌜ r ≡ countsHold (contentsOf (now (file .entry))) ⌝ }
+{
+    (layout::steps(file) <= MOST_STEPS)
+        & (layout::orders(file) <= MOST_ORDERS)
+        & (layout::links(file) <= MOST_LINKS)
+}
+
+// One order: its steps counted and apart, its gap in range.
+fn order_holds(file: &[u8], k: usize) -> bool
+    requires { ⌜ k < 65536 ⌝ }
+    ensures { λ r. ⌜ r ≡ orderHolds (contentsOf (now (file .entry))) k ⌝ }
+{
+    let steps = layout::steps(file);
+    let first = layout::first(file, k);
+    let second = layout::second(file, k);
+    let gap = layout::gap(file, k);
+    (first < steps) & (second < steps) & (first != second) & (LEAST_GAP <= gap) & (gap <= MOST_GAP)
+}
+
+fn orders_hold(file: &[u8]) -> bool
+    ensures { λ r. ⌜ r ≡ all (contentsOf (now (file .entry)) .orders) (orderHolds (contentsOf (now (file .entry)))) ⌝ }
+{
+    let orders = layout::orders(file);
+    let mut k = 0;
+    while k < orders {
+        if !order_holds(file, k) {
+            return false;
+        }
+        k += 1;
+    }
+    true
+}
+
+// An order and the next one, by first and then second.
+fn ascends_at(file: &[u8], k: usize) -> bool
+    requires { ⌜ k < 65535 ⌝ }
+    ensures { λ r. ⌜ r ≡ ascends (contentsOf (now (file .entry))) k ⌝ }
+{
+    let first = layout::first(file, k);
+    let next = layout::first(file, k + 1);
+    let second = layout::second(file, k);
+    let next_second = layout::second(file, k + 1);
+    (first < next) | ((first == next) & (second < next_second))
+}
+
+fn orders_ascend(file: &[u8]) -> bool
+    ensures { λ r. ⌜ r ≡ all (contentsOf (now (file .entry)) .orders - 1) (ascends (contentsOf (now (file .entry)))) ⌝ }
+{
+    let orders = layout::orders(file);
+    let mut k = 0;
+    while k + 1 < orders {
+        if !ascends_at(file, k) {
+            return false;
+        }
+        k += 1;
+    }
+    true
+}
+
+// One link: an effect's number, or the initial state.
+fn link_holds(file: &[u8], k: usize) -> bool
+    requires { ⌜ k < 65536 ⌝ }
+    ensures { λ r. ⌜ r ≡ linkHolds (contentsOf (now (file .entry))) k ⌝ }
+{
+    let link = layout::link(file, k);
+    (link <= LAST_EFFECT) | (link == INITIAL_STATE)
+}
+
+fn links_hold(file: &[u8]) -> bool
+    ensures { λ r. ⌜ r ≡ all (contentsOf (now (file .entry)) .links) (linkHolds (contentsOf (now (file .entry)))) ⌝ }
+{
+    let links = layout::links(file);
+    let mut k = 0;
+    while k < links {
+        if !link_holds(file, k) {
+            return false;
+        }
+        k += 1;
+    }
+    true
+}
+
+// No more rounds than steps.
+fn rounds_hold(file: &[u8]) -> bool
+    ensures { λ r. ⌜ r ≡ roundsHold (contentsOf (now (file .entry))) ⌝ }
+{
+    layout::rounds(file) <= layout::steps(file)
+}
+
+// One window: its earliest time from its limit to its latest start.
+fn window_holds(file: &[u8], k: usize) -> bool
+    requires { ⌜ k < 65536 ⌝ }
+    ensures { λ r. ⌜ r ≡ windowHolds (contentsOf (now (file .entry))) k ⌝ }
+{
+    let earliest = layout::earliest(file, k);
+    (layout::limit(file, k) <= earliest) & (earliest <= layout::latest(file, k))
+}
+
+fn windows_hold(file: &[u8]) -> bool
+    ensures { λ r. ⌜ r ≡ all (contentsOf (now (file .entry)) .steps) (windowHolds (contentsOf (now (file .entry)))) ⌝ }
+{
+    let steps = layout::steps(file);
+    let mut k = 0;
+    while k < steps {
+        if !window_holds(file, k) {
+            return false;
+        }
+        k += 1;
+    }
+    true
+}
+
+// All of refusal 16.
+pub fn well_formed(file: &[u8]) -> bool
+    ensures { λ r. ⌜ r ≡ wellFormed (now (file .entry)) ⌝ }
+{
+    if layout_holds(file) & length_holds(file) & counts_hold(file) {
+        orders_hold(file)
+            & orders_ascend(file)
+            & links_hold(file)
+            & rounds_hold(file)
+            & windows_hold(file)
+    } else {
+        false
+    }
+}
