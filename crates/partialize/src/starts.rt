@@ -1,0 +1,1 @@
+// Earliest starts: rounds over a table of gaps.
