@@ -1,9 +1,9 @@
 -- Rounds raise the limits to the least starts that satisfy them and every order, in at most as many rounds as steps.
-use Prim.Native.Nat.{ℕ, zero, suc, _+_, _-_, _≤_, _<_}
-use mathlib.Core.Path.{_≡_, sym, ap, _∙_}
+use Prim.Native.Nat.{ℕ, zero, suc, _+_, _*_, _-_, _≤_, _<_, max}
+use mathlib.Core.Path.{_≡_, sym, ap, ap₂, _∙_}
 use mathlib.Core.Bool.{Bool, true, false, cond}
 use mathlib.Core.Logic.{⊎-elim}
-use native.Mathlib.Nat.{not-suc-le-zero}
+use native.Mathlib.Nat.{not-suc-le-zero, mul-suc}
 use native.Mathlib.Decide.{decLt, decLe}
 use native.Mathlib.Omega.{arith}
 use borrow.Author.Tests.{eqb-true, eq-eqb}
@@ -11,7 +11,7 @@ use lib.Dec.{eqb}
 use Rattle.laws.specs.Search.{lowest}
 use Rattle.laws.specs.Fold.{largest, sum}
 use Rattle.laws.proofs.Search.{last-or-below, all-intro, all-elim, lowest-facts}
-use Rattle.laws.proofs.Fold.{largest-ge, largest-le, largest-at, sum-le}
+use Rattle.laws.proofs.Fold.{largest-ge, largest-le, largest-at, largest-cong, sum-le}
 use Rattle.partialize.specs.Rounds.{demand, raised, after, unchanged, rounds, earliest, Satisfied}
 
 -- A demand rises with the start of the order's first step, and by as much, once it is above 0.
@@ -27,6 +27,15 @@ module _ (gap : ℕ → ℕ → ℕ) (bias i k t u : ℕ) where
 
   pub demand-rises : t ≤ u → demand gap bias i k t ≤ demand gap bias i k u
   demand-rises h = elim (decLt 0 (demand gap bias i k t)) [ yes p ↦ omega (arith, demand-later h p) | no p ↦ omega arith ]
+
+-- a gap of at most so much demands at most so much more
+at-most : (b : Bool) (g bias most t : ℕ) → g ≤ bias + most → cond b 0 (t + g - bias) ≤ t + most
+at-most true g bias most t h = omega arith
+at-most false g bias most t h = omega arith
+
+demand-most : (gap : ℕ → ℕ → ℕ) (bias most i k t : ℕ) → gap i k ≤ bias + most → demand gap bias i k t ≤ t + most
+unfolding demand
+demand-most gap bias most i k t h = at-most (eqb (gap i k) 0) (gap i k) bias most t h
 
 -- A round keeps each start or raises it, to no more than a bound of the start and of every demand on it.
 
@@ -53,6 +62,14 @@ module _ (n : ℕ) (gap : ℕ → ℕ → ℕ) (bias : ℕ) (x : ℕ → ℕ) (k
       (w .0, w .1, omega (arith, w .2)))
       (largest-at (λ j. demand gap bias j k (x j)) n)
 
+-- starts that agree below n agree after a round
+pub raised-cong :
+    (n : ℕ) (gap : ℕ → ℕ → ℕ) (bias : ℕ) (x y : ℕ → ℕ) → ((i : ℕ) → i < n → x i ≡ y i) → (k : ℕ) → k < n → raised n gap bias x k ≡ raised n gap bias y k
+unfolding raised
+raised-cong n gap bias x y h k l =
+    ap₂ max (h k l)
+    (largest-cong (λ i. demand gap bias i k (x i)) (λ i. demand gap bias i k (y i)) n (λ i m. ap (demand gap bias i k) (h i m)))
+
 -- The starts after more rounds are no lower, and never above starts that satisfy the limits and the orders.
 
 module _ (n : ℕ) (gap : ℕ → ℕ → ℕ) (bias : ℕ) (x : ℕ → ℕ) where
@@ -72,6 +89,18 @@ module _ (n : ℕ) (gap : ℕ → ℕ → ℕ) (bias : ℕ) (x : ℕ → ℕ) wh
         | yes l ↦ omega (arith, after-ascends r q k l, after-next q k)
         | no l ↦ let e : r ≡ suc q = omega arith in omega (arith, ap (λ j. after n gap bias x j k) e)
       ]
+
+  -- no round raises by more than the largest gap
+  pub after-most :
+      (limit most : ℕ) → ((k : ℕ) → k < n → x k ≤ limit) → ((i k : ℕ) → gap i k ≤ bias + most) → (r k : ℕ) → k < n
+      → after n gap bias x r k ≤ limit + most * r
+  unfolding after
+  after-most limit most h g zero k l = omega (arith, h k l)
+  after-most limit most h g (suc r) k l =
+      let e : most * suc r ≡ most * r + most = mul-suc most r in
+      raised-le n gap bias (after n gap bias x r) k (limit + most * suc r) (omega (arith, after-most limit most h g r k l))
+      (λ i m.
+      omega (arith, demand-most gap bias most i k (after n gap bias x r i) (g i k), after-most limit most h g r i m))
 
   -- what a round that changes nothing leaves as it was
   pub unchanged-same : (r : ℕ) → unchanged n gap bias (after n gap bias x r) ≡ true → (k : ℕ) → k < n → after n gap bias x (suc r) k ≡ after n gap bias x r k

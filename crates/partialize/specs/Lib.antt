@@ -1,2 +1,3 @@
--- Orders from a sound job: the earliest starts that a table of gaps demands.
+-- Orders from a sound job: the table of gaps, and the earliest starts that it demands.
 pub mod Rounds
+pub mod Table
