@@ -1,0 +1,24 @@
+-- The entry decides, and a demand below 0 is 0.
+use Prim.Native.Nat.{_+_, _*_}
+use native.Mathlib.Omega.{arith}
+use borrow.Author.Needs.{needs}
+use borrow.Author.Tests.{eq-eqb, ne-eqb}
+use Rattle.partialize.specs.Rounds.{demand}
+use Rattle.partialize.proofs.starts.demanded.Statement.{statement}
+use Rattle.partialize.proofs.starts.demanded.Tie as tie
+
+pub demanded-spec : {M : Type 1} → statement M
+unfolding demand
+demanded-spec =
+    tie.close
+    (tie.spec
+    (λ c. search needs)
+    (λ c. search needs)
+    (λ c. search needs)
+    (λ c. search needs)
+    (λ c. rw (eq-eqb _ _ (c .if1 .taken)))
+    (λ c. omega (arith, c .before .before .pre .0 .most (64 * c .before .before .args .i + c .before .before .args .k)))
+    (λ c. omega (arith, c .before .before .before .pre .0 .most (64 * c .before .before .before .args .i + c .before .before .before .args .k)))
+    (λ c. search needs)
+    (λ c. rw (ne-eqb _ _ (c .before .if1 .left)) (omega arith))
+    (λ c. rw (ne-eqb _ _ (c .before .if1 .left))))

@@ -1,0 +1,2 @@
+// Orders from a sound job.
+pub mod starts;
