@@ -10,18 +10,39 @@ use Rattle.laws.specs.Fold.{largest, least, sum}
 use Rattle.laws.proofs.Search.{last-or-below}
 
 module _ (f : ℕ → ℕ) where
-  -- one more index, as a loop counts
-  pub largest-more : (i : ℕ) → largest (i + 1) f ≡ max (largest i f) (f i)
+  -- A loop that folds has its answer over the first i indexes; v is what the code read at i.
+  pub largest-start : 0 ≡ largest 0 f
   unfolding largest
-  largest-more i = rw add-one
+  largest-start = refl
 
-  pub least-more : (i none : ℕ) → least (i + 1) none f ≡ min (least i none f) (f i)
+  pub largest-more : (i : ℕ) {best v next : ℕ} → best ≡ largest i f → v ≡ f i → next ≡ max best v → next ≡ largest (i + 1) f
+  unfolding largest
+  largest-more i e q w = rw add-one (w ∙ ap₂ max e q)
+
+  pub largest-end : (n i : ℕ) {best : ℕ} → best ≡ largest i f → i ≤ n → n ≤ i → best ≡ largest n f
+  largest-end n i e h g = let q : i ≡ n = omega arith in e ∙ ap (λ k. largest k f) q
+
+  pub least-start : (none : ℕ) → none ≡ least 0 none f
   unfolding least
-  least-more i none = rw add-one
+  least-start none = refl
 
-  pub sum-more : (i : ℕ) → sum (i + 1) f ≡ sum i f + f i
+  pub least-more : (i none : ℕ) {best v next : ℕ} → best ≡ least i none f → v ≡ f i → next ≡ min best v → next ≡ least (i + 1) none f
+  unfolding least
+  least-more i none e q w = rw add-one (w ∙ ap₂ min e q)
+
+  pub least-end : (n i none : ℕ) {best : ℕ} → best ≡ least i none f → i ≤ n → n ≤ i → best ≡ least n none f
+  least-end n i none e h g = let q : i ≡ n = omega arith in e ∙ ap (λ k. least k none f) q
+
+  pub sum-start : 0 ≡ sum 0 f
   unfolding sum
-  sum-more i = rw add-one
+  sum-start = refl
+
+  pub sum-more : (i : ℕ) {total v next : ℕ} → total ≡ sum i f → v ≡ f i → next ≡ total + v → next ≡ sum (i + 1) f
+  unfolding sum
+  sum-more i e q w = rw add-one (w ∙ ap₂ _+_ e q)
+
+  pub sum-end : (n i : ℕ) {total : ℕ} → total ≡ sum i f → i ≤ n → n ≤ i → total ≡ sum n f
+  sum-end n i e h g = let q : i ≡ n = omega arith in e ∙ ap (λ k. sum k f) q
 
   -- every value is at most the largest
   pub largest-ge : (n k : ℕ) → k < n → f k ≤ largest n f

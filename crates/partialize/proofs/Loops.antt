@@ -14,7 +14,6 @@ use lib.Dec.{eqb}
 use Rattle.laws.specs.Search.{all, lowest}
 use Rattle.laws.specs.Fold.{largest}
 use Rattle.laws.proofs.Search.{either, contrary, all-elim, lowest-start, lowest-more, lowest-found, lowest-end}
-use Rattle.laws.proofs.Fold.{largest-more}
 use Rattle.partialize.specs.Table.{gapBias, gapIn, startIn, Gaps, Bounded, Filled}
 use Rattle.partialize.specs.Rounds.{raised, after, unchanged, rounds, earliest}
 use Rattle.partialize.proofs.Rounds.{raised-cong, after-most}
@@ -26,7 +25,8 @@ module _ (a : ℕ) (f : ℕ → ℕ) where
   max-start = omega arith
 
   pub max-more : (i : ℕ) {best d next : ℕ} → best ≡ max a (largest i f) → d ≡ f i → next ≡ max best d → next ≡ max a (largest (i + 1) f)
-  max-more i e q w = rw (largest-more f i) (omega arith)
+  unfolding largest
+  max-more i e q w = rw add-one (omega arith)
 
   pub max-end : (n i : ℕ) {best : ℕ} → best ≡ max a (largest i f) → i ≤ n → n ≤ i → best ≡ max a (largest n f)
   max-end n i e h g = let q : i ≡ n = omega arith in e ∙ ap (λ k. max a (largest k f)) q
