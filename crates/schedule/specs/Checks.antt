@@ -11,6 +11,8 @@ use Rattle.job.specs.Verdict.{_then_, refuseIf, refuseLowest}
 use Rattle.job.specs.Model.{Model, modelOf}
 use Rattle.job.specs.Ranges.{noDeadline}
 use Rattle.job.specs.Refusals.{formCheck}
+use Rattle.schedule.specs.declared.checks.Rule.{Rule}
+use Rattle.schedule.specs.declared.checks.Rule.the-variants.{FixedSteps, Effects, Conditions, Levels, Goals, Steps}
 use Rattle.schedule.specs.Ticks.{scheduleOf, effectTick, firstTick, lastTick, useTick, finish, opposes, ofAnother}
 use Rattle.schedule.specs.Seen.{seen, afterAll}
 use Rattle.schedule.specs.Levels.{aboveLeast, belowMost}
@@ -72,23 +74,56 @@ overlaps m x i k = not (eqb i k) && not (leb (finish m x i) (x k)) && not (leb (
 unfoldable pub crowded : Model → (ℕ → ℕ) → ℕ → Bool
 crowded m x i = eqb (m .serial) 1 && any (m .steps) (overlaps m x i)
 
+-- whether the k-th fixed step, effect, condition, level, goal or step breaks its rule
+abbrev pub broken : Model → (ℕ → ℕ) → Rule → ℕ → Bool
+broken m x FixedSteps k = moved m x k
+broken m x Effects k = conflicts m x k
+broken m x Conditions k = conditionFails m x k
+broken m x Levels k = levelFails m x k
+broken m x Goals k = goalFails m x k
+broken m x Steps k = crowded m x k
+
+-- how many there are under a rule
+abbrev pub countUnder : Model → Rule → ℕ
+countUnder m FixedSteps = m .steps
+countUnder m Effects = m .effects
+countUnder m Conditions = m .conditions
+countUnder m Levels = m .levels
+countUnder m Goals = m .goals
+countUnder m Steps = m .steps
+
+-- what a rule refuses
+abbrev pub refusalOf : Rule → ℕ → Verdict
+refusalOf FixedSteps k = FixedStepMoved k
+refusalOf Effects k = EffectsConflict k
+refusalOf Conditions k = ConditionFails k
+refusalOf Levels k = LevelOutOfBounds k
+refusalOf Goals k = GoalFails k
+refusalOf Steps k = StepsOverlap k
+
+-- a rule refuses the lowest that breaks it
+unfoldable pub ruleCheck : Model → (ℕ → ℕ) → Rule → Verdict
+ruleCheck m x rule = refuseLowest (countUnder m rule) (broken m x rule) (refusalOf rule)
+
 -- refusals 10 to 14
 unfoldable pub timingCheck : Model → (ℕ → ℕ) → Verdict
 timingCheck m x =
-    refuseLowest (m .effects) (conflicts m x) EffectsConflict
-    then refuseLowest (m .conditions) (conditionFails m x) ConditionFails
-    then refuseLowest (m .levels) (levelFails m x) LevelOutOfBounds
-    then refuseLowest (m .goals) (goalFails m x) GoalFails
-    then refuseLowest (m .steps) (crowded m x) StepsOverlap
+    ruleCheck m x Effects then ruleCheck m x Conditions then ruleCheck m x Levels then ruleCheck m x Goals
+    then ruleCheck m x Steps
 
 -- the job check: 1 to 7, then 10 to 14 on the written starts
 unfoldable pub jobCheck : List ℕ → Verdict
 jobCheck s = formCheck s then timingCheck (modelOf s) (modelOf s .start)
 
+-- refusal 8: the list does not have one entry a step
+unfoldable pub countCheck : Model → List ℕ → Verdict
+countCheck m starts = refuseIf (not (eqb (length starts) (m .steps))) StartsMiscounted
+
+-- refusals 8 to 14
+unfoldable pub startsCheck : Model → List ℕ → Verdict
+startsCheck m starts =
+    countCheck m starts then ruleCheck m (scheduleOf starts) FixedSteps then timingCheck m (scheduleOf starts)
+
 -- the timing check: 1 to 14
 unfoldable pub scheduleCheck : List ℕ → List ℕ → Verdict
-scheduleCheck s starts =
-    formCheck s
-    then refuseIf (not (eqb (length starts) (modelOf s .steps))) StartsMiscounted
-    then refuseLowest (modelOf s .steps) (moved (modelOf s) (scheduleOf starts)) FixedStepMoved
-    then timingCheck (modelOf s) (scheduleOf starts)
+scheduleCheck s starts = formCheck s then startsCheck (modelOf s) starts

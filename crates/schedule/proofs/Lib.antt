@@ -1,0 +1,2 @@
+-- Laws of the definitions in specs/, and what the code's tests and sums say of them.
+pub mod Steps

@@ -1,0 +1,17 @@
+-- At its first tick, or by an effect on the way.
+use Rattle.schedule.specs.Checks.{conditionFails}
+use borrow.Author.Needs.{needs}
+use Rattle.schedule.proofs.checks.condition_fails.Statement.{statement}
+use Rattle.schedule.proofs.checks.condition_fails.Tie as tie
+
+pub condition-fails-spec : {M : Type 1} → statement M
+unfolding conditionFails
+condition-fails-spec =
+    tie.close
+    (tie.spec
+    (λ c κs. search needs)
+    (λ c κs. search needs)
+    (λ c κs. search needs)
+    (λ c κs. search needs)
+    (λ c κs. search needs)
+    (λ c. cc))

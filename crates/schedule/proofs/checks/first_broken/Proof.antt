@@ -1,0 +1,25 @@
+-- A search for the lowest that breaks the rule.
+use Prim.Native.Nat.{_≤_, _-_}
+use mathlib.Core.Path.{_≡_}
+use Rattle.laws.specs.Search.{lowest}
+use Rattle.laws.proofs.Search.{lowest-start, lowest-more, lowest-found, lowest-end}
+use Rattle.job.specs.Model.{view}
+use Rattle.schedule.specs.Ticks.{scheduleOf}
+use Rattle.schedule.specs.Checks.{broken}
+use borrow.Author.Needs.{needs}
+use Rattle.schedule.proofs.checks.first_broken.Statement.{statement}
+use Rattle.schedule.proofs.checks.first_broken.Tie as tie
+
+pub first-broken-spec : {M : Type 1} → statement M
+first-broken-spec =
+    tie.close
+    (tie.spec
+    (λ s job starts rule n k₀ k. (k ≤ n) × (lowest k (broken (view job s) (scheduleOf starts) rule) ≡ k))
+    (λ s job starts rule n k₀ k. n - k)
+    (λ c. (search needs, lowest-start _))
+    (λ c κs. search needs)
+    (λ c. lowest-found _ _ _ (c .before .before .before .loop .inv .1) (c .before .before .loop-test .taken) (c .before .broken .ensures) (c .if1 .taken))
+    (λ c. search needs)
+    (λ c. search needs)
+    (λ c. (search needs, lowest-more _ _ (c .before .before .before .loop .inv .1) (c .before .broken .ensures) (c .if1 .left)))
+    (λ c. lowest-end _ _ _ (c .before .loop .inv .1) (c .before .loop .inv .0) (c .loop-test .left)))

@@ -1,0 +1,15 @@
+-- The parts are those of `moved`.
+use Rattle.schedule.specs.Checks.{moved}
+use borrow.Author.Needs.{needs}
+use Rattle.schedule.proofs.checks.moved.Statement.{statement}
+use Rattle.schedule.proofs.checks.moved.Tie as tie
+
+pub moved-spec : {M : Type 1} → statement M
+unfolding moved
+moved-spec =
+    tie.close
+    (tie.spec
+    (λ c κs. search needs)
+    (λ c κs. search needs)
+    (λ c κs. search needs)
+    (λ c. cc))

@@ -1,0 +1,64 @@
+// Ticks of a job's points under a list of starts. A start past the list's end counts as 0, so nothing is asked of the caller;
+// starts are any u32, and sums are made in 64 bits.
+ghost use mathlib.Core.Path.{_≡_};
+ghost use Prim.Native.Nat.{_<_};
+ghost use Rattle.job.specs.Model.{view};
+ghost use Rattle.schedule.specs.Ticks.{scheduleOf, effectTick, firstTick, lastTick, useTick};
+ghost use Rattle.schedule.specs.Ticks as spec;
+use job::layout::Job;
+use job::records::*;
+
+fn wide(start: u32) -> usize
+    ensures { λ r. ⌜ (r ≡ start) × (r < 4294967296) ⌝ }
+{
+    start as usize
+}
+
+pub fn start_of(starts: &[u32], step: u16) -> usize
+    ensures { λ r. ⌜ (r ≡ scheduleOf (now (starts .entry)) step) × (r < 4294967296) ⌝ }
+{
+    let k = step as usize;
+    if k < starts.len() { wide(starts[k]) } else { 0 }
+}
+
+pub fn effect_tick(s: &[u8], job: Job, starts: &[u32], e: u16) -> usize
+    ensures { λ r. ⌜ (r ≡ effectTick (view job (now (s .entry))) (scheduleOf (now (starts .entry))) e) × (r < 8589934592) ⌝ }
+{
+    start_of(starts, effect_step(s, job, e)) + effect_at(s, job, e)
+}
+
+pub fn first_tick(s: &[u8], job: Job, starts: &[u32], c: u16) -> usize
+    ensures { λ r. ⌜ (r ≡ firstTick (view job (now (s .entry))) (scheduleOf (now (starts .entry))) c) × (r < 8589934592) ⌝ }
+{
+    start_of(starts, condition_step(s, job, c)) + condition_from(s, job, c)
+}
+
+pub fn last_tick(s: &[u8], job: Job, starts: &[u32], c: u16) -> usize
+    ensures { λ r. ⌜ (r ≡ lastTick (view job (now (s .entry))) (scheduleOf (now (starts .entry))) c) × (r < 8589934592) ⌝ }
+{
+    start_of(starts, condition_step(s, job, c)) + condition_to(s, job, c)
+}
+
+pub fn use_tick(s: &[u8], job: Job, starts: &[u32], u: u16) -> usize
+    ensures { λ r. ⌜ (r ≡ useTick (view job (now (s .entry))) (scheduleOf (now (starts .entry))) u) × (r < 8589934592) ⌝ }
+{
+    start_of(starts, use_step(s, job, u)) + use_at(s, job, u)
+}
+
+pub fn finish(s: &[u8], job: Job, starts: &[u32], k: u16) -> usize
+    ensures { λ r. ⌜ (r ≡ spec.finish (view job (now (s .entry))) (scheduleOf (now (starts .entry))) k) × (r < 8589934592) ⌝ }
+{
+    start_of(starts, k) + step_length(s, job, k)
+}
+
+pub fn opposes(s: &[u8], job: Job, e: u16, fact: u16, value: u16) -> bool
+    ensures { λ r. ⌜ r ≡ spec.opposes (view job (now (s .entry))) e fact value ⌝ }
+{
+    (effect_fact(s, job, e) == fact) & (effect_value(s, job, e) != value)
+}
+
+pub fn gives(s: &[u8], job: Job, e: u16, fact: u16, value: u16) -> bool
+    ensures { λ r. ⌜ r ≡ spec.gives (view job (now (s .entry))) e fact value ⌝ }
+{
+    (effect_fact(s, job, e) == fact) & (effect_value(s, job, e) == value)
+}

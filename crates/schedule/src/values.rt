@@ -1,0 +1,70 @@
+// The value of a fact that is seen at a tick.
+ghost use mathlib.Core.Path.{_≡_};
+ghost use Prim.Native.Nat.{max};
+ghost use Rattle.job.specs.Model.{view};
+ghost use Rattle.schedule.specs.Ticks.{scheduleOf};
+ghost use Rattle.schedule.specs.Seen.{setAt, lastSet, seen, afterAll};
+use crate::ticks::effect_tick;
+use crate::ticks::gives;
+use job::layout::Job;
+use job::records::fact_initial;
+
+fn larger(a: usize, b: usize) -> usize
+    ensures { λ r. ⌜ r ≡ max a b ⌝ }
+{
+    if a < b { b } else { a }
+}
+
+// One more than the tick of e, where it gives the fact that value before tick t; else 0.
+fn set_at(s: &[u8], job: Job, starts: &[u32], fact: u16, value: u16, t: usize, e: u16) -> usize
+    ensures { λ r. ⌜ r ≡ setAt (view job (now (s .entry))) (scheduleOf (now (starts .entry))) fact value t e ⌝ }
+{
+    let tick = effect_tick(s, job, starts, e);
+    if gives(s, job, e, fact, value) & (tick < t) {
+        tick + 1
+    } else {
+        0
+    }
+}
+
+fn last_set(s: &[u8], job: Job, starts: &[u32], fact: u16, value: u16, t: usize) -> usize
+    ensures { λ r. ⌜ r ≡ lastSet (view job (now (s .entry))) (scheduleOf (now (starts .entry))) fact value t ⌝ }
+{
+    let n = job.count.effects;
+    let mut last = 0;
+    let mut e = 0;
+    while e < n {
+        last = larger(last, set_at(s, job, starts, fact, value, t, e));
+        e += 1;
+    }
+    last
+}
+
+// The value of a fact seen at tick t.
+pub fn value_seen(s: &[u8], job: Job, starts: &[u32], fact: u16, t: usize) -> u16
+    ensures { λ r. ⌜ r ≡ seen (view job (now (s .entry))) (scheduleOf (now (starts .entry))) fact t ⌝ }
+{
+    let ones = last_set(s, job, starts, fact, 1, t);
+    let zeros = last_set(s, job, starts, fact, 0, t);
+    if zeros < ones {
+        1
+    } else if ones < zeros {
+        0
+    } else {
+        fact_initial(s, job, fact)
+    }
+}
+
+// A tick after all effects.
+pub fn after_all(s: &[u8], job: Job, starts: &[u32]) -> usize
+    ensures { λ r. ⌜ r ≡ afterAll (view job (now (s .entry))) (scheduleOf (now (starts .entry))) ⌝ }
+{
+    let n = job.count.effects;
+    let mut after = 0;
+    let mut e = 0;
+    while e < n {
+        after = larger(after, effect_tick(s, job, starts, e) + 1);
+        e += 1;
+    }
+    after
+}
