@@ -1,0 +1,3 @@
+-- Demand 3 over the model: every order is kept, what supports is found, and so each choice that obeys is sound with the same end.
+pub mod Orders
+pub mod Links
