@@ -2,13 +2,13 @@
 use Prim.Native.Nat.{ℕ, suc, _+_, _≤_, _<_}
 use mathlib.Core.Path.{_≡_, refl, sym, ap, ap₂, _∙_}
 use mathlib.Core.Bool.{Bool, true, false, _&&_, cond}
-use mathlib.Core.Logic.{_⊎_, ⊎-elim}
+use mathlib.Core.Logic.{_⊎_, inl, inr, ⊎-elim}
 use native.Mathlib.Omega.{arith}
 use borrow.Author.Tests.{ltb-true, eqb-true, lt-ltb, eq-eqb}
 use lib.Dec.{ltb, eqb}
-use Rattle.laws.specs.Fold.{sum}
+use Rattle.laws.specs.Fold.{largest, sum}
 use Rattle.laws.proofs.Search.{either, and-both}
-use Rattle.laws.proofs.Fold.{largest-ge, sum-le}
+use Rattle.laws.proofs.Fold.{largest-ge, largest-at, sum-le}
 use Rattle.job.specs.Model.{Model}
 use Rattle.schedule.specs.Ticks.{useTick}
 use Rattle.schedule.specs.Levels.{rise, fall, usedBy, risesBefore, fallsBefore, afterUses}
@@ -80,3 +80,33 @@ module _ (m : Model) (x y : ℕ → ℕ) (l : ℕ) where
 
   pub falls-end : fallsBefore m x l (afterUses m x) ≡ fallsBefore m y l (afterUses m y)
   falls-end = falls-same m x y l (afterUses m x) (afterUses m y) (λ u h _ _. afterUses-ge m y u h) (λ u h _ _. afterUses-ge m x u h)
+
+-- one more than the tick of a use of the level before t, else 0
+abbrev usedAt : Model → (ℕ → ℕ) → ℕ → ℕ → ℕ → ℕ
+usedAt m x l t u = cond (usedBy m x l t u) (suc (useTick m x u)) 0
+
+module _ (m : Model) (x : ℕ → ℕ) (l t : ℕ) where
+  used-le : (u : ℕ) → u < m .uses → m .useLevel u ≡ l → useTick m x u < t → useTick m x u < largest (m .uses) (usedAt m x l t)
+  used-le u h a g =
+      let q : usedAt m x l t u ≡ suc (useTick m x u) = ap (λ b. cond b (suc (useTick m x u)) 0) (ap₂ _&&_ (eq-eqb _ _ a) (lt-ltb _ _ g)) in
+      omega (arith, largest-ge (usedAt m x l t) (m .uses) u h)
+
+  -- the last use of a level before t, or none
+  pub last-use :
+      ((u : ℕ) → u < m .uses → m .useLevel u ≡ l → useTick m x u < t → ⊥)
+      ⊎ ((u : ℕ) × (u < m .uses) × (m .useLevel u ≡ l) × (useTick m x u < t)
+      × ((v : ℕ) → v < m .uses → m .useLevel v ≡ l → useTick m x v < t → useTick m x v ≤ useTick m x u))
+  last-use =
+      ⊎-elim
+      (λ (z : largest (m .uses) (usedAt m x l t) ≡ 0). inl (λ u h a g. omega (arith, used-le u h a g)))
+      (λ (w : (u : ℕ) × (u < m .uses) × (usedAt m x l t u ≡ largest (m .uses) (usedAt m x l t))).
+      ⊎-elim
+      (λ (e : usedBy m x l t (w .0) ≡ true).
+      let b = and-both _ _ e in
+      let q : usedAt m x l t (w .0) ≡ suc (useTick m x (w .0)) = ap (λ b. cond b (suc (useTick m x (w .0))) 0) e in
+      inr (w .0, w .1, eqb-true _ _ (b .0), ltb-true _ _ (b .1), λ v h a g. omega (arith, used-le v h a g, w .2)))
+      (λ (e : usedBy m x l t (w .0) ≡ false).
+      let q : usedAt m x l t (w .0) ≡ 0 = ap (λ b. cond b (suc (useTick m x (w .0))) 0) e in
+      inl (λ u h a g. omega (arith, used-le u h a g, w .2)))
+      (either (usedBy m x l t (w .0))))
+      (largest-at (usedAt m x l t) (m .uses))
