@@ -1,0 +1,1 @@
+-- A valid schedule obeys the orders and limits found in it.
