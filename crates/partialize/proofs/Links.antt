@@ -32,7 +32,7 @@ pub data Linked (m : Model) (x : ℕ → ℕ) (fact v t link : ℕ) : Type 0 whe
       → Linked m x fact v t link
 
 -- the least is the number for none or some value
-least-at : (f : ℕ → ℕ) (none n : ℕ) → (least n none f ≡ none) ⊎ ((k : ℕ) × (k < n) × (f k ≡ least n none f))
+pub least-at : (f : ℕ → ℕ) (none n : ℕ) → (least n none f ≡ none) ⊎ ((k : ℕ) × (k < n) × (f k ≡ least n none f))
 unfolding least
 least-at f none zero = inl refl
 least-at f none (suc n) =

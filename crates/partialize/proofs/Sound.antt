@@ -141,14 +141,15 @@ module _ (m : Model) (x y : ℕ → ℕ) (w : WellFormed m) (s : Valid m x) (o :
             let q : latestOf m x k ≤ m .goalDeadline g - m .effectAt e =
             omega (arith, latest-free m x k f, allowed-linked m x g d n, least-le (allowed m x k) (m .goals) noLatest g h)
             in
-            omega
-            (arith,
-            o .byLatest k (w .effectStep e l)
-            (λ z.
-            ⊎-elim
-            (λ (r : m .goalDeadline g ≤ 1100000). omega arith)
-            (λ (r : m .goalDeadline g ≡ noDeadline). d r)
-            (w .goalDeadline g h)))
+            omega (
+              arith,
+              o .byLatest k (w .effectStep e l)
+                  (λ z.
+                  ⊎-elim
+                  (λ (r : m .goalDeadline g ≤ 1100000). omega arith)
+                  (λ (r : m .goalDeadline g ≡ noDeadline). d r)
+                  (w .goalDeadline g h)),
+            )
       ]
 
   -- goals
@@ -176,14 +177,15 @@ module _ (m : Model) (x y : ℕ → ℕ) (w : WellFormed m) (s : Valid m x) (o :
       ⊎-elim
       (λ (n : (u : ℕ) → u < m .uses → m .useLevel u ≡ l → useTick m y u < suc t → ⊥).
       (0, λ u h a b. absurd (n u h a b), λ u h a b. absurd (omega arith)))
-      (λ (u : (u : ℕ) × (u < m .uses) × (m .useLevel u ≡ l) × (useTick m y u < suc t) × ((v : ℕ) → v < m .uses → m .useLevel v ≡ l → useTick m y v < suc t → useTick m y v ≤ useTick m y u)).
-      (useTick m x (u .0),
-      λ v h a b.
-      elim (decLt (useTick m x (u .0)) (useTick m x v)) [
-        | yes r ↦ absurd (omega (arith, u .4 v h a b, kept-uses m x y w o (u .0) v (u .1) h (u .2 ∙ sym a) r))
-        | no r ↦ omega arith
-      ],
-      λ v h a b. omega (arith, u .3, kept-uses m x y w o v (u .0) h (u .1) (a ∙ sym (u .2)) b)))
+      (λ (u : (u : ℕ) × (u < m .uses) × (m .useLevel u ≡ l) × (useTick m y u < suc t) × ((v : ℕ) → v < m .uses → m .useLevel v ≡ l → useTick m y v < suc t → useTick m y v ≤ useTick m y u)). (
+        useTick m x (u .0),
+        λ v h a b.
+            elim (decLt (useTick m x (u .0)) (useTick m x v)) [
+              | yes r ↦ absurd (omega (arith, u .4 v h a b, kept-uses m x y w o (u .0) v (u .1) h (u .2 ∙ sym a) r))
+              | no r ↦ omega arith
+            ],
+        λ v h a b. omega (arith, u .3, kept-uses m x y w o v (u .0) h (u .1) (a ∙ sym (u .2)) b),
+      ))
       (last-use m y l (suc t))
 
   level-low : (l t : ℕ) → l < m .levels → m .levelLeast l + fallsBefore m y l (suc t) ≤ m .levelInitial l + risesBefore m y l t
