@@ -1,2 +1,4 @@
 -- Laws of the definitions in specs/, and what the code's tests and sums say of them.
+pub mod Seen
+pub mod Levels
 pub mod Steps

@@ -1,0 +1,225 @@
+-- What obeys is valid. Conflicting effects keep their order, a condition's opposing effects stay before its first tick or after its
+-- last, its link before its first tick; so at each of its ticks the last earlier effect on the fact does not oppose it. A goal is
+-- carried the same way, a deadline by its link's latest start. For levels let T be the planned tick of the last use before t: uses
+-- up to t were planned up to T, and uses planned before T lie before t; so the bounds carry over by two inequalities of sums.
+use Prim.Native.Nat.{ℕ, suc, _+_, _-_, _≤_, _<_}
+use mathlib.Core.Path.{_≡_, refl, sym, ap, _∙_}
+use mathlib.Core.Logic.{_⊎_, inl, inr, ⊎-elim}
+use native.Mathlib.Decide.{ℕ-discrete, decLt, decLe}
+use native.Mathlib.Omega.{arith}
+use Rattle.laws.proofs.Search.{by-order}
+use Rattle.laws.proofs.Fold.{least-le}
+use Rattle.job.specs.Model.{Model}
+use Rattle.job.specs.Ranges.{noDeadline}
+use Rattle.job.specs.WellFormed.{WellFormed}
+use Rattle.schedule.specs.Ticks.{effectTick, firstTick, lastTick, useTick, finish}
+use Rattle.schedule.specs.Seen.{seen, afterAll}
+use Rattle.schedule.specs.Levels.{risesBefore, fallsBefore}
+use Rattle.schedule.specs.Valid.{Valid}
+use Rattle.schedule.proofs.Seen.{Giver, seen-by-effect, seen-by-initial, afterAll-ge}
+use Rattle.schedule.proofs.Levels.{Within, rises-within, falls-within, last-use}
+use Rattle.partialize.specs.Links.{initialState, conditionLink, goalLink}
+use Rattle.partialize.specs.Windows.{noLatest, limitOf, allowed, latestOf}
+use Rattle.partialize.specs.Obeys.{Obeys}
+use Rattle.partialize.proofs.Orders.{kept-opposing, kept-support, kept-before, kept-after, kept-uses, kept-serial}
+use Rattle.partialize.proofs.Links.{Linked, initially, produced, condition-linked, goal-linked, goal-link-in-time}
+use Rattle.partialize.proofs.Limits.{limit-fixed, latest-fixed, latest-free, allowed-linked}
+
+module _ (m : Model) (x y : ℕ → ℕ) (w : WellFormed m) (s : Valid m x) (o : Obeys m x y) where
+  -- effects
+  effects-apart :
+      (e f : ℕ) → e < m .effects → f < m .effects → (m .effectStep e ≡ m .effectStep f → ⊥) → m .effectFact e ≡ m .effectFact f
+      → effectTick m y e ≡ effectTick m y f
+      → m .effectValue e ≡ m .effectValue f
+  effects-apart e f h g d a q =
+      elim (ℕ-discrete (m .effectValue e) (m .effectValue f)) [
+        | yes v ↦ v
+        | no v ↦
+            by-order (effectTick m x e) (effectTick m x f)
+            (λ l. absurd (omega (arith, kept-opposing m x y w o e f h g a v l)))
+            (λ l. absurd (omega (arith, kept-opposing m x y w o f e g h (sym a) (λ z. v (sym z)) l)))
+            (λ l. s .effectsApart e f h g d a l)
+      ]
+
+  -- opposing effects on a fact stay in order
+  pub kept-givers :
+      (fact v e f : ℕ) → Giver m fact v e → Giver m fact (1 - v) f → effectTick m x f < effectTick m x e
+      → effectTick m y f < effectTick m y e
+  kept-givers fact v e f g k l =
+      kept-opposing m x y w o f e (k .known) (g .known) (k .ofFact ∙ sym (g .ofFact)) (λ z. omega (arith, k .ofValue, g .ofValue)) l
+
+  -- conditions
+  planned-apart :
+      (c e : ℕ) → c < m .conditions → e < m .effects → (m .effectStep e ≡ m .conditionStep c → ⊥) → m .effectFact e ≡ m .conditionFact c
+      → (m .effectValue e ≡ m .conditionValue c → ⊥)
+      → (effectTick m x e < firstTick m x c) ⊎ (lastTick m x c < effectTick m x e)
+  planned-apart c e h g d a v =
+      elim (decLt (effectTick m x e) (firstTick m x c)) [ yes l ↦ inl l | no l ↦ inr (later (decLt (lastTick m x c) (effectTick m x e)) l) ]
+    where
+      later : Dec (lastTick m x c < effectTick m x e) → (effectTick m x e < firstTick m x c → ⊥) → lastTick m x c < effectTick m x e
+      later (yes r) l = r
+      later (no r) l = absurd (v (s .conditionKept c e h g d a (omega arith) (omega arith)))
+
+  condition-kept :
+      (c e : ℕ) → c < m .conditions → e < m .effects → (m .effectStep e ≡ m .conditionStep c → ⊥) → m .effectFact e ≡ m .conditionFact c
+      → firstTick m y c ≤ effectTick m y e
+      → effectTick m y e ≤ lastTick m y c
+      → m .effectValue e ≡ m .conditionValue c
+  condition-kept c e h g d a l r =
+      elim (ℕ-discrete (m .effectValue e) (m .conditionValue c)) [
+        | yes v ↦ v
+        | no v ↦
+            ⊎-elim
+            (λ (b : effectTick m x e < firstTick m x c). absurd (omega (arith, kept-before m x y w o c e h g a v b)))
+            (λ (b : lastTick m x c < effectTick m x e). absurd (omega (arith, kept-after m x y w o c e h g a v b)))
+            (planned-apart c e h g d a v)
+      ]
+
+  -- an opposing effect before the last tick was planned before the first
+  opposed-before :
+      (c f : ℕ) → c < m .conditions → Giver m (m .conditionFact c) (1 - m .conditionValue c) f → effectTick m y f < lastTick m y c
+      → effectTick m x f < firstTick m x c
+  opposed-before c f h g l =
+      let v : m .effectValue f ≡ m .conditionValue c → ⊥ = λ z. omega (arith, g .ofValue) in
+      elim (ℕ-discrete (m .effectStep f) (m .conditionStep c)) [
+        | yes e ↦ own v e (decLt (effectTick m x f) (firstTick m x c))
+        | no d ↦
+            ⊎-elim
+            (λ (b : effectTick m x f < firstTick m x c). b)
+            (λ (b : lastTick m x c < effectTick m x f). absurd (omega (arith, kept-after m x y w o c f h (g .known) (g .ofFact) v b)))
+            (planned-apart c f h (g .known) d (g .ofFact) v)
+      ]
+    where
+      own : (m .effectValue f ≡ m .conditionValue c → ⊥) → m .effectStep f ≡ m .conditionStep c → Dec (effectTick m x f < firstTick m x c) → effectTick m x f < firstTick m x c
+      own v e (yes b) = b
+      own v e (no b) =
+          let p : x (m .effectStep f) ≡ x (m .conditionStep c) = ap x e in
+          let q : y (m .effectStep f) ≡ y (m .conditionStep c) = ap y e in
+          absurd (v (w .keepsOwn f c (g .known) h e (g .ofFact) (omega arith) (omega arith)))
+
+  not-initial : (k : ℕ) → k < m .effects → k ≡ initialState → ⊥
+  not-initial k h z = omega (arith, w .effectCount)
+
+  condition-seen : (c t : ℕ) → c < m .conditions → firstTick m y c ≤ t → t ≤ lastTick m y c → seen m y (m .conditionFact c) t ≡ m .conditionValue c
+  condition-seen c t h l r = by (condition-linked m x w s c h)
+    where
+      by : Linked m x (m .conditionFact c) (m .conditionValue c) (firstTick m x c) (conditionLink m x c) → seen m y (m .conditionFact c) t ≡ m .conditionValue c
+      by (initially z i n) =
+          seen-by-initial m y (m .conditionFact c) (m .conditionValue c) t (w .conditionValue c h) i
+          (λ f g k. n f g (opposed-before c f h g (omega arith)))
+      by (produced g b n) =
+          let e = conditionLink m x c in
+          seen-by-effect m y (m .conditionFact c) (m .conditionValue c) t e (w .conditionValue c h) g
+          (omega (arith, kept-support m x y w o c h (not-initial e (g .known)) (g .known) b))
+          (λ f k q. kept-givers (m .conditionFact c) (m .conditionValue c) e f g k (n f k (opposed-before c f h k (omega arith))))
+
+  -- a fact keeps the value of an effect that was planned after all that opposes it
+  pub carried :
+      (fact v t e : ℕ) → v ≤ 1 → Giver m fact v e → ((f : ℕ) → Giver m fact (1 - v) f → effectTick m x f < effectTick m x e)
+      → effectTick m y e < t
+      → seen m y fact t ≡ v
+  carried fact v t e b g n l = seen-by-effect m y fact v t e b g l (λ f k _. kept-givers fact v e f g k (n f k))
+
+  -- a fixed step
+  fixed-kept : (k : ℕ) → k < m .steps → m .fixed k ≡ 1 → y k ≡ m .start k
+  fixed-kept k h f =
+      let q : latestOf m x k ≡ m .start k = latest-fixed m x k f in
+      omega (arith, limit-fixed m x k f, o .fromLimit k h, o .byLatest k h (λ z. omega (arith, w .startRange k h)))
+
+  -- the link of a goal with a deadline stays in time: its step is fixed, or has a latest start
+  link-in-time :
+      (g : ℕ) → g < m .goals → (m .goalDeadline g ≡ noDeadline → ⊥) → goalLink m x g < m .effects
+      → effectTick m y (goalLink m x g) ≤ m .goalDeadline g
+  link-in-time g h d l =
+      let e = goalLink m x g in
+      let k = m .effectStep e in
+      let n : e ≡ initialState → ⊥ = not-initial e l in
+      let b : effectTick m x e ≤ m .goalDeadline g = goal-link-in-time m x w s g h d n in
+      elim (ℕ-discrete (m .fixed k) 1) [
+        | yes f ↦ omega (arith, fixed-kept k (w .effectStep e l) f, s .fixedKept k (w .effectStep e l) f)
+        | no f ↦
+            let q : latestOf m x k ≤ m .goalDeadline g - m .effectAt e =
+            omega (arith, latest-free m x k f, allowed-linked m x g d n, least-le (allowed m x k) (m .goals) noLatest g h)
+            in
+            omega (
+              arith,
+              o .byLatest k (w .effectStep e l)
+                  (λ z.
+                  ⊎-elim
+                  (λ (r : m .goalDeadline g ≤ 1100000). omega arith)
+                  (λ (r : m .goalDeadline g ≡ noDeadline). d r)
+                  (w .goalDeadline g h)),
+            )
+      ]
+
+  -- goals
+  goal-seen : (g t : ℕ) → g < m .goals → (goalLink m x g < m .effects → effectTick m y (goalLink m x g) < t) → seen m y (m .goalFact g) t ≡ m .goalValue g
+  goal-seen g t h l = by (goal-linked m x w s g h)
+    where
+      by : Linked m x (m .goalFact g) (m .goalValue g) (afterAll m x) (goalLink m x g) → seen m y (m .goalFact g) t ≡ m .goalValue g
+      by (initially z i n) =
+          seen-by-initial m y (m .goalFact g) (m .goalValue g) t (w .goalValue g h) i (λ f k _. n f k (afterAll-ge m x f (k .known)))
+      by (produced e b n) =
+          carried (m .goalFact g) (m .goalValue g) t (goalLink m x g) (w .goalValue g h) e
+          (λ f k. n f k (afterAll-ge m x f (k .known)))
+          (l (e .known))
+
+  goal-reached : (g : ℕ) → g < m .goals → seen m y (m .goalFact g) (afterAll m y) ≡ m .goalValue g
+  goal-reached g h = goal-seen g (afterAll m y) h (afterAll-ge m y (goalLink m x g))
+
+  goal-in-time :
+      (g t : ℕ) → g < m .goals → (m .goalDeadline g ≡ noDeadline → ⊥) → m .goalDeadline g < t → seen m y (m .goalFact g) t ≡ m .goalValue g
+  goal-in-time g t h d l = goal-seen g t h (λ e. omega (arith, link-in-time g h d e))
+
+  -- levels: the planned tick that bounds a level up to t
+  planned-tick : (l t : ℕ) → (T : ℕ) × Within m y x l (suc t) (suc T) × Within m x y l T t
+  planned-tick l t =
+      ⊎-elim
+      (λ (n : (u : ℕ) → u < m .uses → m .useLevel u ≡ l → useTick m y u < suc t → ⊥).
+      (0, λ u h a b. absurd (n u h a b), λ u h a b. absurd (omega arith)))
+      (λ (u : (u : ℕ) × (u < m .uses) × (m .useLevel u ≡ l) × (useTick m y u < suc t) × ((v : ℕ) → v < m .uses → m .useLevel v ≡ l → useTick m y v < suc t → useTick m y v ≤ useTick m y u)). (
+        useTick m x (u .0),
+        λ v h a b.
+            elim (decLt (useTick m x (u .0)) (useTick m x v)) [
+              | yes r ↦ absurd (omega (arith, u .4 v h a b, kept-uses m x y w o (u .0) v (u .1) h (u .2 ∙ sym a) r))
+              | no r ↦ omega arith
+            ],
+        λ v h a b. omega (arith, u .3, kept-uses m x y w o v (u .0) h (u .1) (a ∙ sym (u .2)) b),
+      ))
+      (last-use m y l (suc t))
+
+  level-low : (l t : ℕ) → l < m .levels → m .levelLeast l + fallsBefore m y l (suc t) ≤ m .levelInitial l + risesBefore m y l t
+  level-low l t h =
+      let T = planned-tick l t in
+      omega (arith, s .levelLow l (T .0) h, falls-within m y x l (suc t) (suc (T .0)) (T .1), rises-within m x y l (T .0) t (T .2))
+
+  level-high : (l t : ℕ) → l < m .levels → m .levelInitial l + risesBefore m y l (suc t) ≤ m .levelMost l + fallsBefore m y l t
+  level-high l t h =
+      let T = planned-tick l t in
+      omega (arith, s .levelHigh l (T .0) h, rises-within m y x l (suc t) (suc (T .0)) (T .1), falls-within m x y l (T .0) t (T .2))
+
+  -- serial jobs
+  serial-apart : m .serial ≡ 1 → (i k : ℕ) → i < m .steps → k < m .steps → (i ≡ k → ⊥) → (finish m y i ≤ y k) ⊎ (finish m y k ≤ y i)
+  serial-apart a i k h g d =
+      ⊎-elim
+      (λ (l : finish m x i ≤ x k). kept-serial m x y w o i k a h g d l)
+      (λ (l : finish m x k ≤ x i).
+      ⊎-elim
+      (λ (r : finish m y k ≤ y i). inr r)
+      (λ (r : finish m y i ≤ y k). inl r)
+      (kept-serial m x y w o k i a g h (λ e. d (sym e)) l))
+      (s .serialApart a i k h g d)
+
+  pub obeying-valid : Valid m y
+  obeying-valid =
+      record {
+        effectsApart = effects-apart;
+        conditionSeen = condition-seen;
+        conditionKept = condition-kept;
+        levelLow = level-low;
+        levelHigh = level-high;
+        goalReached = goal-reached;
+        goalInTime = goal-in-time;
+        serialApart = serial-apart;
+        fixedKept = fixed-kept;
+      }

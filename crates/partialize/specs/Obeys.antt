@@ -1,0 +1,14 @@
+-- A choice obeys the orders and limits that are found by the ticks of the planned schedule x.
+use Prim.Native.Nat.{ℕ, _+_, _≤_, _<_}
+use mathlib.Core.Path.{_≡_}
+use Rattle.job.specs.Model.{Model}
+use Rattle.partialize.specs.Gaps.{gapOf}
+use Rattle.partialize.specs.Windows.{noLatest, limitOf, latestOf}
+
+pub record Obeys (m : Model) (x y : ℕ → ℕ) : Type 0 where
+  -- every start is at least its step's earliest limit
+  pub fromLimit : (k : ℕ) → k < m .steps → limitOf m k ≤ y k
+  -- at most its latest start unless that is none
+  pub byLatest : (k : ℕ) → k < m .steps → (latestOf m x k ≡ noLatest → ⊥) → y k ≤ latestOf m x k
+  -- every order holds
+  pub keeps : (i k : ℕ) → i < m .steps → k < m .steps → (gapOf m x i k ≡ 0 → ⊥) → y i + gapOf m x i k ≤ y k + 100000

@@ -1,0 +1,220 @@
+-- Laws of the value seen: what sets a fact last, what is seen for it, what a seen value tells, and how long it stays.
+use Prim.Native.Nat.{ℕ, zero, suc, _-_, _≤_, _<_}
+use mathlib.Core.Path.{_≡_, refl, sym, ap, ap₂, subst, _∙_}
+use mathlib.Core.Bool.{Bool, true, false, _&&_, cond}
+use mathlib.Core.Logic.{_⊎_, inl, inr, ⊎-elim}
+use native.Mathlib.Decide.{decLt}
+use native.Mathlib.Omega.{arith}
+use borrow.Author.Tests.{ltb-true, eqb-true, lt-ltb, le-ltb, eq-eqb}
+use lib.Dec.{ltb, eqb}
+use Rattle.laws.proofs.Search.{either, contrary, by-order, and-both}
+use Rattle.laws.proofs.Fold.{largest-ge, largest-le, largest-at}
+use Rattle.job.specs.Model.{Model}
+use Rattle.schedule.specs.Ticks.{effectTick, gives}
+use Rattle.schedule.specs.Seen.{setAt, lastSet, seen, afterAll}
+
+-- effect e gives the fact that value
+pub record Giver (m : Model) (fact value e : ℕ) : Type 0 where
+  pub known : e < m .effects
+  pub ofFact : m .effectFact e ≡ fact
+  pub ofValue : m .effectValue e ≡ value
+
+module _ (m : Model) (x : ℕ → ℕ) (fact : ℕ) where
+  set-by : (v t e : ℕ) → Giver m fact v e → effectTick m x e < t → setAt m x fact v t e ≡ suc (effectTick m x e)
+  unfolding setAt
+  set-by v t e g h =
+      ap (λ b. cond b (suc (effectTick m x e)) 0)
+      (ap₂ _&&_ (ap₂ _&&_ (eq-eqb _ _ (g .ofFact)) (eq-eqb _ _ (g .ofValue))) (lt-ltb _ _ h))
+
+  -- what is set is set by a giver before t
+  set-at : (v t e : ℕ) → e < m .effects → (setAt m x fact v t e ≡ 0) ⊎ (Giver m fact v e × (effectTick m x e < t) × (setAt m x fact v t e ≡ suc (effectTick m x e)))
+  unfolding setAt
+  set-at v t e h =
+      ⊎-elim
+      (λ (a : (gives m e fact v && ltb (effectTick m x e) t) ≡ true).
+      let b = and-both _ _ a in
+      let c = and-both _ _ (b .0) in
+      inr (record { known = h; ofFact = eqb-true _ _ (c .0); ofValue = eqb-true _ _ (c .1) }, ltb-true _ _ (b .1), ap (λ b. cond b (suc (effectTick m x e)) 0) a))
+      (λ (a : (gives m e fact v && ltb (effectTick m x e) t) ≡ false). inl (ap (λ b. cond b (suc (effectTick m x e)) 0) a))
+      (either (gives m e fact v && ltb (effectTick m x e) t))
+
+  -- a giver before t is at most the last one
+  pub lastSet-ge : (v t e : ℕ) → Giver m fact v e → effectTick m x e < t → effectTick m x e < lastSet m x fact v t
+  unfolding lastSet
+  lastSet-ge v t e g h = omega (arith, set-by v t e g h, largest-ge (setAt m x fact v t) (m .effects) e (g .known))
+
+  -- what bounds every giver before t bounds the last one
+  pub lastSet-le : (v t b : ℕ) → ((e : ℕ) → Giver m fact v e → effectTick m x e < t → effectTick m x e < b) → lastSet m x fact v t ≤ b
+  unfolding lastSet
+  lastSet-le v t b h =
+      largest-le (setAt m x fact v t) (m .effects) b
+      (λ e k.
+      ⊎-elim
+      (λ (z : setAt m x fact v t e ≡ 0). omega arith)
+      (λ (w : Giver m fact v e × (effectTick m x e < t) × (setAt m x fact v t e ≡ suc (effectTick m x e))).
+      omega (arith, h e (w .0) (w .1)))
+      (set-at v t e k))
+
+  -- nothing has set the value, or a giver is the last one
+  pub lastSet-at :
+      (v t : ℕ) → (lastSet m x fact v t ≡ 0)
+      ⊎ ((e : ℕ) × Giver m fact v e × (effectTick m x e < t) × (suc (effectTick m x e) ≡ lastSet m x fact v t))
+  unfolding lastSet
+  lastSet-at v t =
+      ⊎-elim
+      (λ (z : lastSet m x fact v t ≡ 0). inl z)
+      (λ (w : (e : ℕ) × (e < m .effects) × (setAt m x fact v t e ≡ lastSet m x fact v t)).
+      ⊎-elim
+      (λ (z : setAt m x fact v t (w .0) ≡ 0). inl (sym (w .2) ∙ z))
+      (λ (g : Giver m fact v (w .0) × (effectTick m x (w .0) < t) × (setAt m x fact v t (w .0) ≡ suc (effectTick m x (w .0)))).
+      inr (w .0, g .0, g .1, sym (g .2) ∙ w .2))
+      (set-at v t (w .0) (w .1)))
+      (largest-at (setAt m x fact v t) (m .effects))
+
+  pub lastSet-le-tick : (v t : ℕ) → lastSet m x fact v t ≤ t
+  lastSet-le-tick v t = lastSet-le v t t (λ e g h. h)
+
+  -- where every giver before t lies before t', the last one is no later there
+  pub lastSet-grows : (v t t' : ℕ) → ((e : ℕ) → Giver m fact v e → effectTick m x e < t → effectTick m x e < t') → lastSet m x fact v t ≤ lastSet m x fact v t'
+  lastSet-grows v t t' h = lastSet-le v t (lastSet m x fact v t') (λ e g l. lastSet-ge v t' e g (h e g l))
+
+  -- the later of the two values is seen, and the initial value where neither is later
+  seen-later : (v t : ℕ) → v ≤ 1 → lastSet m x fact (1 - v) t < lastSet m x fact v t → seen m x fact t ≡ v
+  unfolding seen
+  seen-later zero t b h = simp (lt-ltb _ _ h, le-ltb (lastSet m x fact 0 t) (lastSet m x fact 1 t) (omega arith))
+  seen-later (suc zero) t b h = simp (lt-ltb _ _ h)
+  seen-later (suc (suc v)) t b h = absurd (omega arith)
+
+  seen-tied : (v t : ℕ) → v ≤ 1 → lastSet m x fact (1 - v) t ≡ lastSet m x fact v t → seen m x fact t ≡ m .initial fact
+  unfolding seen
+  seen-tied zero t b h = simp (le-ltb (lastSet m x fact 0 t) (lastSet m x fact 1 t) (omega arith), le-ltb (lastSet m x fact 1 t) (lastSet m x fact 0 t) (omega arith))
+  seen-tied (suc zero) t b h = simp (le-ltb (lastSet m x fact 0 t) (lastSet m x fact 1 t) (omega arith), le-ltb (lastSet m x fact 1 t) (lastSet m x fact 0 t) (omega arith))
+  seen-tied (suc (suc v)) t b h = absurd (omega arith)
+
+  -- a value is seen exactly where the other was not set later, and where neither was, it is the initial one
+  pub seen-is :
+      (v t : ℕ) → v ≤ 1 → lastSet m x fact (1 - v) t ≤ lastSet m x fact v t
+      → (lastSet m x fact (1 - v) t ≡ lastSet m x fact v t → m .initial fact ≡ v)
+      → seen m x fact t ≡ v
+  seen-is v t b h i =
+      elim (decLt (lastSet m x fact (1 - v) t) (lastSet m x fact v t)) [
+        | yes l ↦ seen-later v t b l
+        | no l ↦ let e : lastSet m x fact (1 - v) t ≡ lastSet m x fact v t = omega arith in seen-tied v t b e ∙ i e
+      ]
+
+  pub seen-tells :
+      (v t : ℕ) → v ≤ 1 → seen m x fact t ≡ v
+      → (lastSet m x fact (1 - v) t ≤ lastSet m x fact v t) × (lastSet m x fact (1 - v) t ≡ lastSet m x fact v t → m .initial fact ≡ v)
+  seen-tells v t b h =
+      by-order (lastSet m x fact (1 - v) t) (lastSet m x fact v t)
+      (λ l. (omega arith, λ e. absurd (omega arith)))
+      (λ l.
+      let o : 1 - (1 - v) ≡ v = omega arith in
+      let s : seen m x fact t ≡ 1 - v = seen-later (1 - v) t (omega arith) (rw o l) in
+      absurd (omega arith))
+      (λ e. (omega arith, λ _. sym (seen-tied v t b e) ∙ h))
+
+  -- a giver before t, with every opposing one before t before it
+  pub seen-by-effect :
+      (v t e : ℕ) → v ≤ 1 → Giver m fact v e → effectTick m x e < t
+      → ((f : ℕ) → Giver m fact (1 - v) f → effectTick m x f < t → effectTick m x f < effectTick m x e)
+      → seen m x fact t ≡ v
+  seen-by-effect v t e b g h o =
+      seen-later v t b (omega (arith, lastSet-ge v t e g h, lastSet-le (1 - v) t (effectTick m x e) o))
+
+  -- the initial value, with nothing opposing before t
+  pub seen-by-initial :
+      (v t : ℕ) → v ≤ 1 → m .initial fact ≡ v → ((f : ℕ) → Giver m fact (1 - v) f → effectTick m x f < t → ⊥) → seen m x fact t ≡ v
+  seen-by-initial v t b i o =
+      let z : lastSet m x fact (1 - v) t ≤ 0 = lastSet-le (1 - v) t 0 (λ f g h. absurd (o f g h)) in
+      seen-is v t b (omega arith) (λ _. i)
+
+  -- the other value, by an effect that opposes v after every giver of v before t
+  pub seen-other :
+      (v t f : ℕ) → v ≤ 1 → Giver m fact (1 - v) f → effectTick m x f < t
+      → ((e : ℕ) → Giver m fact v e → effectTick m x e < t → effectTick m x e < effectTick m x f)
+      → seen m x fact t ≡ 1 - v
+  seen-other v t f b g h o =
+      let q : 1 - (1 - v) ≡ v = omega arith in
+      seen-by-effect (1 - v) t f (omega arith) g h (rw q o)
+
+  -- why a value is seen: a giver after the last opposing effect, or the initial value where neither was set later
+  pub seen-why :
+      (v t : ℕ) → v ≤ 1 → seen m x fact t ≡ v
+      → ((e : ℕ) × Giver m fact v e × (effectTick m x e < t) × (lastSet m x fact (1 - v) t ≤ effectTick m x e))
+      ⊎ ((m .initial fact ≡ v) × (lastSet m x fact (1 - v) t ≡ lastSet m x fact v t))
+  seen-why v t b h =
+      let w = seen-tells v t b h in
+      by-order (lastSet m x fact (1 - v) t) (lastSet m x fact v t)
+      (λ l.
+      ⊎-elim
+      (λ (z : lastSet m x fact v t ≡ 0). absurd (omega arith))
+      (λ (g : (e : ℕ) × Giver m fact v e × (effectTick m x e < t) × (suc (effectTick m x e) ≡ lastSet m x fact v t)).
+      inl (g .0, g .1, g .2, omega arith))
+      (lastSet-at v t))
+      (λ l. absurd (omega arith))
+      (λ e. inr (w .1 e, e))
+
+  -- where no two opposing effects share a tick, the initial value is seen only before any opposing effect
+  pub seen-why-apart :
+      (v t : ℕ) → v ≤ 1 → ((e f : ℕ) → Giver m fact v e → Giver m fact (1 - v) f → effectTick m x e ≡ effectTick m x f → ⊥)
+      → seen m x fact t ≡ v
+      → ((e : ℕ) × Giver m fact v e × (effectTick m x e < t) × (lastSet m x fact (1 - v) t ≤ effectTick m x e))
+      ⊎ ((m .initial fact ≡ v) × (lastSet m x fact (1 - v) t ≡ 0))
+  seen-why-apart v t b a h =
+      ⊎-elim
+      (λ (g : (e : ℕ) × Giver m fact v e × (effectTick m x e < t) × (lastSet m x fact (1 - v) t ≤ effectTick m x e)). inl g)
+      (λ (i : (m .initial fact ≡ v) × (lastSet m x fact (1 - v) t ≡ lastSet m x fact v t)).
+      ⊎-elim
+      (λ (z : lastSet m x fact (1 - v) t ≡ 0). inr (i .0, z))
+      (λ (f : (f : ℕ) × Giver m fact (1 - v) f × (effectTick m x f < t) × (suc (effectTick m x f) ≡ lastSet m x fact (1 - v) t)).
+      ⊎-elim
+      (λ (z : lastSet m x fact v t ≡ 0). absurd (omega arith))
+      (λ (e : (e : ℕ) × Giver m fact v e × (effectTick m x e < t) × (suc (effectTick m x e) ≡ lastSet m x fact v t)).
+      absurd (a (e .0) (f .0) (e .1) (f .1) (omega arith)))
+      (lastSet-at v t))
+      (lastSet-at (1 - v) t))
+      (seen-why v t b h)
+
+  -- a value stays until an effect opposes it
+  pub seen-persists :
+      (v t t' : ℕ) → v ≤ 1 → t ≤ t' → ((f : ℕ) → Giver m fact (1 - v) f → t ≤ effectTick m x f → effectTick m x f < t' → ⊥)
+      → seen m x fact t ≡ v
+      → seen m x fact t' ≡ v
+  seen-persists v t t' b l o h =
+      let w = seen-tells v t b h in
+      let p : lastSet m x fact (1 - v) t' ≤ lastSet m x fact (1 - v) t =
+      lastSet-grows (1 - v) t' t
+      (λ f g k. elim (decLt (effectTick m x f) t) [ yes r ↦ r | no r ↦ absurd (o f g (omega arith) k) ])
+      in
+      let q : lastSet m x fact v t ≤ lastSet m x fact v t' = lastSet-grows v t t' (λ e g k. omega arith) in
+      seen-is v t' b (omega (arith, w .0)) (λ e. w .1 (omega (arith, w .0)))
+
+  -- the value seen is a value
+  pub seen-value : (t : ℕ) → m .initial fact ≤ 1 → seen m x fact t ≤ 1
+  seen-value t i =
+      by-order (lastSet m x fact 0 t) (lastSet m x fact 1 t)
+      (λ l. let e : seen m x fact t ≡ 1 = seen-later 1 t (omega arith) l in omega arith)
+      (λ l. let e : seen m x fact t ≡ 0 = seen-later 0 t (omega arith) l in omega arith)
+      (λ q. let e : seen m x fact t ≡ m .initial fact = seen-tied 1 t (omega arith) q in omega arith)
+
+  -- at two ticks with the same givers before them the same is seen
+  pub seen-same :
+      (t t' : ℕ) → ((v e : ℕ) → Giver m fact v e → effectTick m x e < t → effectTick m x e < t')
+      → ((v e : ℕ) → Giver m fact v e → effectTick m x e < t' → effectTick m x e < t)
+      → seen m x fact t ≡ seen m x fact t'
+  unfolding seen
+  seen-same t t' h k =
+      let e : (v : ℕ) → lastSet m x fact v t ≡ lastSet m x fact v t' = λ v. omega (arith, lastSet-grows v t t' (h v), lastSet-grows v t' t (k v)) in
+      rw (e 0, e 1)
+
+-- every effect lies before the tick after all
+pub afterAll-ge : (m : Model) (x : ℕ → ℕ) (e : ℕ) → e < m .effects → effectTick m x e < afterAll m x
+unfolding afterAll
+afterAll-ge m x e h = largest-ge (λ e. suc (effectTick m x e)) (m .effects) e h
+
+-- after every effect the end value is seen
+pub seen-after-all :
+    (m : Model) (x : ℕ → ℕ) (fact t : ℕ) → ((e : ℕ) → e < m .effects → effectTick m x e < t) → seen m x fact t ≡ seen m x fact (afterAll m x)
+seen-after-all m x fact t h =
+    seen-same m x fact t (afterAll m x) (λ v e g _. afterAll-ge m x e (g .known)) (λ v e g _. h e (g .known))
