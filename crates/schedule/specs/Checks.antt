@@ -13,7 +13,7 @@ use Rattle.job.specs.Ranges.{noDeadline}
 use Rattle.job.specs.Refusals.{formCheck}
 use Rattle.schedule.specs.declared.checks.Rule.{Rule}
 use Rattle.schedule.specs.declared.checks.Rule.the-variants.{FixedSteps, Effects, Conditions, Levels, Goals, Steps}
-use Rattle.schedule.specs.Ticks.{scheduleOf, effectTick, firstTick, lastTick, useTick, finish, opposes, ofAnother}
+use Rattle.schedule.specs.Ticks.{scheduleOf, planned, effectTick, firstTick, lastTick, useTick, finish, opposes, ofAnother}
 use Rattle.schedule.specs.Seen.{seen, afterAll}
 use Rattle.schedule.specs.Levels.{aboveLeast, belowMost}
 
@@ -113,7 +113,7 @@ timingCheck m x =
 
 -- the job check: 1 to 7, then 10 to 14 on the written starts
 unfoldable pub jobCheck : List ℕ → Verdict
-jobCheck s = formCheck s then timingCheck (modelOf s) (modelOf s .start)
+jobCheck s = formCheck s then timingCheck (modelOf s) (planned (modelOf s))
 
 -- refusal 8: the list does not have one entry a step
 unfoldable pub countCheck : Model → List ℕ → Verdict

@@ -4,11 +4,19 @@ use mathlib.Core.Bool.{Bool, _&&_, not}
 use mathlib.Core.List.{List}
 use lib.ListN.{getD}
 use lib.Dec.{eqb}
+use Rattle.laws.specs.Listed.{tabulate}
 use Rattle.job.specs.Model.{Model}
 
 -- the schedule in a list of starts
 abbrev pub scheduleOf : List ℕ → ℕ → ℕ
 scheduleOf starts k = getD starts k 0
+
+-- "The job's own timing is its written starts": the planned schedule, and its list
+abbrev pub plannedStarts : Model → List ℕ
+plannedStarts m = tabulate (m .steps) (m .start)
+
+abbrev pub planned : Model → ℕ → ℕ
+planned m = scheduleOf (plannedStarts m)
 
 -- the tick of an effect
 abbrev pub effectTick : Model → (ℕ → ℕ) → ℕ → ℕ

@@ -9,7 +9,7 @@ use crate::ticks::gives;
 use job::layout::Job;
 use job::records::fact_initial;
 
-fn larger(a: usize, b: usize) -> usize
+pub fn larger(a: usize, b: usize) -> usize
     ensures { λ r. ⌜ r ≡ max a b ⌝ }
 {
     if a < b { b } else { a }
@@ -27,7 +27,8 @@ fn set_at(s: &[u8], job: Job, starts: &[u32], fact: u16, value: u16, t: usize, e
     }
 }
 
-fn last_set(s: &[u8], job: Job, starts: &[u32], fact: u16, value: u16, t: usize) -> usize
+// One more than the latest tick before t at which an effect gives the fact that value; 0 for none.
+pub fn last_set(s: &[u8], job: Job, starts: &[u32], fact: u16, value: u16, t: usize) -> usize
     ensures { λ r. ⌜ r ≡ lastSet (view job (now (s .entry))) (scheduleOf (now (starts .entry))) fact value t ⌝ }
 {
     let n = job.count.effects;
