@@ -30,6 +30,7 @@ module _ (m : Model) (x y : ℕ → ℕ) (w : WellFormed m) (s : Valid m x) (o :
       (λ k g _. omega (arith, i .1, lastSet-ge m x f (1 - v) (afterAll m x) k g (afterAll-ge m x k (g .known)))))
       (seen-why-apart m x f v (afterAll m x) b (apart m x w s f v) refl)
 
+  -- the theorem: a choice that obeys what is found in a valid schedule x ends as x does
   pub same-end : SameEnd m y x
   same-end =
       record {

@@ -133,6 +133,7 @@ module _ (m : Model) (x : ℕ → ℕ) (w : WellFormed m) (s : Valid m x) where
       (λ (f : (d && l && e) ≡ false). absurd (n (rw f)))
       (either (d && l && e))
 
+  -- the theorem: a valid schedule is itself a choice that obeys
   pub planned-obeys : Obeys m x x
   planned-obeys =
       record {

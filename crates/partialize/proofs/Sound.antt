@@ -114,6 +114,7 @@ module _ (m : Model) (x y : ℕ → ℕ) (w : WellFormed m) (s : Valid m x) (o :
           let r : y (m .effectStep f) ≡ y (m .conditionStep c) = ap y e in
           absurd (p .notValue (w .keepsOwn f c (p .known) h e (p .ofFact) (omega arith) (omega arith)))
 
+  -- an effect is not the initial state
   not-initial : (k : ℕ) → k < m .effects → k ≡ initialState → ⊥
   not-initial k h z = omega (arith, w .effectCount)
 
@@ -236,6 +237,7 @@ module _ (m : Model) (x y : ℕ → ℕ) (w : WellFormed m) (s : Valid m x) (o :
       (kept-serial m x y w o k i a g h (λ e. d (sym e)) l))
       (s .serialApart a i k h g d)
 
+  -- the theorem: a choice that obeys what is found in a valid schedule x is valid
   pub obeying-valid : Valid m y
   obeying-valid =
       record {
