@@ -1,9 +1,8 @@
 -- What the limits of a step say: a fixed step's are its written start, and a goal's link bounds its own step.
-use Prim.Native.Nat.{ℕ, _-_, _≤_, _<_}
-use mathlib.Core.Path.{_≡_, ap, ap₂, sym, _∙_}
-use mathlib.Core.Bool.{Bool, true, false, _&&_, not, cond}
+use Prim.Native.Nat.{ℕ, _-_}
+use mathlib.Core.Path.{_≡_, refl, ap, ap₂}
+use mathlib.Core.Bool.{_&&_, not, cond}
 use borrow.Author.Tests.{eq-eqb, ne-eqb}
-use lib.Dec.{eqb}
 use Rattle.laws.specs.Fold.{least}
 use Rattle.job.specs.Model.{Model}
 use Rattle.job.specs.Ranges.{noDeadline}
@@ -32,5 +31,6 @@ module _ (m : Model) (x : ℕ → ℕ) where
       → allowed m x (m .effectStep (goalLink m x g)) g ≡ m .goalDeadline g - m .effectAt (goalLink m x g)
   unfolding allowed
   allowed-linked g d n =
+      let k = m .effectStep (goalLink m x g) in
       ap (λ b. cond b (m .goalDeadline g - m .effectAt (goalLink m x g)) noLatest)
-      (ap₂ _&&_ (ap₂ _&&_ (ap not (ne-eqb _ _ d)) (ap not (ne-eqb _ _ n))) (eq-eqb (m .effectStep (goalLink m x g)) _ (λ i. m .effectStep (goalLink m x g))))
+      (ap₂ _&&_ (ap₂ _&&_ (ap not (ne-eqb _ _ d)) (ap not (ne-eqb _ _ n))) (eq-eqb k k refl))

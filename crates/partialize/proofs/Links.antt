@@ -1,14 +1,14 @@
 -- What rule 1 finds in a valid schedule. A value that is seen has a reason: the initial state with nothing opposing, or an effect after
 -- the last opposing one; so rule 1 finds one, and the earliest such effect is its link. With a deadline the value is seen right after
 -- it, so the link lies at or before it.
-use Prim.Native.Nat.{ℕ, zero, suc, _+_, _-_, _≤_, _<_, min}
+use Prim.Native.Nat.{ℕ, zero, suc, _-_, _≤_, _<_, min}
 use mathlib.Core.Path.{_≡_, refl, sym, ap, ap₂, _∙_}
 use mathlib.Core.Bool.{Bool, true, false, _&&_, cond}
 use mathlib.Core.Logic.{_⊎_, inl, inr, ⊎-elim}
 use native.Mathlib.Decide.{ℕ-discrete, decLe}
 use native.Mathlib.Omega.{arith}
 use borrow.Author.Tests.{leb-true, eqb-true, le-leb, eq-eqb}
-use lib.Dec.{leb, eqb}
+use lib.Dec.{eqb}
 use Rattle.laws.specs.Search.{lowest}
 use Rattle.laws.specs.Fold.{least}
 use Rattle.laws.proofs.Search.{either, contrary, and-both, lowest-facts, lowest-lt}
@@ -19,13 +19,14 @@ use Rattle.job.specs.WellFormed.{WellFormed}
 use Rattle.schedule.specs.Ticks.{effectTick, firstTick}
 use Rattle.schedule.specs.Seen.{lastSet, seen, afterAll}
 use Rattle.schedule.specs.Valid.{Valid}
-use Rattle.schedule.proofs.Seen.{Giver, lastSet-ge, lastSet-grows, seen-other, seen-why-apart, afterAll-ge}
+use Rattle.schedule.proofs.Seen.{Giver, LaterGiver, lastSet-ge, lastSet-grows, seen-other, seen-why-apart, afterAll-ge}
 use Rattle.partialize.specs.Links.{initialState, producer, earliestProduced, supporter, linkOf, conditionLink, goalLink}
 
 -- why the value is seen at t: by the initial state with nothing opposing before, or by an effect after all that opposes before
 pub data Linked (m : Model) (x : ℕ → ℕ) (fact v t link : ℕ) : Type 0 where
   initially :
-      link ≡ initialState → m .initial fact ≡ v → ((f : ℕ) → Giver m fact (1 - v) f → effectTick m x f < t → ⊥) → Linked m x fact v t link
+      link ≡ initialState → m .initial fact ≡ v → ((f : ℕ) → Giver m fact (1 - v) f → effectTick m x f < t → ⊥)
+      → Linked m x fact v t link
   produced :
       Giver m fact v link → effectTick m x link < t
       → ((f : ℕ) → Giver m fact (1 - v) f → effectTick m x f < t → effectTick m x f < effectTick m x link)
@@ -52,7 +53,9 @@ module _ (m : Model) (x : ℕ → ℕ) (fact v t : ℕ) where
   unfolding producer
   produces e g l = ap₂ _&&_ (ap₂ _&&_ (eq-eqb _ _ (g .ofFact)) (eq-eqb _ _ (g .ofValue))) (le-leb _ _ l)
 
-  producer-gives : (e : ℕ) → e < m .effects → producer m x fact v t e ≡ true → Giver m fact v e × (lastSet m x fact (1 - v) t ≤ effectTick m x e)
+  producer-gives :
+      (e : ℕ) → e < m .effects → producer m x fact v t e ≡ true
+      → Giver m fact v e × (lastSet m x fact (1 - v) t ≤ effectTick m x e)
   unfolding producer
   producer-gives e h p =
       let b = and-both _ _ p in
@@ -104,19 +107,25 @@ module _ (m : Model) (x : ℕ → ℕ) (fact v t : ℕ) where
       (w .0, w .1, omega (arith, earliest-le e (g .known) p))
 
   -- the link is the initial state where nothing opposes before and the initial value is wanted, else the supporter
-  link-cases :
-      ((linkOf m x fact v t ≡ initialState) × (lastSet m x fact (1 - v) t ≡ 0) × (m .initial fact ≡ v))
-      ⊎ ((linkOf m x fact v t ≡ supporter m x fact v t) × (lastSet m x fact (1 - v) t ≡ 0 → m .initial fact ≡ v → ⊥))
+  abbrev IsInitial : Type 0
+  IsInitial = (linkOf m x fact v t ≡ initialState) × (lastSet m x fact (1 - v) t ≡ 0) × (m .initial fact ≡ v)
+
+  abbrev IsSupporter : Type 0
+  IsSupporter = (linkOf m x fact v t ≡ supporter m x fact v t) × (lastSet m x fact (1 - v) t ≡ 0 → m .initial fact ≡ v → ⊥)
+
+  link-cases : IsInitial ⊎ IsSupporter
   unfolding linkOf
   link-cases =
+      let z = eqb (lastSet m x fact (1 - v) t) 0 in
+      let i = eqb (m .initial fact) v in
       ⊎-elim
-      (λ (a : (eqb (lastSet m x fact (1 - v) t) 0 && eqb (m .initial fact) v) ≡ true).
-      let b = and-both _ _ a in
+      (λ (a : (z && i) ≡ true).
+      let b = and-both z i a in
       inl (ap (λ b. cond b initialState (supporter m x fact v t)) a, eqb-true _ _ (b .0), eqb-true _ _ (b .1)))
-      (λ (a : (eqb (lastSet m x fact (1 - v) t) 0 && eqb (m .initial fact) v) ≡ false).
+      (λ (a : (z && i) ≡ false).
       inr
-      (ap (λ b. cond b initialState (supporter m x fact v t)) a, λ z i. contrary (ap₂ _&&_ (eq-eqb _ _ z) (eq-eqb _ _ i)) a))
-      (either (eqb (lastSet m x fact (1 - v) t) 0 && eqb (m .initial fact) v))
+      (ap (λ b. cond b initialState (supporter m x fact v t)) a, λ p q. contrary (ap₂ _&&_ (eq-eqb _ _ p) (eq-eqb _ _ q)) a))
+      (either (z && i))
 
 module _ (m : Model) (x : ℕ → ℕ) (w : WellFormed m) (s : Valid m x) where
   -- in a valid schedule no two opposing effects share a tick, of one step or of two
@@ -135,19 +144,20 @@ module _ (m : Model) (x : ℕ → ℕ) (w : WellFormed m) (s : Valid m x) where
   linked : (fact v t : ℕ) → v ≤ 1 → seen m x fact t ≡ v → Linked m x fact v t (linkOf m x fact v t)
   linked fact v t b h =
       ⊎-elim
-      (λ (i : (linkOf m x fact v t ≡ initialState) × (lastSet m x fact (1 - v) t ≡ 0) × (m .initial fact ≡ v)).
+      (λ (i : IsInitial m x fact v t).
       initially (i .0) (i .2) (λ f g l. omega (arith, lastSet-ge m x fact (1 - v) t f g l, i .1)))
-      (λ (i : (linkOf m x fact v t ≡ supporter m x fact v t) × (lastSet m x fact (1 - v) t ≡ 0 → m .initial fact ≡ v → ⊥)).
+      (λ (i : IsSupporter m x fact v t).
       rw (i .0)
       (⊎-elim
-      (λ (e : (e : ℕ) × Giver m fact v e × (effectTick m x e < t) × (lastSet m x fact (1 - v) t ≤ effectTick m x e)).
+      (λ (e : LaterGiver m x fact v t).
       let p = supporter-is m x fact v t (e .0) (e .1) (e .3) in
       produced (p .0) (omega (arith, p .2, e .2)) (λ f g l. omega (arith, p .1, lastSet-ge m x fact (1 - v) t f g l)))
       (λ (z : (m .initial fact ≡ v) × (lastSet m x fact (1 - v) t ≡ 0)). absurd (i .1 (z .1) (z .0)))
       (seen-why-apart m x fact v t b (apart fact v) h)))
       (link-cases m x fact v t)
 
-  pub condition-linked : (c : ℕ) → c < m .conditions → Linked m x (m .conditionFact c) (m .conditionValue c) (firstTick m x c) (conditionLink m x c)
+  pub condition-linked :
+      (c : ℕ) → c < m .conditions → Linked m x (m .conditionFact c) (m .conditionValue c) (firstTick m x c) (conditionLink m x c)
   unfolding conditionLink
   condition-linked c h =
       linked (m .conditionFact c) (m .conditionValue c) (firstTick m x c) (w .conditionValue c h)
@@ -184,12 +194,11 @@ module _ (m : Model) (x : ℕ → ℕ) (w : WellFormed m) (s : Valid m x) where
       lastSet-grows m x fact (1 - v) (afterAll m x) t (λ f o _. omega (arith, opposed-in-time g f h d o))
       in
       ⊎-elim
-      (λ (i : (linkOf m x fact v (afterAll m x) ≡ initialState) × (lastSet m x fact (1 - v) (afterAll m x) ≡ 0) × (m .initial fact ≡ v)).
-      absurd (n (i .0)))
-      (λ (i : (linkOf m x fact v (afterAll m x) ≡ supporter m x fact v (afterAll m x)) × (lastSet m x fact (1 - v) (afterAll m x) ≡ 0 → m .initial fact ≡ v → ⊥)).
+      (λ (i : IsInitial m x fact v (afterAll m x)). absurd (n (i .0)))
+      (λ (i : IsSupporter m x fact v (afterAll m x)).
       rw (i .0)
       (⊎-elim
-      (λ (e : (e : ℕ) × Giver m fact v e × (effectTick m x e < t) × (lastSet m x fact (1 - v) t ≤ effectTick m x e)).
+      (λ (e : LaterGiver m x fact v t).
       omega (arith, supporter-is m x fact v (afterAll m x) (e .0) (e .1) (omega (arith, e .3)) .2, e .2))
       (λ (z : (m .initial fact ≡ v) × (lastSet m x fact (1 - v) t ≡ 0)). absurd (i .1 (omega (arith, z .1)) (z .0)))
       (seen-why-apart m x fact v t (w .goalValue g h) (apart fact v) (s .goalInTime g t h d (omega arith)))))

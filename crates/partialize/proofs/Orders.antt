@@ -2,8 +2,8 @@
 -- a rule orders stays ordered. Points of one step keep their order whatever its start.
 use Prim.Native.Nat.{ℕ, _+_, _-_, _≤_, _<_, max}
 use mathlib.Core.Path.{_≡_, refl, sym, ap, ap₂, _∙_}
-use mathlib.Core.Bool.{Bool, true, false, _&&_, _||_, not, cond, or-true}
-use mathlib.Core.Logic.{_⊎_, inl, inr, ⊎-elim}
+use mathlib.Core.Bool.{Bool, true, _&&_, _||_, not, cond, or-true}
+use mathlib.Core.Logic.{_⊎_, inl, inr}
 use native.Mathlib.Decide.{ℕ-discrete, decLt, decLe}
 use native.Mathlib.Omega.{arith}
 use borrow.Author.Tests.{lt-ltb, le-leb, lt-leb, eq-eqb, ne-eqb}
@@ -14,26 +14,33 @@ use Rattle.job.specs.Model.{Model}
 use Rattle.job.specs.WellFormed.{WellFormed}
 use Rattle.schedule.specs.Ticks.{effectTick, firstTick, lastTick, useTick, finish, opposes}
 use Rattle.partialize.specs.Links.{initialState, conditionLink}
-use Rattle.partialize.specs.Gaps.{strictly, supportOrder, supportGap, opposingOrder, opposingGap, beforeOrder, afterOrder, conditionGap, levelOrder, levelGap, serialGap, gapOf}
+use Rattle.partialize.specs.Gaps.{strictly, supportOrder, supportGap, opposingOrder, opposingGap, beforeOrder, afterOrder, conditionGap}
+use Rattle.partialize.specs.Gaps.{levelOrder, levelGap, serialGap, gapOf}
 use Rattle.partialize.specs.Obeys.{Obeys}
 
 -- the largest gap from step i to step k that y has room for, 0 for none
 abbrev pub room : (ℕ → ℕ) → ℕ → ℕ → ℕ
 room y i k = y k + 100000 - y i
 
--- an effect on the fact with another value opposes
-opposing : (m : Model) (e fact value : ℕ) → m .effectFact e ≡ fact → (m .effectValue e ≡ value → ⊥) → opposes m e fact value ≡ true
-opposing m e fact value a d = ap₂ _&&_ (eq-eqb _ _ a) (ap not (ne-eqb _ _ d))
+-- effect e is on the fact with another value
+pub record Opposer (m : Model) (fact value e : ℕ) : Type 0 where
+  pub known : e < m .effects
+  pub ofFact : m .effectFact e ≡ fact
+  pub notValue : m .effectValue e ≡ value → ⊥
 
--- what a passed test chooses is at least its gap
+opposer-opposes : (m : Model) (fact value e : ℕ) → Opposer m fact value e → opposes m e fact value ≡ true
+opposer-opposes m fact value e o = ap₂ _&&_ (eq-eqb _ _ (o .ofFact)) (ap not (ne-eqb _ _ (o .notValue)))
+
+-- what a passed test chooses is its gap
 chosen : (b : Bool) (g : ℕ) → b ≡ true → g ≤ cond b g 0
 chosen b g e = rw e (omega arith)
 
-same : (k : ℕ) → eqb k k ≡ true
-same k = eq-eqb k k refl
+-- the test of rules 2, 3 and 4 for the two steps' own pair
+in-order : (i k p q : ℕ) (c : Bool) → c ≡ true → p < q → (eqb i i && eqb k k && c && ltb p q) ≡ true
+in-order i k p q c t l = ap₂ _&&_ (ap₂ _&&_ (ap₂ _&&_ (eq-eqb i i refl) (eq-eqb k k refl)) t) (lt-ltb p q l)
 
--- each rule's gap is at most the largest of the pair
 module _ (m : Model) (x : ℕ → ℕ) where
+  -- each rule's gap is at most the largest of the pair
   gap-rules :
       (i k : ℕ) → (i ≡ k → ⊥)
       → (supportGap m x i k ≤ gapOf m x i k) × (opposingGap m x i k ≤ gapOf m x i k) × (conditionGap m x i k ≤ gapOf m x i k)
@@ -42,57 +49,62 @@ module _ (m : Model) (x : ℕ → ℕ) where
   unfolding gapOf
   gap-rules i k d = rw (ne-eqb i k d) (omega arith)
 
+  -- and at least the gap of each of its orders
   support-gap :
       (c : ℕ) → c < m .conditions → (conditionLink m x c ≡ initialState → ⊥)
-      → strictly (m .effectAt (conditionLink m x c)) (m .conditionFrom c) ≤ supportGap m x (m .effectStep (conditionLink m x c)) (m .conditionStep c)
+      → strictly (m .effectAt (conditionLink m x c)) (m .conditionFrom c)
+      ≤ supportGap m x (m .effectStep (conditionLink m x c)) (m .conditionStep c)
   unfolding supportGap supportOrder
   support-gap c h d =
-      let i = m .effectStep (conditionLink m x c) in
+      let e = conditionLink m x c in
+      let i = m .effectStep e in
       let k = m .conditionStep c in
-      omega (arith, chosen _ (strictly (m .effectAt (conditionLink m x c)) (m .conditionFrom c)) (ap₂ _&&_ (ap₂ _&&_ (ap not (ne-eqb _ _ d)) (same i)) (same k)), largest-ge (supportOrder m x i k) (m .conditions) c h)
+      omega (
+        arith,
+        chosen _ (strictly (m .effectAt e) (m .conditionFrom c))
+            (ap₂ _&&_ (ap₂ _&&_ (ap not (ne-eqb e initialState d)) (eq-eqb i i refl)) (eq-eqb k k refl)),
+        largest-ge (supportOrder m x i k) (m .conditions) c h,
+      )
 
   opposing-gap :
-      (e f : ℕ) → e < m .effects → f < m .effects → m .effectFact e ≡ m .effectFact f → (m .effectValue e ≡ m .effectValue f → ⊥)
-      → effectTick m x e < effectTick m x f
+      (e f : ℕ) → f < m .effects → Opposer m (m .effectFact f) (m .effectValue f) e → effectTick m x e < effectTick m x f
       → strictly (m .effectAt e) (m .effectAt f) ≤ opposingGap m x (m .effectStep e) (m .effectStep f)
   unfolding opposingGap opposingOrder
-  opposing-gap e f h g a d l =
+  opposing-gap e f h o l =
       let i = m .effectStep e in
       let k = m .effectStep f in
       omega (
         arith,
-        chosen _ (strictly (m .effectAt e) (m .effectAt f)) (ap₂ _&&_ (ap₂ _&&_ (ap₂ _&&_ (same i) (same k)) (opposing m e _ _ a d)) (lt-ltb _ _ l)),
-        largest-ge (opposingOrder m x i k e) (m .effects) f g,
-        largest-ge (λ e. largest (m .effects) (opposingOrder m x i k e)) (m .effects) e h,
+        chosen _ (strictly (m .effectAt e) (m .effectAt f)) (in-order i k _ _ _ (opposer-opposes m _ _ e o) l),
+        largest-ge (opposingOrder m x i k e) (m .effects) f h,
+        largest-ge (λ e. largest (m .effects) (opposingOrder m x i k e)) (m .effects) e (o .known),
       )
 
   before-gap :
-      (c e : ℕ) → c < m .conditions → e < m .effects → m .effectFact e ≡ m .conditionFact c → (m .effectValue e ≡ m .conditionValue c → ⊥)
-      → effectTick m x e < firstTick m x c
+      (c e : ℕ) → c < m .conditions → Opposer m (m .conditionFact c) (m .conditionValue c) e → effectTick m x e < firstTick m x c
       → strictly (m .effectAt e) (m .conditionFrom c) ≤ conditionGap m x (m .effectStep e) (m .conditionStep c)
   unfolding conditionGap beforeOrder
-  before-gap c e h g a d l =
+  before-gap c e h o l =
       let i = m .effectStep e in
       let k = m .conditionStep c in
       omega (
         arith,
-        chosen _ (strictly (m .effectAt e) (m .conditionFrom c)) (ap₂ _&&_ (ap₂ _&&_ (ap₂ _&&_ (same i) (same k)) (opposing m e _ _ a d)) (lt-ltb _ _ l)),
-        largest-ge (beforeOrder m x i k c) (m .effects) e g,
+        chosen _ (strictly (m .effectAt e) (m .conditionFrom c)) (in-order i k _ _ _ (opposer-opposes m _ _ e o) l),
+        largest-ge (beforeOrder m x i k c) (m .effects) e (o .known),
         largest-ge (λ c. max (largest (m .effects) (beforeOrder m x i k c)) (largest (m .effects) (afterOrder m x i k c))) (m .conditions) c h,
       )
 
   after-gap :
-      (c e : ℕ) → c < m .conditions → e < m .effects → m .effectFact e ≡ m .conditionFact c → (m .effectValue e ≡ m .conditionValue c → ⊥)
-      → lastTick m x c < effectTick m x e
+      (c e : ℕ) → c < m .conditions → Opposer m (m .conditionFact c) (m .conditionValue c) e → lastTick m x c < effectTick m x e
       → strictly (m .conditionTo c) (m .effectAt e) ≤ conditionGap m x (m .conditionStep c) (m .effectStep e)
   unfolding conditionGap afterOrder
-  after-gap c e h g a d l =
+  after-gap c e h o l =
       let i = m .conditionStep c in
       let k = m .effectStep e in
       omega (
         arith,
-        chosen _ (strictly (m .conditionTo c) (m .effectAt e)) (ap₂ _&&_ (ap₂ _&&_ (ap₂ _&&_ (same i) (same k)) (opposing m e _ _ a d)) (lt-ltb _ _ l)),
-        largest-ge (afterOrder m x i k c) (m .effects) e g,
+        chosen _ (strictly (m .conditionTo c) (m .effectAt e)) (in-order i k _ _ _ (opposer-opposes m _ _ e o) l),
+        largest-ge (afterOrder m x i k c) (m .effects) e (o .known),
         largest-ge (λ c. max (largest (m .effects) (beforeOrder m x i k c)) (largest (m .effects) (afterOrder m x i k c))) (m .conditions) c h,
       )
 
@@ -105,7 +117,7 @@ module _ (m : Model) (x : ℕ → ℕ) where
       let k = m .useStep v in
       omega (
         arith,
-        chosen _ (strictly (m .useAt u) (m .useAt v)) (ap₂ _&&_ (ap₂ _&&_ (ap₂ _&&_ (same i) (same k)) (eq-eqb _ _ a)) (lt-ltb _ _ l)),
+        chosen _ (strictly (m .useAt u) (m .useAt v)) (in-order i k _ _ _ (eq-eqb _ _ a) l),
         largest-ge (levelOrder m x i k u) (m .uses) v g,
         largest-ge (λ u. largest (m .uses) (levelOrder m x i k u)) (m .uses) u h,
       )
@@ -116,25 +128,8 @@ module _ (m : Model) (x : ℕ → ℕ) where
   unfolding serialGap
   serial-gap i k a l b = chosen _ (m .stepLength i + 100000) (ap₂ _&&_ (ap₂ _&&_ (eq-eqb _ _ a) (le-leb _ _ l)) b)
 
--- what obeys has room for every gap
-roomy : (m : Model) (x y : ℕ → ℕ) → Obeys m x y → (i k : ℕ) → i < m .steps → k < m .steps → gapOf m x i k ≤ room y i k
-roomy m x y o i k h g =
-    elim (ℕ-discrete (gapOf m x i k) 0) [ yes z ↦ omega arith | no z ↦ omega (arith, o .keeps i k h g z) ]
-
--- so two points stay in order: by the gap of different steps, or by their places in one step
-keeps-points :
-    (m : Model) (x y : ℕ → ℕ) → Obeys m x y → (i k p q : ℕ) → i < m .steps → k < m .steps → q ≤ 100000
-    → ((i ≡ k → ⊥) → strictly p q ≤ gapOf m x i k)
-    → x i + p < x k + q
-    → y i + p < y k + q
-keeps-points m x y o i k p q h g b c l =
-    elim (ℕ-discrete i k) [
-      | yes e ↦ let a : x i ≡ x k = ap x e in let d : y i ≡ y k = ap y e in omega arith
-      | no d ↦ omega (arith, c d, roomy m x y o i k h g)
-    ]
-
-module _ (m : Model) (x y : ℕ → ℕ) (w : WellFormed m) (o : Obeys m x y) where
-  -- no point lies further from its start than any gap can tell
+-- no point lies further from its start than a gap can tell
+module _ (m : Model) (w : WellFormed m) where
   effect-near : (e : ℕ) → e < m .effects → m .effectAt e ≤ 100000
   effect-near e h = omega (arith, w .effectEnd e h, w .lengthRange (m .effectStep e) (w .effectStep e h))
 
@@ -145,17 +140,21 @@ module _ (m : Model) (x y : ℕ → ℕ) (w : WellFormed m) (o : Obeys m x y) wh
   use-near : (u : ℕ) → u < m .uses → m .useAt u ≤ 100000
   use-near u h = omega (arith, w .useEnd u h, w .lengthRange (m .useStep u) (w .useStep u h))
 
-  -- rule 2
-  pub kept-opposing :
-      (e f : ℕ) → e < m .effects → f < m .effects → m .effectFact e ≡ m .effectFact f → (m .effectValue e ≡ m .effectValue f → ⊥)
-      → effectTick m x e < effectTick m x f
-      → effectTick m y e < effectTick m y f
-  kept-opposing e f h g a d l =
-      let i = m .effectStep e in
-      let k = m .effectStep f in
-      keeps-points m x y o i k (m .effectAt e) (m .effectAt f) (w .effectStep e h) (w .effectStep f g) (effect-near f g)
-      (λ s. omega (arith, opposing-gap m x e f h g a d l, gap-rules m x i k s .1))
-      l
+module _ (m : Model) (x y : ℕ → ℕ) (w : WellFormed m) (o : Obeys m x y) where
+  -- what obeys has room for every gap
+  roomy : (i k : ℕ) → i < m .steps → k < m .steps → gapOf m x i k ≤ room y i k
+  roomy i k h g =
+      elim (ℕ-discrete (gapOf m x i k) 0) [ yes z ↦ omega arith | no z ↦ omega (arith, o .keeps i k h g z) ]
+
+  -- so two points stay in order: by the gap of different steps, or by their places in one step
+  keeps-points :
+      (i k p q : ℕ) → i < m .steps → k < m .steps → q ≤ 100000 → ((i ≡ k → ⊥) → strictly p q ≤ gapOf m x i k) → x i + p < x k + q
+      → y i + p < y k + q
+  keeps-points i k p q h g b c l =
+      elim (ℕ-discrete i k) [
+        | yes e ↦ let a : x i ≡ x k = ap x e in let d : y i ≡ y k = ap y e in omega arith
+        | no d ↦ omega (arith, c d, roomy i k h g)
+      ]
 
   -- rule 1
   pub kept-support :
@@ -166,31 +165,40 @@ module _ (m : Model) (x y : ℕ → ℕ) (w : WellFormed m) (o : Obeys m x y) wh
       let e = conditionLink m x c in
       let i = m .effectStep e in
       let k = m .conditionStep c in
-      keeps-points m x y o i k (m .effectAt e) (m .conditionFrom c) (w .effectStep e g) (w .conditionStep c h) (condition-near c h)
+      keeps-points i k (m .effectAt e) (m .conditionFrom c) (w .effectStep e g) (w .conditionStep c h) (condition-near m w c h)
       (λ s. omega (arith, support-gap m x c h d, gap-rules m x i k s .0))
+      l
+
+  -- rule 2
+  pub kept-opposing :
+      (e f : ℕ) → f < m .effects → Opposer m (m .effectFact f) (m .effectValue f) e → effectTick m x e < effectTick m x f
+      → effectTick m y e < effectTick m y f
+  kept-opposing e f h p l =
+      let i = m .effectStep e in
+      let k = m .effectStep f in
+      keeps-points i k (m .effectAt e) (m .effectAt f) (w .effectStep e (p .known)) (w .effectStep f h) (effect-near m w f h)
+      (λ s. omega (arith, opposing-gap m x e f h p l, gap-rules m x i k s .1))
       l
 
   -- rule 3
   pub kept-before :
-      (c e : ℕ) → c < m .conditions → e < m .effects → m .effectFact e ≡ m .conditionFact c → (m .effectValue e ≡ m .conditionValue c → ⊥)
-      → effectTick m x e < firstTick m x c
+      (c e : ℕ) → c < m .conditions → Opposer m (m .conditionFact c) (m .conditionValue c) e → effectTick m x e < firstTick m x c
       → effectTick m y e < firstTick m y c
-  kept-before c e h g a d l =
+  kept-before c e h p l =
       let i = m .effectStep e in
       let k = m .conditionStep c in
-      keeps-points m x y o i k (m .effectAt e) (m .conditionFrom c) (w .effectStep e g) (w .conditionStep c h) (condition-near c h)
-      (λ s. omega (arith, before-gap m x c e h g a d l, gap-rules m x i k s .2))
+      keeps-points i k (m .effectAt e) (m .conditionFrom c) (w .effectStep e (p .known)) (w .conditionStep c h) (condition-near m w c h)
+      (λ s. omega (arith, before-gap m x c e h p l, gap-rules m x i k s .2))
       l
 
   pub kept-after :
-      (c e : ℕ) → c < m .conditions → e < m .effects → m .effectFact e ≡ m .conditionFact c → (m .effectValue e ≡ m .conditionValue c → ⊥)
-      → lastTick m x c < effectTick m x e
+      (c e : ℕ) → c < m .conditions → Opposer m (m .conditionFact c) (m .conditionValue c) e → lastTick m x c < effectTick m x e
       → lastTick m y c < effectTick m y e
-  kept-after c e h g a d l =
+  kept-after c e h p l =
       let i = m .conditionStep c in
       let k = m .effectStep e in
-      keeps-points m x y o i k (m .conditionTo c) (m .effectAt e) (w .conditionStep c h) (w .effectStep e g) (effect-near e g)
-      (λ s. omega (arith, after-gap m x c e h g a d l, gap-rules m x i k s .2))
+      keeps-points i k (m .conditionTo c) (m .effectAt e) (w .conditionStep c h) (w .effectStep e (p .known)) (effect-near m w e (p .known))
+      (λ s. omega (arith, after-gap m x c e h p l, gap-rules m x i k s .2))
       l
 
   -- rule 4
@@ -200,7 +208,7 @@ module _ (m : Model) (x y : ℕ → ℕ) (w : WellFormed m) (o : Obeys m x y) wh
   kept-uses u v h g a l =
       let i = m .useStep u in
       let k = m .useStep v in
-      keeps-points m x y o i k (m .useAt u) (m .useAt v) (w .useStep u h) (w .useStep v g) (use-near v g)
+      keeps-points i k (m .useAt u) (m .useAt v) (w .useStep u h) (w .useStep v g) (use-near m w v g)
       (λ s. omega (arith, level-gap m x u v h g a l, gap-rules m x i k s .3))
       l
 
@@ -209,23 +217,20 @@ module _ (m : Model) (x y : ℕ → ℕ) (w : WellFormed m) (o : Obeys m x y) wh
       (i k : ℕ) → m .serial ≡ 1 → i < m .steps → k < m .steps → (i ≡ k → ⊥) → finish m x i ≤ x k
       → (not (leb (finish m x k) (x i)) || ltb i k) ≡ true
       → finish m y i ≤ y k
-  kept-first i k a h g d l b =
-      omega (arith, serial-gap m x i k a l b, gap-rules m x i k d .4, roomy m x y o i k h g)
+  kept-first i k a h g d l b = omega (arith, serial-gap m x i k a l b, gap-rules m x i k d .4, roomy i k h g)
 
   pub kept-serial :
-      (i k : ℕ) → m .serial ≡ 1 → i < m .steps → k < m .steps → (i ≡ k → ⊥) → finish m x i ≤ x k → (finish m y i ≤ y k) ⊎ (finish m y k ≤ y i)
+      (i k : ℕ) → m .serial ≡ 1 → i < m .steps → k < m .steps → (i ≡ k → ⊥) → finish m x i ≤ x k
+      → (finish m y i ≤ y k) ⊎ (finish m y k ≤ y i)
   kept-serial i k a h g d l =
       elim (decLe (finish m x k) (x i)) [
         | yes r ↦ both (decLt i k) r
         | no r ↦ inl (kept-first i k a h g d l (ap (λ b. not b || ltb i k) (lt-leb (finish m x k) (x i) (omega arith))))
       ]
     where
+      lower : (a b : ℕ) (t : Bool) → a < b → (t || ltb a b) ≡ true
+      lower a b t s = ap (λ c. t || c) (lt-ltb a b s) ∙ or-true t
+
       both : Dec (i < k) → finish m x k ≤ x i → (finish m y i ≤ y k) ⊎ (finish m y k ≤ y i)
-      both (yes s) r =
-          inl
-          (kept-first i k a h g d l
-          (ap (λ b. not (leb (finish m x k) (x i)) || b) (lt-ltb i k s) ∙ or-true (not (leb (finish m x k) (x i)))))
-      both (no s) r =
-          inr
-          (kept-first k i a g h (λ e. d (sym e)) r
-          (ap (λ b. not (leb (finish m x i) (x k)) || b) (lt-ltb k i (omega arith)) ∙ or-true (not (leb (finish m x i) (x k)))))
+      both (yes s) r = inl (kept-first i k a h g d l (lower i k (not (leb (finish m x k) (x i))) s))
+      both (no s) r = inr (kept-first k i a g h (λ e. d (sym e)) r (lower k i (not (leb (finish m x i) (x k))) (omega arith)))

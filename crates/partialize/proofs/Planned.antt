@@ -1,9 +1,9 @@
 -- A valid schedule obeys the orders and limits found in it. Each rule orders two points as they lie, so the schedule has room for its
 -- gap, and for the largest; a link lies before its condition and at or before its goal's deadline.
-use Prim.Native.Nat.{ℕ, _+_, _-_, _≤_, _<_, max}
+use Prim.Native.Nat.{ℕ, _+_, _≤_, _<_, max}
 use mathlib.Core.Path.{_≡_, refl, sym, ap, _∙_}
 use mathlib.Core.Bool.{Bool, true, false, _&&_, _||_, not, cond}
-use mathlib.Core.Logic.{_⊎_, ⊎-elim}
+use mathlib.Core.Logic.{⊎-elim}
 use native.Mathlib.Decide.{ℕ-discrete}
 use native.Mathlib.Omega.{arith}
 use borrow.Author.Tests.{ltb-true, leb-true, eqb-true, eqb-false, not-true}
@@ -17,7 +17,8 @@ use Rattle.job.specs.WellFormed.{WellFormed}
 use Rattle.schedule.specs.Ticks.{effectTick, firstTick, finish, opposes}
 use Rattle.schedule.specs.Valid.{Valid}
 use Rattle.partialize.specs.Links.{initialState, conditionLink, goalLink}
-use Rattle.partialize.specs.Gaps.{strictly, supportOrder, supportGap, opposingOrder, opposingGap, beforeOrder, afterOrder, conditionGap, levelOrder, levelGap, serialGap, gapOf}
+use Rattle.partialize.specs.Gaps.{strictly, supportOrder, supportGap, opposingOrder, opposingGap, beforeOrder, afterOrder, conditionGap}
+use Rattle.partialize.specs.Gaps.{levelOrder, levelGap, serialGap, gapOf}
 use Rattle.partialize.specs.Windows.{noLatest, limitOf, allowed, latestOf}
 use Rattle.partialize.specs.Obeys.{Obeys}
 use Rattle.partialize.proofs.Orders.{room}
@@ -48,7 +49,9 @@ module _ (m : Model) (x : ℕ → ℕ) (w : WellFormed m) (s : Valid m x) where
       (c : ℕ) → c < m .conditions → (conditionLink m x c ≡ initialState → ⊥) → effectTick m x (conditionLink m x c) < firstTick m x c
   link-before c h n = by (condition-linked m x w s c h)
     where
-      by : Linked m x (m .conditionFact c) (m .conditionValue c) (firstTick m x c) (conditionLink m x c) → effectTick m x (conditionLink m x c) < firstTick m x c
+      by :
+          Linked m x (m .conditionFact c) (m .conditionValue c) (firstTick m x c) (conditionLink m x c)
+          → effectTick m x (conditionLink m x c) < firstTick m x c
       by (initially z i o) = absurd (n z)
       by (produced g l o) = l
 
@@ -130,6 +133,7 @@ module _ (m : Model) (x : ℕ → ℕ) (w : WellFormed m) (s : Valid m x) where
       (λ (f : (d && l && e) ≡ false). absurd (n (rw f)))
       (either (d && l && e))
 
+  -- the theorem: a valid schedule is itself a choice that obeys
   pub planned-obeys : Obeys m x x
   planned-obeys =
       record {

@@ -3,9 +3,9 @@
 -- carried the same way, a deadline by its link's latest start. For levels let T be the planned tick of the last use before t: uses
 -- up to t were planned up to T, and uses planned before T lie before t; so the bounds carry over by two inequalities of sums.
 use Prim.Native.Nat.{ℕ, suc, _+_, _-_, _≤_, _<_}
-use mathlib.Core.Path.{_≡_, refl, sym, ap, _∙_}
+use mathlib.Core.Path.{_≡_, sym, ap, _∙_}
 use mathlib.Core.Logic.{_⊎_, inl, inr, ⊎-elim}
-use native.Mathlib.Decide.{ℕ-discrete, decLt, decLe}
+use native.Mathlib.Decide.{ℕ-discrete, decLt}
 use native.Mathlib.Omega.{arith}
 use Rattle.laws.proofs.Search.{by-order}
 use Rattle.laws.proofs.Fold.{least-le}
@@ -19,9 +19,9 @@ use Rattle.schedule.specs.Valid.{Valid}
 use Rattle.schedule.proofs.Seen.{Giver, seen-by-effect, seen-by-initial, afterAll-ge}
 use Rattle.schedule.proofs.Levels.{Within, rises-within, falls-within, last-use}
 use Rattle.partialize.specs.Links.{initialState, conditionLink, goalLink}
-use Rattle.partialize.specs.Windows.{noLatest, limitOf, allowed, latestOf}
+use Rattle.partialize.specs.Windows.{noLatest, allowed, latestOf}
 use Rattle.partialize.specs.Obeys.{Obeys}
-use Rattle.partialize.proofs.Orders.{kept-opposing, kept-support, kept-before, kept-after, kept-uses, kept-serial}
+use Rattle.partialize.proofs.Orders.{Opposer, kept-opposing, kept-support, kept-before, kept-after, kept-uses, kept-serial}
 use Rattle.partialize.proofs.Links.{Linked, initially, produced, condition-linked, goal-linked, goal-link-in-time}
 use Rattle.partialize.proofs.Limits.{limit-fixed, latest-fixed, latest-free, allowed-linked}
 
@@ -36,29 +36,40 @@ module _ (m : Model) (x y : ℕ → ℕ) (w : WellFormed m) (s : Valid m x) (o :
         | yes v ↦ v
         | no v ↦
             by-order (effectTick m x e) (effectTick m x f)
-            (λ l. absurd (omega (arith, kept-opposing m x y w o e f h g a v l)))
-            (λ l. absurd (omega (arith, kept-opposing m x y w o f e g h (sym a) (λ z. v (sym z)) l)))
+            (λ l. absurd (omega (arith, kept-opposing m x y w o e f g (record { known = h; ofFact = a; notValue = v }) l)))
+            (λ l.
+            absurd
+            (omega (arith, kept-opposing m x y w o f e h (record { known = g; ofFact = sym a; notValue = λ z. v (sym z) }) l)))
             (λ l. s .effectsApart e f h g d a l)
       ]
 
   -- opposing effects on a fact stay in order
-  pub kept-givers :
+  kept-givers :
       (fact v e f : ℕ) → Giver m fact v e → Giver m fact (1 - v) f → effectTick m x f < effectTick m x e
       → effectTick m y f < effectTick m y e
   kept-givers fact v e f g k l =
-      kept-opposing m x y w o f e (k .known) (g .known) (k .ofFact ∙ sym (g .ofFact)) (λ z. omega (arith, k .ofValue, g .ofValue)) l
+      kept-opposing m x y w o f e (g .known)
+      (record {
+        known = k .known;
+        ofFact = k .ofFact ∙ sym (g .ofFact);
+        notValue = λ z. omega (arith, k .ofValue, g .ofValue);
+      })
+      l
 
-  -- conditions
+  -- a condition's opposing effect of another step was planned before its first tick or after its last
   planned-apart :
-      (c e : ℕ) → c < m .conditions → e < m .effects → (m .effectStep e ≡ m .conditionStep c → ⊥) → m .effectFact e ≡ m .conditionFact c
-      → (m .effectValue e ≡ m .conditionValue c → ⊥)
+      (c e : ℕ) → c < m .conditions → (m .effectStep e ≡ m .conditionStep c → ⊥)
+      → Opposer m (m .conditionFact c) (m .conditionValue c) e
       → (effectTick m x e < firstTick m x c) ⊎ (lastTick m x c < effectTick m x e)
-  planned-apart c e h g d a v =
-      elim (decLt (effectTick m x e) (firstTick m x c)) [ yes l ↦ inl l | no l ↦ inr (later (decLt (lastTick m x c) (effectTick m x e)) l) ]
+  planned-apart c e h d p =
+      elim (decLt (effectTick m x e) (firstTick m x c)) [
+        | yes l ↦ inl l
+        | no l ↦ inr (later (decLt (lastTick m x c) (effectTick m x e)) l)
+      ]
     where
       later : Dec (lastTick m x c < effectTick m x e) → (effectTick m x e < firstTick m x c → ⊥) → lastTick m x c < effectTick m x e
       later (yes r) l = r
-      later (no r) l = absurd (v (s .conditionKept c e h g d a (omega arith) (omega arith)))
+      later (no r) l = absurd (p .notValue (s .conditionKept c e h (p .known) d (p .ofFact) (omega arith) (omega arith)))
 
   condition-kept :
       (c e : ℕ) → c < m .conditions → e < m .effects → (m .effectStep e ≡ m .conditionStep c → ⊥) → m .effectFact e ≡ m .conditionFact c
@@ -69,10 +80,11 @@ module _ (m : Model) (x y : ℕ → ℕ) (w : WellFormed m) (s : Valid m x) (o :
       elim (ℕ-discrete (m .effectValue e) (m .conditionValue c)) [
         | yes v ↦ v
         | no v ↦
+            let p : Opposer m (m .conditionFact c) (m .conditionValue c) e = record { known = g; ofFact = a; notValue = v } in
             ⊎-elim
-            (λ (b : effectTick m x e < firstTick m x c). absurd (omega (arith, kept-before m x y w o c e h g a v b)))
-            (λ (b : lastTick m x c < effectTick m x e). absurd (omega (arith, kept-after m x y w o c e h g a v b)))
-            (planned-apart c e h g d a v)
+            (λ (b : effectTick m x e < firstTick m x c). absurd (omega (arith, kept-before m x y w o c e h p b)))
+            (λ (b : lastTick m x c < effectTick m x e). absurd (omega (arith, kept-after m x y w o c e h p b)))
+            (planned-apart c e h d p)
       ]
 
   -- an opposing effect before the last tick was planned before the first
@@ -80,30 +92,39 @@ module _ (m : Model) (x y : ℕ → ℕ) (w : WellFormed m) (s : Valid m x) (o :
       (c f : ℕ) → c < m .conditions → Giver m (m .conditionFact c) (1 - m .conditionValue c) f → effectTick m y f < lastTick m y c
       → effectTick m x f < firstTick m x c
   opposed-before c f h g l =
-      let v : m .effectValue f ≡ m .conditionValue c → ⊥ = λ z. omega (arith, g .ofValue) in
+      let p : Opposer m (m .conditionFact c) (m .conditionValue c) f =
+      record { known = g .known; ofFact = g .ofFact; notValue = λ z. omega (arith, g .ofValue) }
+      in
       elim (ℕ-discrete (m .effectStep f) (m .conditionStep c)) [
-        | yes e ↦ own v e (decLt (effectTick m x f) (firstTick m x c))
+        | yes e ↦ own p e (decLt (effectTick m x f) (firstTick m x c))
         | no d ↦
             ⊎-elim
             (λ (b : effectTick m x f < firstTick m x c). b)
-            (λ (b : lastTick m x c < effectTick m x f). absurd (omega (arith, kept-after m x y w o c f h (g .known) (g .ofFact) v b)))
-            (planned-apart c f h (g .known) d (g .ofFact) v)
+            (λ (b : lastTick m x c < effectTick m x f). absurd (omega (arith, kept-after m x y w o c f h p b)))
+            (planned-apart c f h d p)
       ]
     where
-      own : (m .effectValue f ≡ m .conditionValue c → ⊥) → m .effectStep f ≡ m .conditionStep c → Dec (effectTick m x f < firstTick m x c) → effectTick m x f < firstTick m x c
-      own v e (yes b) = b
-      own v e (no b) =
-          let p : x (m .effectStep f) ≡ x (m .conditionStep c) = ap x e in
-          let q : y (m .effectStep f) ≡ y (m .conditionStep c) = ap y e in
-          absurd (v (w .keepsOwn f c (g .known) h e (g .ofFact) (omega arith) (omega arith)))
+      own :
+          Opposer m (m .conditionFact c) (m .conditionValue c) f → m .effectStep f ≡ m .conditionStep c
+          → Dec (effectTick m x f < firstTick m x c)
+          → effectTick m x f < firstTick m x c
+      own p e (yes b) = b
+      own p e (no b) =
+          let q : x (m .effectStep f) ≡ x (m .conditionStep c) = ap x e in
+          let r : y (m .effectStep f) ≡ y (m .conditionStep c) = ap y e in
+          absurd (p .notValue (w .keepsOwn f c (p .known) h e (p .ofFact) (omega arith) (omega arith)))
 
+  -- an effect is not the initial state
   not-initial : (k : ℕ) → k < m .effects → k ≡ initialState → ⊥
   not-initial k h z = omega (arith, w .effectCount)
 
-  condition-seen : (c t : ℕ) → c < m .conditions → firstTick m y c ≤ t → t ≤ lastTick m y c → seen m y (m .conditionFact c) t ≡ m .conditionValue c
+  condition-seen :
+      (c t : ℕ) → c < m .conditions → firstTick m y c ≤ t → t ≤ lastTick m y c → seen m y (m .conditionFact c) t ≡ m .conditionValue c
   condition-seen c t h l r = by (condition-linked m x w s c h)
     where
-      by : Linked m x (m .conditionFact c) (m .conditionValue c) (firstTick m x c) (conditionLink m x c) → seen m y (m .conditionFact c) t ≡ m .conditionValue c
+      by :
+          Linked m x (m .conditionFact c) (m .conditionValue c) (firstTick m x c) (conditionLink m x c)
+          → seen m y (m .conditionFact c) t ≡ m .conditionValue c
       by (initially z i n) =
           seen-by-initial m y (m .conditionFact c) (m .conditionValue c) t (w .conditionValue c h) i
           (λ f g k. n f g (opposed-before c f h g (omega arith)))
@@ -153,10 +174,14 @@ module _ (m : Model) (x y : ℕ → ℕ) (w : WellFormed m) (s : Valid m x) (o :
       ]
 
   -- goals
-  goal-seen : (g t : ℕ) → g < m .goals → (goalLink m x g < m .effects → effectTick m y (goalLink m x g) < t) → seen m y (m .goalFact g) t ≡ m .goalValue g
+  goal-seen :
+      (g t : ℕ) → g < m .goals → (goalLink m x g < m .effects → effectTick m y (goalLink m x g) < t)
+      → seen m y (m .goalFact g) t ≡ m .goalValue g
   goal-seen g t h l = by (goal-linked m x w s g h)
     where
-      by : Linked m x (m .goalFact g) (m .goalValue g) (afterAll m x) (goalLink m x g) → seen m y (m .goalFact g) t ≡ m .goalValue g
+      by :
+          Linked m x (m .goalFact g) (m .goalValue g) (afterAll m x) (goalLink m x g)
+          → seen m y (m .goalFact g) t ≡ m .goalValue g
       by (initially z i n) =
           seen-by-initial m y (m .goalFact g) (m .goalValue g) t (w .goalValue g h) i (λ f k _. n f k (afterAll-ge m x f (k .known)))
       by (produced e b n) =
@@ -177,7 +202,8 @@ module _ (m : Model) (x y : ℕ → ℕ) (w : WellFormed m) (s : Valid m x) (o :
       ⊎-elim
       (λ (n : (u : ℕ) → u < m .uses → m .useLevel u ≡ l → useTick m y u < suc t → ⊥).
       (0, λ u h a b. absurd (n u h a b), λ u h a b. absurd (omega arith)))
-      (λ (u : (u : ℕ) × (u < m .uses) × (m .useLevel u ≡ l) × (useTick m y u < suc t) × ((v : ℕ) → v < m .uses → m .useLevel v ≡ l → useTick m y v < suc t → useTick m y v ≤ useTick m y u)). (
+      (λ (u : (u : ℕ) × (u < m .uses) × (m .useLevel u ≡ l) × (useTick m y u < suc t)
+      × ((v : ℕ) → v < m .uses → m .useLevel v ≡ l → useTick m y v < suc t → useTick m y v ≤ useTick m y u)). (
         useTick m x (u .0),
         λ v h a b.
             elim (decLt (useTick m x (u .0)) (useTick m x v)) [
@@ -199,7 +225,8 @@ module _ (m : Model) (x y : ℕ → ℕ) (w : WellFormed m) (s : Valid m x) (o :
       omega (arith, s .levelHigh l (T .0) h, rises-within m y x l (suc t) (suc (T .0)) (T .1), falls-within m x y l (T .0) t (T .2))
 
   -- serial jobs
-  serial-apart : m .serial ≡ 1 → (i k : ℕ) → i < m .steps → k < m .steps → (i ≡ k → ⊥) → (finish m y i ≤ y k) ⊎ (finish m y k ≤ y i)
+  serial-apart :
+      m .serial ≡ 1 → (i k : ℕ) → i < m .steps → k < m .steps → (i ≡ k → ⊥) → (finish m y i ≤ y k) ⊎ (finish m y k ≤ y i)
   serial-apart a i k h g d =
       ⊎-elim
       (λ (l : finish m x i ≤ x k). kept-serial m x y w o i k a h g d l)
@@ -210,6 +237,7 @@ module _ (m : Model) (x y : ℕ → ℕ) (w : WellFormed m) (s : Valid m x) (o :
       (kept-serial m x y w o k i a g h (λ e. d (sym e)) l))
       (s .serialApart a i k h g d)
 
+  -- the theorem: a choice that obeys what is found in a valid schedule x is valid
   pub obeying-valid : Valid m y
   obeying-valid =
       record {

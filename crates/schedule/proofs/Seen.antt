@@ -1,17 +1,39 @@
 -- Laws of the value seen: what sets a fact last, what is seen for it, what a seen value tells, and how long it stays.
 use Prim.Native.Nat.{ℕ, zero, suc, _-_, _≤_, _<_}
-use mathlib.Core.Path.{_≡_, refl, sym, ap, ap₂, subst, _∙_}
+use mathlib.Core.Path.{_≡_, sym, ap, ap₂, _∙_}
 use mathlib.Core.Bool.{Bool, true, false, _&&_, cond}
 use mathlib.Core.Logic.{_⊎_, inl, inr, ⊎-elim}
 use native.Mathlib.Decide.{decLt}
 use native.Mathlib.Omega.{arith}
 use borrow.Author.Tests.{ltb-true, eqb-true, lt-ltb, le-ltb, eq-eqb}
-use lib.Dec.{ltb, eqb}
-use Rattle.laws.proofs.Search.{either, contrary, by-order, and-both}
-use Rattle.laws.proofs.Fold.{largest-ge, largest-le, largest-at}
+use lib.Dec.{ltb}
+use Rattle.laws.specs.Fold.{largest}
+use Rattle.laws.proofs.Search.{either, by-order, and-both}
+use Rattle.laws.proofs.Fold.{largest-ge, largest-at}
 use Rattle.job.specs.Model.{Model}
 use Rattle.schedule.specs.Ticks.{effectTick, gives}
 use Rattle.schedule.specs.Seen.{setAt, lastSet, seen, afterAll}
+
+-- one more than the latest tick of an index that passes, 0 where none does
+abbrev pub latest : ℕ → (ℕ → Bool) → (ℕ → ℕ) → ℕ
+latest n p tick = largest n (λ k. cond (p k) (suc (tick k)) 0)
+
+module _ (n : ℕ) (p : ℕ → Bool) (tick : ℕ → ℕ) where
+  pub latest-ge : (k : ℕ) → k < n → p k ≡ true → tick k < latest n p tick
+  latest-ge k h t =
+      let q : cond (p k) (suc (tick k)) 0 ≡ suc (tick k) = ap (λ b. cond b (suc (tick k)) 0) t in
+      omega (arith, largest-ge (λ k. cond (p k) (suc (tick k)) 0) n k h)
+
+  pub latest-at : (latest n p tick ≡ 0) ⊎ ((k : ℕ) × (k < n) × (p k ≡ true) × (suc (tick k) ≡ latest n p tick))
+  latest-at =
+      ⊎-elim
+      (λ (z : latest n p tick ≡ 0). inl z)
+      (λ (w : (k : ℕ) × (k < n) × (cond (p k) (suc (tick k)) 0 ≡ latest n p tick)).
+      ⊎-elim
+      (λ (t : p (w .0) ≡ true). inr (w .0, w .1, t, sym (ap (λ b. cond b (suc (tick (w .0))) 0) t) ∙ w .2))
+      (λ (f : p (w .0) ≡ false). inl (sym (w .2) ∙ ap (λ b. cond b (suc (tick (w .0))) 0) f))
+      (either (p (w .0))))
+      (largest-at (λ k. cond (p k) (suc (tick k)) 0) n)
 
 -- effect e gives the fact that value
 pub record Giver (m : Model) (fact value e : ℕ) : Type 0 where
@@ -19,63 +41,51 @@ pub record Giver (m : Model) (fact value e : ℕ) : Type 0 where
   pub ofFact : m .effectFact e ≡ fact
   pub ofValue : m .effectValue e ≡ value
 
+-- a giver before t at the last tick of one
+abbrev pub LastGiver : Model → (ℕ → ℕ) → ℕ → ℕ → ℕ → Type 0
+LastGiver m x fact v t = (e : ℕ) × Giver m fact v e × (effectTick m x e < t) × (suc (effectTick m x e) ≡ lastSet m x fact v t)
+
+-- a giver before t, after all that opposes before t
+abbrev pub LaterGiver : Model → (ℕ → ℕ) → ℕ → ℕ → ℕ → Type 0
+LaterGiver m x fact v t = (e : ℕ) × Giver m fact v e × (effectTick m x e < t) × (lastSet m x fact (1 - v) t ≤ effectTick m x e)
+
 module _ (m : Model) (x : ℕ → ℕ) (fact : ℕ) where
-  set-by : (v t e : ℕ) → Giver m fact v e → effectTick m x e < t → setAt m x fact v t e ≡ suc (effectTick m x e)
-  unfolding setAt
-  set-by v t e g h =
-      ap (λ b. cond b (suc (effectTick m x e)) 0)
-      (ap₂ _&&_ (ap₂ _&&_ (eq-eqb _ _ (g .ofFact)) (eq-eqb _ _ (g .ofValue))) (lt-ltb _ _ h))
-
-  -- what is set is set by a giver before t
-  set-at : (v t e : ℕ) → e < m .effects → (setAt m x fact v t e ≡ 0) ⊎ (Giver m fact v e × (effectTick m x e < t) × (setAt m x fact v t e ≡ suc (effectTick m x e)))
-  unfolding setAt
-  set-at v t e h =
-      ⊎-elim
-      (λ (a : (gives m e fact v && ltb (effectTick m x e) t) ≡ true).
-      let b = and-both _ _ a in
-      let c = and-both _ _ (b .0) in
-      inr (record { known = h; ofFact = eqb-true _ _ (c .0); ofValue = eqb-true _ _ (c .1) }, ltb-true _ _ (b .1), ap (λ b. cond b (suc (effectTick m x e)) 0) a))
-      (λ (a : (gives m e fact v && ltb (effectTick m x e) t) ≡ false). inl (ap (λ b. cond b (suc (effectTick m x e)) 0) a))
-      (either (gives m e fact v && ltb (effectTick m x e) t))
-
   -- a giver before t is at most the last one
   pub lastSet-ge : (v t e : ℕ) → Giver m fact v e → effectTick m x e < t → effectTick m x e < lastSet m x fact v t
-  unfolding lastSet
-  lastSet-ge v t e g h = omega (arith, set-by v t e g h, largest-ge (setAt m x fact v t) (m .effects) e (g .known))
-
-  -- what bounds every giver before t bounds the last one
-  pub lastSet-le : (v t b : ℕ) → ((e : ℕ) → Giver m fact v e → effectTick m x e < t → effectTick m x e < b) → lastSet m x fact v t ≤ b
-  unfolding lastSet
-  lastSet-le v t b h =
-      largest-le (setAt m x fact v t) (m .effects) b
-      (λ e k.
-      ⊎-elim
-      (λ (z : setAt m x fact v t e ≡ 0). omega arith)
-      (λ (w : Giver m fact v e × (effectTick m x e < t) × (setAt m x fact v t e ≡ suc (effectTick m x e))).
-      omega (arith, h e (w .0) (w .1)))
-      (set-at v t e k))
+  unfolding lastSet setAt
+  lastSet-ge v t e g h =
+      latest-ge (m .effects) (λ e. gives m e fact v && ltb (effectTick m x e) t) (effectTick m x) e (g .known)
+      (ap₂ _&&_ (ap₂ _&&_ (eq-eqb _ _ (g .ofFact)) (eq-eqb _ _ (g .ofValue))) (lt-ltb _ _ h))
 
   -- nothing has set the value, or a giver is the last one
-  pub lastSet-at :
-      (v t : ℕ) → (lastSet m x fact v t ≡ 0)
-      ⊎ ((e : ℕ) × Giver m fact v e × (effectTick m x e < t) × (suc (effectTick m x e) ≡ lastSet m x fact v t))
-  unfolding lastSet
+  pub lastSet-at : (v t : ℕ) → (lastSet m x fact v t ≡ 0) ⊎ LastGiver m x fact v t
+  unfolding lastSet setAt
   lastSet-at v t =
+      let p : ℕ → Bool = λ e. gives m e fact v && ltb (effectTick m x e) t in
       ⊎-elim
       (λ (z : lastSet m x fact v t ≡ 0). inl z)
-      (λ (w : (e : ℕ) × (e < m .effects) × (setAt m x fact v t e ≡ lastSet m x fact v t)).
+      (λ (w : (e : ℕ) × (e < m .effects) × (p e ≡ true) × (suc (effectTick m x e) ≡ lastSet m x fact v t)).
+      let b = and-both (gives m (w .0) fact v) (ltb (effectTick m x (w .0)) t) (w .2) in
+      let c = and-both _ _ (b .0) in
+      inr (w .0, record { known = w .1; ofFact = eqb-true _ _ (c .0); ofValue = eqb-true _ _ (c .1) }, ltb-true _ _ (b .1), w .3))
+      (latest-at (m .effects) p (effectTick m x))
+
+  -- what bounds every giver before t bounds the last one
+  pub lastSet-le :
+      (v t b : ℕ) → ((e : ℕ) → Giver m fact v e → effectTick m x e < t → effectTick m x e < b) → lastSet m x fact v t ≤ b
+  lastSet-le v t b h =
       ⊎-elim
-      (λ (z : setAt m x fact v t (w .0) ≡ 0). inl (sym (w .2) ∙ z))
-      (λ (g : Giver m fact v (w .0) × (effectTick m x (w .0) < t) × (setAt m x fact v t (w .0) ≡ suc (effectTick m x (w .0)))).
-      inr (w .0, g .0, g .1, sym (g .2) ∙ w .2))
-      (set-at v t (w .0) (w .1)))
-      (largest-at (setAt m x fact v t) (m .effects))
+      (λ (z : lastSet m x fact v t ≡ 0). omega arith)
+      (λ (w : LastGiver m x fact v t). omega (arith, h (w .0) (w .1) (w .2), w .3))
+      (lastSet-at v t)
 
   pub lastSet-le-tick : (v t : ℕ) → lastSet m x fact v t ≤ t
   lastSet-le-tick v t = lastSet-le v t t (λ e g h. h)
 
   -- where every giver before t lies before t', the last one is no later there
-  pub lastSet-grows : (v t t' : ℕ) → ((e : ℕ) → Giver m fact v e → effectTick m x e < t → effectTick m x e < t') → lastSet m x fact v t ≤ lastSet m x fact v t'
+  pub lastSet-grows :
+      (v t t' : ℕ) → ((e : ℕ) → Giver m fact v e → effectTick m x e < t → effectTick m x e < t')
+      → lastSet m x fact v t ≤ lastSet m x fact v t'
   lastSet-grows v t t' h = lastSet-le v t (lastSet m x fact v t') (λ e g l. lastSet-ge v t' e g (h e g l))
 
   -- the later of the two values is seen, and the initial value where neither is later
@@ -85,10 +95,16 @@ module _ (m : Model) (x : ℕ → ℕ) (fact : ℕ) where
   seen-later (suc zero) t b h = simp (lt-ltb _ _ h)
   seen-later (suc (suc v)) t b h = absurd (omega arith)
 
-  seen-tied : (v t : ℕ) → v ≤ 1 → lastSet m x fact (1 - v) t ≡ lastSet m x fact v t → seen m x fact t ≡ m .initial fact
+  tied : (t : ℕ) → lastSet m x fact 0 t ≡ lastSet m x fact 1 t → seen m x fact t ≡ m .initial fact
   unfolding seen
-  seen-tied zero t b h = simp (le-ltb (lastSet m x fact 0 t) (lastSet m x fact 1 t) (omega arith), le-ltb (lastSet m x fact 1 t) (lastSet m x fact 0 t) (omega arith))
-  seen-tied (suc zero) t b h = simp (le-ltb (lastSet m x fact 0 t) (lastSet m x fact 1 t) (omega arith), le-ltb (lastSet m x fact 1 t) (lastSet m x fact 0 t) (omega arith))
+  tied t h =
+      let z = lastSet m x fact 0 t in
+      let o = lastSet m x fact 1 t in
+      rw (le-ltb z o (omega arith), le-ltb o z (omega arith))
+
+  seen-tied : (v t : ℕ) → v ≤ 1 → lastSet m x fact (1 - v) t ≡ lastSet m x fact v t → seen m x fact t ≡ m .initial fact
+  seen-tied zero t b h = tied t (sym h)
+  seen-tied (suc zero) t b h = tied t h
   seen-tied (suc (suc v)) t b h = absurd (omega arith)
 
   -- a value is seen exactly where the other was not set later, and where neither was, it is the initial one
@@ -141,16 +157,14 @@ module _ (m : Model) (x : ℕ → ℕ) (fact : ℕ) where
   -- why a value is seen: a giver after the last opposing effect, or the initial value where neither was set later
   pub seen-why :
       (v t : ℕ) → v ≤ 1 → seen m x fact t ≡ v
-      → ((e : ℕ) × Giver m fact v e × (effectTick m x e < t) × (lastSet m x fact (1 - v) t ≤ effectTick m x e))
-      ⊎ ((m .initial fact ≡ v) × (lastSet m x fact (1 - v) t ≡ lastSet m x fact v t))
+      → LaterGiver m x fact v t ⊎ ((m .initial fact ≡ v) × (lastSet m x fact (1 - v) t ≡ lastSet m x fact v t))
   seen-why v t b h =
       let w = seen-tells v t b h in
       by-order (lastSet m x fact (1 - v) t) (lastSet m x fact v t)
       (λ l.
       ⊎-elim
       (λ (z : lastSet m x fact v t ≡ 0). absurd (omega arith))
-      (λ (g : (e : ℕ) × Giver m fact v e × (effectTick m x e < t) × (suc (effectTick m x e) ≡ lastSet m x fact v t)).
-      inl (g .0, g .1, g .2, omega arith))
+      (λ (g : LastGiver m x fact v t). inl (g .0, g .1, g .2, omega arith))
       (lastSet-at v t))
       (λ l. absurd (omega arith))
       (λ e. inr (w .1 e, e))
@@ -159,19 +173,17 @@ module _ (m : Model) (x : ℕ → ℕ) (fact : ℕ) where
   pub seen-why-apart :
       (v t : ℕ) → v ≤ 1 → ((e f : ℕ) → Giver m fact v e → Giver m fact (1 - v) f → effectTick m x e ≡ effectTick m x f → ⊥)
       → seen m x fact t ≡ v
-      → ((e : ℕ) × Giver m fact v e × (effectTick m x e < t) × (lastSet m x fact (1 - v) t ≤ effectTick m x e))
-      ⊎ ((m .initial fact ≡ v) × (lastSet m x fact (1 - v) t ≡ 0))
+      → LaterGiver m x fact v t ⊎ ((m .initial fact ≡ v) × (lastSet m x fact (1 - v) t ≡ 0))
   seen-why-apart v t b a h =
       ⊎-elim
-      (λ (g : (e : ℕ) × Giver m fact v e × (effectTick m x e < t) × (lastSet m x fact (1 - v) t ≤ effectTick m x e)). inl g)
+      (λ (g : LaterGiver m x fact v t). inl g)
       (λ (i : (m .initial fact ≡ v) × (lastSet m x fact (1 - v) t ≡ lastSet m x fact v t)).
       ⊎-elim
       (λ (z : lastSet m x fact (1 - v) t ≡ 0). inr (i .0, z))
-      (λ (f : (f : ℕ) × Giver m fact (1 - v) f × (effectTick m x f < t) × (suc (effectTick m x f) ≡ lastSet m x fact (1 - v) t)).
+      (λ (f : LastGiver m x fact (1 - v) t).
       ⊎-elim
       (λ (z : lastSet m x fact v t ≡ 0). absurd (omega arith))
-      (λ (e : (e : ℕ) × Giver m fact v e × (effectTick m x e < t) × (suc (effectTick m x e) ≡ lastSet m x fact v t)).
-      absurd (a (e .0) (f .0) (e .1) (f .1) (omega arith)))
+      (λ (e : LastGiver m x fact v t). absurd (a (e .0) (f .0) (e .1) (f .1) (omega arith)))
       (lastSet-at v t))
       (lastSet-at (1 - v) t))
       (seen-why v t b h)
@@ -205,7 +217,9 @@ module _ (m : Model) (x : ℕ → ℕ) (fact : ℕ) where
       → seen m x fact t ≡ seen m x fact t'
   unfolding seen
   seen-same t t' h k =
-      let e : (v : ℕ) → lastSet m x fact v t ≡ lastSet m x fact v t' = λ v. omega (arith, lastSet-grows v t t' (h v), lastSet-grows v t' t (k v)) in
+      let e : (v : ℕ) → lastSet m x fact v t ≡ lastSet m x fact v t' =
+      λ v. omega (arith, lastSet-grows v t t' (h v), lastSet-grows v t' t (k v))
+      in
       rw (e 0, e 1)
 
 -- every effect lies before the tick after all
@@ -215,6 +229,7 @@ afterAll-ge m x e h = largest-ge (λ e. suc (effectTick m x e)) (m .effects) e h
 
 -- after every effect the end value is seen
 pub seen-after-all :
-    (m : Model) (x : ℕ → ℕ) (fact t : ℕ) → ((e : ℕ) → e < m .effects → effectTick m x e < t) → seen m x fact t ≡ seen m x fact (afterAll m x)
+    (m : Model) (x : ℕ → ℕ) (fact t : ℕ) → ((e : ℕ) → e < m .effects → effectTick m x e < t)
+    → seen m x fact t ≡ seen m x fact (afterAll m x)
 seen-after-all m x fact t h =
     seen-same m x fact t (afterAll m x) (λ v e g _. afterAll-ge m x e (g .known)) (λ v e g _. h e (g .known))
