@@ -6,7 +6,7 @@ use native.Mathlib.Decide.{ℕ-discrete}
 use lib.Dec.{eqb, ltb}
 use borrow.Author.Tests.{eq-eqb, ne-eqb, lt-ltb, le-ltb}
 use Rattle.laws.specs.Search.{lowest}
-use Rattle.laws.proofs.Search.{any-false, any-lowest}
+use Rattle.laws.proofs.Search.{any-none, any-false, any-lowest}
 use Rattle.job.specs.declared.verdict.Verdict.{Verdict}
 use Rattle.job.specs.declared.verdict.Verdict.the-variants.{Accepted}
 use Rattle.job.specs.Verdict.{number, _then_, refuseIf, refuseLowest}
@@ -67,3 +67,14 @@ refuse-zero false v h e = refl
 pub lowest-zero : (n : ℕ) (p : ℕ → Bool) (refusal : ℕ → Verdict) → ((k : ℕ) → number (refusal k) ≡ 0 → ⊥) → number (refuseLowest n p refusal) ≡ 0 → (k : ℕ) → k < n → p k ≡ false
 unfolding refuseLowest
 lowest-zero n p refusal h e = any-false p n (any-lowest p n ∙ refuse-zero _ _ (h (lowest n p)) e)
+
+-- and a chain accepts where each check does
+pub zero-then : (v w : Verdict) → number v ≡ 0 → number w ≡ 0 → number (v then w) ≡ 0
+zero-then v w h g = ap number (sym (then-accepted v w h)) ∙ g
+
+pub zero-refuse : (b : Bool) (v : Verdict) → b ≡ false → number (refuseIf b v) ≡ 0
+zero-refuse b v e = ap number (sym (refuse-no v e))
+
+pub zero-lowest : (n : ℕ) (p : ℕ → Bool) (refusal : ℕ → Verdict) → ((k : ℕ) → k < n → p k ≡ false) → number (refuseLowest n p refusal) ≡ 0
+unfolding refuseLowest
+zero-lowest n p refusal h = zero-refuse _ (refusal (lowest n p)) (sym (any-lowest p n) ∙ any-none p n h)

@@ -102,6 +102,12 @@ module _ (f : ℕ → ℕ) where
       let v : b ≤ f n = h n (omega arith) in
       omega arith
 
+-- values that are all 0 sum to 0
+pub sum-zero : (f : ℕ → ℕ) (n : ℕ) → ((k : ℕ) → k < n → f k ≡ 0) → sum n f ≡ 0
+unfolding sum
+sum-zero f zero h = refl
+sum-zero f (suc n) h = ap₂ _+_ (sum-zero f n (λ k l. h k (omega arith))) (h n (omega arith))
+
 module _ (f g : ℕ → ℕ) where
   -- values that agree give equal folds, and values that are at most others give a sum that is
   pub largest-cong : (n : ℕ) → ((k : ℕ) → k < n → f k ≡ g k) → largest n f ≡ largest n g

@@ -2,3 +2,4 @@
 pub mod Seen
 pub mod Levels
 pub mod Steps
+pub mod Tested
