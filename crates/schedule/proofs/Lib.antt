@@ -3,3 +3,4 @@ pub mod Seen
 pub mod Levels
 pub mod Steps
 pub mod Tested
+pub mod Accepted

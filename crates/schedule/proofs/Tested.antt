@@ -38,18 +38,18 @@ module _ (m : Model) (x : ℕ → ℕ) where
   opposes-in e fact value f v = ap₂ _&&_ (eq-eqb _ _ f) (ap not (ne-eqb _ _ v))
 
   -- refusal 9
-  moved-none : (k : ℕ) → moved m x k ≡ false → m .fixed k ≡ 1 → x k ≡ m .start k
+  pub moved-none : (k : ℕ) → moved m x k ≡ false → m .fixed k ≡ 1 → x k ≡ m .start k
   unfolding moved
   moved-none k h f =
       eqb-true _ _ (not-false _ (sym (ap (λ b. b && not (eqb (x k) (m .start k))) (eq-eqb _ _ f)) ∙ h))
 
-  none-moved : (k : ℕ) → (m .fixed k ≡ 1 → x k ≡ m .start k) → moved m x k ≡ false
+  pub none-moved : (k : ℕ) → (m .fixed k ≡ 1 → x k ≡ m .start k) → moved m x k ≡ false
   unfolding moved
   none-moved k h =
       fails _ (λ t. let b = and-both _ _ t in eqb-false _ _ (not-true _ (b .1)) (h (eqb-true _ _ (b .0))))
 
   -- refusal 10
-  conflicts-none :
+  pub conflicts-none :
       (e f : ℕ) → f < m .effects → conflicts m x e ≡ false → (m .effectStep e ≡ m .effectStep f → ⊥) → m .effectFact e ≡ m .effectFact f
       → effectTick m x e ≡ effectTick m x f
       → m .effectValue e ≡ m .effectValue f
@@ -60,7 +60,7 @@ module _ (m : Model) (x : ℕ → ℕ) where
         | no v ↦ contrary (ap₂ _&&_ (ap₂ _&&_ (ap not (ne-eqb _ _ s)) (opposes-in e (m .effectFact f) (m .effectValue f) a v)) (eq-eqb _ _ t)) (any-false (meets m x e) (m .effects) n f h)
       ]
 
-  none-conflicts : Valid m x → (e : ℕ) → e < m .effects → conflicts m x e ≡ false
+  pub none-conflicts : Valid m x → (e : ℕ) → e < m .effects → conflicts m x e ≡ false
   unfolding conflicts meets
   none-conflicts v e h =
       any-none (meets m x e) (m .effects)
@@ -73,7 +73,7 @@ module _ (m : Model) (x : ℕ → ℕ) where
       o .1 (v .effectsApart e f h g (eqb-false _ _ (not-true _ (a .0))) (o .0) (eqb-true _ _ (b .1)))))
 
   -- refusal 11
-  breaks-none :
+  pub breaks-none :
       (c e : ℕ) → e < m .effects → any (m .effects) (breaks m x c) ≡ false → (m .effectStep e ≡ m .conditionStep c → ⊥) → m .effectFact e ≡ m .conditionFact c
       → firstTick m x c ≤ effectTick m x e
       → effectTick m x e ≤ lastTick m x c
@@ -118,7 +118,7 @@ module _ (m : Model) (x : ℕ → ℕ) where
       and-both _ _ (not-false _ (sym (ap (λ b. b && not (aboveLeast m x l (useTick m x u) && belowMost m x l (useTick m x u))) (eq-eqb _ _ e)) ∙ any-false (passes m x l) (m .uses) n u h))
 
   -- and so at every tick: up to the next use nothing changes
-  low-everywhere : (l t : ℕ) → m .levelLeast l ≤ m .levelInitial l → levelFails m x l ≡ false → m .levelLeast l + fallsBefore m x l (suc t) ≤ m .levelInitial l + risesBefore m x l t
+  pub low-everywhere : (l t : ℕ) → m .levelLeast l ≤ m .levelInitial l → levelFails m x l ≡ false → m .levelLeast l + fallsBefore m x l (suc t) ≤ m .levelInitial l + risesBefore m x l t
   low-everywhere l t i n =
       ⊎-elim
       (λ (z : (u : ℕ) → u < m .uses → m .useLevel u ≡ l → useTick m x u < suc t → ⊥). omega (arith, idle-falls l (suc t) z))
@@ -128,7 +128,7 @@ module _ (m : Model) (x : ℕ → ℕ) where
       omega (arith, b, f, rises-ascend m x l (useTick m x (w .0)) t (omega (arith, w .3))))
       (last-use m x l (suc t))
 
-  high-everywhere : (l t : ℕ) → m .levelInitial l ≤ m .levelMost l → levelFails m x l ≡ false → m .levelInitial l + risesBefore m x l (suc t) ≤ m .levelMost l + fallsBefore m x l t
+  pub high-everywhere : (l t : ℕ) → m .levelInitial l ≤ m .levelMost l → levelFails m x l ≡ false → m .levelInitial l + risesBefore m x l (suc t) ≤ m .levelMost l + fallsBefore m x l t
   high-everywhere l t i n =
       ⊎-elim
       (λ (z : (u : ℕ) → u < m .uses → m .useLevel u ≡ l → useTick m x u < suc t → ⊥). omega (arith, idle-rises l (suc t) z))
@@ -138,7 +138,7 @@ module _ (m : Model) (x : ℕ → ℕ) where
       omega (arith, b, f, falls-ascend m x l (useTick m x (w .0)) t (omega (arith, w .3))))
       (last-use m x l (suc t))
 
-  none-passes : Valid m x → (l : ℕ) → l < m .levels → levelFails m x l ≡ false
+  pub none-passes : Valid m x → (l : ℕ) → l < m .levels → levelFails m x l ≡ false
   unfolding levelFails passes
   none-passes v l h =
       any-none (passes m x l) (m .uses)
@@ -151,7 +151,7 @@ module _ (m : Model) (x : ℕ → ℕ) where
       (not-true _ (b .1))))
 
   -- refusal 14
-  crowded-none : (i k : ℕ) → k < m .steps → crowded m x i ≡ false → m .serial ≡ 1 → (i ≡ k → ⊥) → (finish m x i ≤ x k) ⊎ (finish m x k ≤ x i)
+  pub crowded-none : (i k : ℕ) → k < m .steps → crowded m x i ≡ false → m .serial ≡ 1 → (i ≡ k → ⊥) → (finish m x i ≤ x k) ⊎ (finish m x k ≤ x i)
   unfolding crowded overlaps
   crowded-none i k h n s d =
       let o = any-false (overlaps m x i) (m .steps) (sym (ap (λ b. b && any (m .steps) (overlaps m x i)) (eq-eqb _ _ s)) ∙ n) k h in
@@ -160,7 +160,7 @@ module _ (m : Model) (x : ℕ → ℕ) where
         | no l ↦ inr (leb-true _ _ (not-false _ (sym (ap (λ b. b && not (leb (finish m x k) (x i))) (ap₂ _&&_ (ap not (ne-eqb _ _ d)) (ap not (fails (leb (finish m x i) (x k)) (λ t. l (leb-true _ _ t)))))) ∙ o)))
       ]
 
-  none-crowded : Valid m x → (i : ℕ) → i < m .steps → crowded m x i ≡ false
+  pub none-crowded : Valid m x → (i : ℕ) → i < m .steps → crowded m x i ≡ false
   unfolding crowded overlaps
   none-crowded v i h =
       fails _
@@ -178,13 +178,21 @@ module _ (m : Model) (x : ℕ → ℕ) where
       (λ (l : finish m x k ≤ x i). contrary (le-leb _ _ l) (not-true _ (b .1)))
       (v .serialApart (eqb-true _ _ (s .0)) i k h g (eqb-false _ _ (not-true _ (a .0))))))))
 
+  -- the two halves of 11, and those of 13
+  pub condition-holds : (c : ℕ) → conditionFails m x c ≡ false → (seen m x (m .conditionFact c) (firstTick m x c) ≡ m .conditionValue c) × (any (m .effects) (breaks m x c) ≡ false)
+  unfolding conditionFails
+  condition-holds c n = let b = or-both _ _ n in (eqb-true _ _ (not-false _ (b .0)), b .1)
+
+  pub goal-holds : (g : ℕ) → goalFails m x g ≡ false → (seen m x (m .goalFact g) (afterAll m x) ≡ m .goalValue g) × (late m x g ≡ false)
+  unfolding goalFails
+  goal-holds g n = let b = or-both _ _ n in (eqb-true _ _ (not-false _ (b .0)), b .1)
+
 module _ (m : Model) (x : ℕ → ℕ) (w : WellFormed m) where
   -- refusal 11: from the first tick on, what opposes is another step's and caught, or the step's own and refused by 7
-  condition-seen :
+  pub condition-seen :
       (c t : ℕ) → c < m .conditions → conditionFails m x c ≡ false → firstTick m x c ≤ t → t ≤ lastTick m x c → seen m x (m .conditionFact c) t ≡ m .conditionValue c
-  unfolding conditionFails
   condition-seen c t h n l r =
-      let b = or-both _ _ n in
+      let b = condition-holds m x c n in
       seen-persists m x (m .conditionFact c) (m .conditionValue c) (firstTick m x c) t (w .conditionValue c h) l
       (λ f g k j.
       elim (ℕ-discrete (m .effectStep f) (m .conditionStep c)) [
@@ -193,9 +201,9 @@ module _ (m : Model) (x : ℕ → ℕ) (w : WellFormed m) where
             omega (arith, g .ofValue, w .conditionValue c h, w .keepsOwn f c (g .known) h s (g .ofFact) (omega arith) (omega arith))
         | no s ↦ omega (arith, g .ofValue, w .conditionValue c h, breaks-none m x c f (g .known) (b .1) s (g .ofFact) k (omega arith))
       ])
-      (eqb-true _ _ (not-false _ (b .0)))
+      (b .0)
 
-  none-condition-fails : Valid m x → (c : ℕ) → c < m .conditions → conditionFails m x c ≡ false
+  pub none-condition-fails : Valid m x → (c : ℕ) → c < m .conditions → conditionFails m x c ≡ false
   unfolding conditionFails
   none-condition-fails v c h =
       ap₂ _||_
@@ -203,7 +211,7 @@ module _ (m : Model) (x : ℕ → ℕ) (w : WellFormed m) where
       (none-breaks m x v c h)
 
   -- refusal 13
-  goal-in-time :
+  pub goal-in-time :
       (g t : ℕ) → g < m .goals → late m x g ≡ false → (m .goalDeadline g ≡ noDeadline → ⊥) → m .goalDeadline g < t → seen m x (m .goalFact g) t ≡ m .goalValue g
   unfolding late undoes
   goal-in-time g t h n d l =
@@ -246,7 +254,7 @@ module _ (m : Model) (x : ℕ → ℕ) (w : WellFormed m) where
       in
       omega (arith, z, y, r)))
 
-  none-goal-fails : Valid m x → (g : ℕ) → g < m .goals → goalFails m x g ≡ false
+  pub none-goal-fails : Valid m x → (g : ℕ) → g < m .goals → goalFails m x g ≡ false
   unfolding goalFails late
   none-goal-fails v g h =
       ap₂ _||_ (ap not (eq-eqb _ _ (v .goalReached g h)))
