@@ -25,10 +25,21 @@ pub or-both : (a b : Bool) → (a || b) ≡ false → (a ≡ false) × (b ≡ fa
 or-both true b e = contrary refl e
 or-both false b e = (refl, e)
 
--- both halves of a test that passes
+-- one of two tests of which some passes
+pub or-out : (a b : Bool) → (a || b) ≡ true → (a ≡ true) ⊎ (b ≡ true)
+or-out true b e = inl refl
+or-out false b e = inr e
+
+-- both halves of a test that passes, and each alone
 pub and-both : (a b : Bool) → (a && b) ≡ true → (a ≡ true) × (b ≡ true)
 and-both true b e = (refl, e)
 and-both false b e = contrary e refl
+
+pub and-l : (a b : Bool) → (a && b) ≡ true → a ≡ true
+and-l a b e = and-both a b e .0
+
+pub and-r : (a b : Bool) → (a && b) ≡ true → b ≡ true
+and-r a b e = and-both a b e .1
 
 -- of two numbers one is lower, or they are equal
 pub by-order {ℓ} : {A : Type ℓ} (a b : ℕ) → (a < b → A) → (b < a → A) → (a ≡ b → A) → A
@@ -95,6 +106,10 @@ module _ (p : ℕ → Bool) where
   pub any-start : any 0 p ≡ false
   unfolding any
   any-start = refl
+
+  pub all-start : all 0 p ≡ true
+  unfolding all
+  all-start = refl
 
   -- the search of one more index: found before, found here, found nowhere
   lowest-keep : (n : ℕ) → lowest n p < n → lowest (suc n) p ≡ lowest n p
@@ -186,6 +201,18 @@ module _ (p : ℕ → Bool) where
   pub any-end : (n i : ℕ) → any i p ≡ false → i ≤ n → n ≤ i → false ≡ any n p
   any-end n i e h g = let q : i ≡ n = omega arith in sym e ∙ ap (λ k. any k p) q
 
+  -- A loop that answers whether every index passes has shown `all i p ≡ true`.
+  pub all-more : (i : ℕ) {r : Bool} → all i p ≡ true → r ≡ p i → r ≡ true → all (i + 1) p ≡ true
+  unfolding all
+  all-more i e q t = rw add-one (ap (λ b. b && p i) e ∙ sym q ∙ t)
+
+  pub all-found : (n i : ℕ) {r : Bool} → i < n → r ≡ p i → r ≡ false → false ≡ all n p
+  all-found n i h q f =
+      ⊎-elim (λ (t : all n p ≡ true). contrary (all-elim n t i h) (sym q ∙ f)) sym (either (all n p))
+
+  pub all-end : (n i : ℕ) → all i p ≡ true → i ≤ n → n ≤ i → true ≡ all n p
+  all-end n i e h g = let q : i ≡ n = omega arith in sym e ∙ ap (λ k. all k p) q
+
 -- the lowest index that passes one of two tests is the lower of the two lowest
 pub lowest-or : (p q : ℕ → Bool) (n : ℕ) → lowest n (λ k. p k || q k) ≡ min (lowest n p) (lowest n q)
 lowest-or p q n =
@@ -210,6 +237,11 @@ lowest-cong p q n h =
 
 pub any-cong : (p q : ℕ → Bool) (n : ℕ) → ((k : ℕ) → k < n → p k ≡ q k) → any n p ≡ any n q
 any-cong p q n h = any-lowest p n ∙ ap (λ k. ltb k n) (lowest-cong p q n h) ∙ sym (any-lowest q n)
+
+pub all-cong : (p q : ℕ → Bool) (n : ℕ) → ((k : ℕ) → k < n → p k ≡ q k) → all n p ≡ all n q
+unfolding all
+all-cong p q zero h = refl
+all-cong p q (suc n) h = ap₂ _&&_ (all-cong p q n (λ k l. h k (omega arith))) (h n (omega arith))
 
 -- A loop that keeps the lowest owner found so far starts from n, and lowers it at an index that passes.
 module _ (n : ℕ) (owner : ℕ → ℕ) (p : ℕ → Bool) where

@@ -1,6 +1,4 @@
 -- The laws of order files.
-pub mod AllLoop
-pub mod Both
 pub mod Stands
 pub mod Encode
 pub mod RoundTrip

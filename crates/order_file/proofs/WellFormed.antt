@@ -10,14 +10,13 @@ use lib.ListN.{length, getD}
 use lib.Dec.{ltb, leb, eqb}
 use Rattle.laws.specs.Search.{all}
 use Rattle.laws.specs.Bytes.{u16At, u32At}
-use Rattle.laws.proofs.Search.{all-intro, all-elim}
+use Rattle.laws.proofs.Search.{all-intro, all-elim, and-l, and-r, or-out}
 use Rattle.order_file.specs.Contents.{Contents, initialState}
 use Rattle.order_file.specs.Layout.{windowsAt, windowAt, ordersAt, linksAt, fileLength, contentsOf}
 use Rattle.order_file.specs.Encode.{encode}
 use Rattle.order_file.specs.WellFormed.{layoutHolds, lengthHolds, countsHold, orderHolds, ascends, linkHolds, roundsHold, windowHolds, wellFormed}
 use Rattle.order_file.specs.Within.{Within}
 use Rattle.order_file.specs.Agree.{Agree}
-use Rattle.order_file.proofs.Both.{and-l, and-r, or-out}
 use Rattle.order_file.proofs.Encode.{length-encode}
 use Rattle.order_file.proofs.RoundTrip.{round-trip, edition-back, windows-at-back, orders-at-back, links-at-back}
 

@@ -2,6 +2,7 @@
 mod checks;
 mod compare;
 mod layout;
+pub mod numbers;
 
 ghost use mathlib.Core.Path.{_≡_};
 ghost use Prim.Native.Nat.{_<_};

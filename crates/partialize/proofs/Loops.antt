@@ -1,9 +1,8 @@
--- What the loops over starts keep: the largest so far, equal so far, filled so far.
-use Prim.Native.Nat.{ℕ, zero, suc, _+_, _*_, _≤_, _<_, max}
+-- What the loops over starts keep: the largest so far, filled so far, reached so far.
+use Prim.Native.Nat.{ℕ, _+_, _*_, _≤_, _<_, max}
 use mathlib.Core.Path.{_≡_, refl, sym, ap, ap₂, _∙_}
-use mathlib.Core.Bool.{Bool, true, false, _&&_}
+use mathlib.Core.Bool.{Bool, true, false}
 use mathlib.Core.List.{List}
-use mathlib.Core.Logic.{⊎-elim}
 use native.Mathlib.Nat.{not-suc-le-zero}
 use native.Mathlib.Numerals.{add-one}
 use native.Mathlib.Decide.{ℕ-discrete}
@@ -13,7 +12,7 @@ use lib.Seq.{getD-set-same, getD-set-other}
 use lib.Dec.{eqb}
 use Rattle.laws.specs.Search.{all, lowest}
 use Rattle.laws.specs.Fold.{largest}
-use Rattle.laws.proofs.Search.{either, contrary, all-elim, lowest-start, lowest-more, lowest-found, lowest-end}
+use Rattle.laws.proofs.Search.{all-cong, lowest-start, lowest-more, lowest-found, lowest-end}
 use Rattle.partialize.specs.Table.{gapBias, gapIn, startIn, Gaps, Bounded, Filled}
 use Rattle.partialize.specs.Rounds.{raised, after, unchanged, rounds, earliest}
 use Rattle.partialize.proofs.Rounds.{raised-cong, after-most}
@@ -30,22 +29,6 @@ module _ (a : ℕ) (f : ℕ → ℕ) where
 
   pub max-end : (n i : ℕ) {best : ℕ} → best ≡ max a (largest i f) → i ≤ n → n ≤ i → best ≡ max a (largest n f)
   max-end n i e h g = let q : i ≡ n = omega arith in e ∙ ap (λ k. max a (largest k f)) q
-
--- A loop that answers whether every index passes has shown `all i p ≡ true`.
-module _ (p : ℕ → Bool) where
-  pub all-start : all 0 p ≡ true
-  unfolding all
-  all-start = refl
-
-  pub all-more : (i : ℕ) → all i p ≡ true → p i ≡ true → all (i + 1) p ≡ true
-  unfolding all
-  all-more i e t = rw add-one (ap (λ b. b && p i) e ∙ t)
-
-  pub all-found : (n i : ℕ) → i < n → p i ≡ false → false ≡ all n p
-  all-found n i h f = ⊎-elim (λ (t : all n p ≡ true). contrary (all-elim p n t i h) f) sym (either (all n p))
-
-  pub all-end : (n i : ℕ) → all i p ≡ true → i ≤ n → n ≤ i → true ≡ all n p
-  all-end n i e h g = let q : i ≡ n = omega arith in sym e ∙ ap (λ k. all k p) q
 
 -- A loop that stores f i at each i has filled the starts below i.
 module _ (f : ℕ → ℕ) (before : List ℕ) where
@@ -66,12 +49,6 @@ module _ (f : ℕ → ℕ) (before : List ℕ) where
 
   pub filled-end : (n i : ℕ) (starts : List ℕ) → Filled i f before starts → i ≤ n → n ≤ i → Filled n f before starts
   filled-end n i starts w h g = let q : i ≡ n = omega arith in rw q at w
-
--- tests that agree below n agree on all
-all-cong : (p q : ℕ → Bool) (n : ℕ) → ((k : ℕ) → k < n → p k ≡ q k) → all n p ≡ all n q
-unfolding all
-all-cong p q zero h = refl
-all-cong p q (suc n) h = ap₂ _&&_ (all-cong p q n (λ k l. h k (omega arith))) (h n (omega arith))
 
 -- A loop of rounds has, after r of them, the starts of the definition, and each of them changed some start.
 pub record Reached (n : ℕ) (gap : ℕ → ℕ → ℕ) (bias : ℕ) (before : List ℕ) (r : ℕ) (starts : List ℕ) : Type 0 where

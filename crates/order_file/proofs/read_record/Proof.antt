@@ -7,7 +7,7 @@ use denote.Ref.{now}
 use lib.Dec.{ltb}
 use Rattle.order_file.specs.Answers.{recordRead, recordThere}
 use Rattle.order_file.proofs.Answers.{record-promise}
-use Rattle.order_file.proofs.Both.{and-r}
+use Rattle.laws.proofs.Search.{and-r}
 use Rattle.order_file.proofs.read_record.Statement.{statement}
 use Rattle.order_file.proofs.read_record.Tie as tie
 
