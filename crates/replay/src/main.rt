@@ -3,6 +3,7 @@ mod fields;
 mod form;
 mod lines;
 mod orders;
+mod timing;
 
 // Serves the next case, and answers whether to go on.
 fn serve(fd: i32) -> bool {
@@ -13,6 +14,8 @@ fn serve(fd: i32) -> bool {
     let letter = command[0];
     match letter {
         b'w' => form::serve_form(fd),
+        b'c' => timing::serve_job(fd),
+        b't' => timing::serve_schedule(fd),
         b'h' => orders::serve_header(fd),
         b'r' => orders::serve_record(fd),
         b'a' => orders::serve_alike(fd),

@@ -1,0 +1,17 @@
+-- The first n starts are lent.
+use mathlib.Core.Path.{sym}
+use lib.Seq.{length-take-le}
+use borrow.Author.Needs.{needs}
+use native.Mathlib.Omega.{arith}
+use Rattle.replay.proofs.timing.check_starts.Statement.{statement}
+use Rattle.replay.proofs.timing.check_starts.Tie as tie
+
+pub check-starts-spec : {M : Type 1} → statement M
+check-starts-spec =
+    tie.close
+    (tie.spec
+    (λ c κs. search needs)
+    (λ c. search needs)
+    (λ c. sym (length-take-le (c .before .before .before .before .args .n) (c .before .decode .result) (omega (arith, c .before .decode .ensures))))
+    (λ c κs. search needs)
+    (λ c. search needs))

@@ -1,0 +1,64 @@
+// Cases about the timing of a job.
+ghost use Prim.Native.Nat.{_≤_};
+ghost use lib.ListN.{length};
+ghost use mathlib.Core.Path.{_≡_};
+use crate::fields::read_field;
+use crate::lines;
+use job::verdict;
+
+// The most starts that a field holds.
+const MOST: usize = 16384;
+
+// `c`: the job check.
+pub fn serve_job(fd: i32) -> bool {
+    let mut file = io::large_buffer();
+    let field = read_field(fd, &mut file);
+    if !field.whole {
+        return lines::bad_cases();
+    }
+    let n = field.len;
+    let v = schedule::check_job(&file[..n]);
+    lines::begin(b"c", verdict::number(v), verdict::place(v));
+    lines::end()
+}
+
+// The first n of a field's u32 numbers.
+fn decode(bytes: &[u8], n: usize) -> [u32; 16384]
+    requires { ⌜ n ≤ 16384 ⌝ }
+    ensures { λ r. ⌜ length r ≡ 16384 ⌝ }
+{
+    let mut starts = [0u32; MOST];
+    let mut i = 0;
+    while i < n {
+        starts[i] = laws::u32_at(bytes, 4 * i) as u32;
+        i += 1;
+    }
+    starts
+}
+
+fn check_starts(file: &[u8], bytes: &[u8], n: usize) -> verdict::Verdict
+    requires { ⌜ n ≤ 16384 ⌝ }
+{
+    let starts = decode(bytes, n);
+    schedule::check_schedule(file, &starts[..n])
+}
+
+// `t`: the timing check.
+pub fn serve_schedule(fd: i32) -> bool {
+    let mut file = io::large_buffer();
+    let mut list = io::large_buffer();
+    let field = read_field(fd, &mut file);
+    let starts = read_field(fd, &mut list);
+    let len = starts.len;
+    let n = len / 4;
+    if !(field.whole & starts.whole & (len % 4 == 0)) {
+        return lines::bad_cases();
+    }
+    if MOST < n {
+        return lines::bad_cases();
+    }
+    let m = field.len;
+    let v = check_starts(&file[..m], &list[..len], n);
+    lines::begin(b"t", verdict::number(v), verdict::place(v));
+    lines::end()
+}
