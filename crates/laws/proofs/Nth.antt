@@ -10,7 +10,7 @@ use borrow.Author.Tests.{eq-eqb, ne-eqb, eqb-true}
 use lib.Dec.{eqb}
 use Rattle.laws.specs.Search.{lowest}
 use Rattle.laws.specs.Nth.{count, nth}
-use Rattle.laws.proofs.Search.{either, contrary, and-both, last-or-below, lowest-is, lowest-facts, lowest-lt, lowest-cong}
+use Rattle.laws.proofs.Search.{either, and-both, lowest-is, lowest-facts, lowest-lt, lowest-cong}
 
 at-most-one : (b : Bool) → cond b 1 0 ≤ 1
 at-most-one true = omega arith
