@@ -1,5 +1,6 @@
 -- The laws of the definitions in specs/, each under its definition's name.
 pub mod Search
 pub mod Fold
+pub mod Nth
 pub mod Listed
 pub mod Bytes

@@ -1,5 +1,6 @@
--- General definitions: bounded search and folds over indexes, lists made by an index, little-endian numbers.
+-- General definitions: bounded search, folds and counts over indexes, lists made by an index, little-endian numbers.
 pub mod Search
 pub mod Fold
+pub mod Nth
 pub mod Listed
 pub mod Bytes

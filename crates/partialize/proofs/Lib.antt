@@ -7,3 +7,6 @@ pub mod Limits
 pub mod Planned
 pub mod Sound
 pub mod End
+pub mod Satisfied
+pub mod Within
+pub mod Filed

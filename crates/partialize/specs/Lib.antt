@@ -5,3 +5,5 @@ pub mod Windows
 pub mod Obeys
 pub mod Rounds
 pub mod Table
+pub mod File
+pub mod Held
