@@ -1,4 +1,4 @@
--- Loosening: what supports each condition and goal, which step precedes which by how much, and when each step may start.
+-- Loosening: what supports each condition and goal, which step precedes which by how much, when each step may start, and the file.
 pub mod Links
 pub mod Gaps
 pub mod Windows
@@ -7,3 +7,6 @@ pub mod Rounds
 pub mod Table
 pub mod File
 pub mod Held
+pub mod Answer
+pub mod Partialization
+pub mod Demands

@@ -1,2 +1,3 @@
 // Orders from a sound job.
+pub mod answer;
 pub mod starts;

@@ -1,0 +1,20 @@
+-- The paper's numbers of what loosening answers: "0 means accepted .. and, from loosening, the file's length; a refusal's length is 0".
+use Prim.Native.Nat.{ℕ}
+use Rattle.job.specs.Verdict as verdict
+use Rattle.partialize.specs.declared.answer.Answer.{Answer}
+use Rattle.partialize.specs.declared.answer.Answer.the-variants.{Filed, Refused, BufferTooShort}
+
+abbrev pub number : Answer → ℕ
+number (Filed n) = 0
+number (Refused v) = verdict.number v
+number BufferTooShort = 15
+
+abbrev pub place : Answer → ℕ
+place (Filed n) = verdict.nowhere
+place (Refused v) = verdict.place v
+place BufferTooShort = verdict.nowhere
+
+abbrev pub lengthOf : Answer → ℕ
+lengthOf (Filed n) = n
+lengthOf (Refused v) = 0
+lengthOf BufferTooShort = 0

@@ -1,0 +1,53 @@
+-- What loosening promises of the file that it wrote, one field a clause of the user's demands.
+use Prim.Native.Nat.{ℕ, _≤_, _<_}
+use mathlib.Core.Path.{_≡_}
+use mathlib.Core.Bool.{true}
+use mathlib.Core.List.{List}
+use mathlib.Core.Logic.{_⊎_}
+use lib.ListN.{length, take}
+use Rattle.job.specs.Model.{modelOf}
+use Rattle.schedule.specs.Ticks.{planned}
+use Rattle.schedule.specs.Valid.{Valid}
+use Rattle.schedule.specs.EndState.{SameEnd}
+use Rattle.schedule.specs.Promise.{Sound}
+use Rattle.order_file.specs.Agree.{Agree}
+use Rattle.order_file.specs.Layout.{contentsOf}
+use Rattle.order_file.specs.WellFormed.{wellFormed}
+use Rattle.order_file.specs.Satisfies.{SatisfiesFile}
+use Rattle.partialize.specs.declared.answer.Answer.{Answer}
+use Rattle.partialize.specs.declared.answer.Answer.the-variants.{BufferTooShort}
+use Rattle.partialize.specs.Answer.{number, lengthOf}
+use Rattle.partialize.specs.Partialization.{looseOf, answerTo, bufferAfter}
+
+-- demand 2: the file passes the reader and holds exactly the supporters, orders and start limits of the rules
+pub record Exact (s file : List ℕ) : Type 0 where
+  pub readable : wellFormed file ≡ true
+  pub contents : Agree (contentsOf file) (looseOf s)
+
+-- demand 3: whatever starts satisfy the file are a sound timing with the planned schedule's end
+pub record Loose (s file : List ℕ) : Type 0 where
+  -- no condition fails, no opposing effects meet, no level passes a bound, no goal or deadline is missed, no serial steps overlap,
+  -- every fixed step keeps its tick
+  pub valid : (y : ℕ → ℕ) → SatisfiesFile file y → Valid (modelOf s) y
+  -- the end state is that of the job's own timing
+  pub sameEnd : (y : ℕ → ℕ) → SatisfiesFile file y → SameEnd (modelOf s) y (planned (modelOf s))
+  -- the printed earliest times are the least
+  pub atOrAfter : (y : ℕ → ℕ) → SatisfiesFile file y → (k : ℕ) → k < modelOf s .steps → contentsOf file .earliest k ≤ y k
+  -- are such a choice
+  pub earliestSatisfy : SatisfiesFile file (contentsOf file .earliest)
+  -- and are at most the job's own starts
+  pub atMostPlanned : (k : ℕ) → k < modelOf s .steps → contentsOf file .earliest k ≤ modelOf s .start k
+  -- which satisfy the file too
+  pub plannedSatisfies : SatisfiesFile file (planned (modelOf s))
+  -- the rounds number at most the steps
+  pub fewRounds : contentsOf file .rounds ≤ modelOf s .steps
+
+-- what loosening promises of its answer and of the buffer at exit
+pub record Promise (s before after : List ℕ) (r : Answer) : Type 0 where
+  pub answer : r ≡ answerTo s (length before)
+  pub buffer : after ≡ bufferAfter s before
+  -- accepted only if sound; and of a sound job nothing but a short buffer is refused
+  pub sound : number r ≡ 0 → Sound s (planned (modelOf s))
+  pub complete : Sound s (planned (modelOf s)) → (number r ≡ 0) ⊎ (r ≡ BufferTooShort)
+  pub exact : number r ≡ 0 → Exact s (take (lengthOf r) after)
+  pub loose : number r ≡ 0 → Loose s (take (lengthOf r) after)
