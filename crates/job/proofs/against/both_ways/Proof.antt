@@ -17,4 +17,4 @@ both-ways-spec =
     (λ c κs. search needs)
     (λ c κs. search needs)
     (λ c κs. search needs)
-    (λ c. cc))
+    (λ c. rw (c .effect-value2 .ensures, c .before .effect-value .ensures, c .before .before .effect-at2 .ensures .0, c .before .before .before .effect-at .ensures .0, c .before .before .before .before .effect-fact2 .ensures, c .before .before .before .before .before .effect-fact .ensures, c .before .before .before .before .before .before .effect-step2 .ensures, c .before .before .before .before .before .before .before .effect-step .ensures)))

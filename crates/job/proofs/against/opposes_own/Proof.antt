@@ -18,4 +18,4 @@ opposes-own-spec =
     (λ c κs. search needs)
     (λ c κs. search needs)
     (λ c κs. search needs)
-    (λ c. cc))
+    (λ c. rw (c .condition-to .ensures .0, c .before .condition-from .ensures .0, c .before .before .condition-value .ensures, c .before .before .before .effect-value .ensures, c .before .before .before .before .condition-fact .ensures, c .before .before .before .before .before .effect-fact .ensures, c .before .before .before .before .before .before .condition-step .ensures, c .before .before .before .before .before .before .before .effect-step .ensures, c .before .before .before .before .before .before .before .before .effect-at .ensures .0)))

@@ -15,4 +15,4 @@ uses-twice-spec =
     (λ c κs. search needs)
     (λ c κs. search needs)
     (λ c κs. search needs)
-    (λ c. cc))
+    (λ c. rw (c .use-at2 .ensures .0, c .before .use-at .ensures .0, c .before .before .use-level2 .ensures, c .before .before .before .use-level .ensures, c .before .before .before .before .use-step2 .ensures, c .before .before .before .before .before .use-step .ensures)))

@@ -15,4 +15,4 @@ condition-ok-spec =
     (λ c κs. search needs)
     (λ c κs. search needs)
     (λ c κs. search needs)
-    (λ c. cc))
+    (λ c. rw (c .condition-value .ensures, c .before .step-length .ensures .0, c .before .before .condition-from .ensures .0, c .before .before .before .before .condition-fact .ensures, c .before .before .before .before .before .before .condition-to .ensures .0, c .before .before .before .before .before .before .before .condition-step .ensures)))

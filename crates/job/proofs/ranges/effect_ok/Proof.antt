@@ -14,4 +14,4 @@ effect-ok-spec =
     (λ c κs. search needs)
     (λ c κs. search needs)
     (λ c κs. search needs)
-    (λ c. cc))
+    (λ c. rw (c .effect-value .ensures, c .before .step-length .ensures .0, c .before .before .effect-at .ensures .0, c .before .before .before .before .effect-fact .ensures, c .before .before .before .before .before .before .effect-step .ensures)))

@@ -10,4 +10,4 @@ fact-ok-spec =
     tie.close
     (tie.spec
     (λ c κs. search needs)
-    (λ c. cc))
+    (λ c. rw (c .fact-initial .ensures)))

@@ -15,4 +15,4 @@ level-ok-spec =
     (λ c κs. search needs)
     (λ c κs. search needs)
     (λ c κs. search needs)
-    (λ c. cc))
+    (λ c. rw (c .level-in-range3 .ensures, c .before .level-in-range2 .ensures, c .before .before .level-in-range .ensures, c .before .before .before .level-most .ensures .0, c .before .before .before .before .level-least .ensures .0, c .before .before .before .before .before .level-initial .ensures .0)))

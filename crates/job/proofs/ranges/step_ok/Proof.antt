@@ -12,4 +12,4 @@ step-ok-spec =
     (λ c κs. search needs)
     (λ c κs. search needs)
     (λ c κs. search needs)
-    (λ c. cc))
+    (λ c. rw (c .step-fixed .ensures, c .before .step-length .ensures .0, c .before .before .step-start .ensures .0)))

@@ -14,4 +14,4 @@ use-ok-spec =
     (λ c κs. search needs)
     (λ c κs. search needs)
     (λ c κs. search needs)
-    (λ c. cc))
+    (λ c. rw (c .step-length .ensures .0, c .before .use-at .ensures .0, c .before .before .before .use-level .ensures, c .before .before .before .before .before .use-amount .ensures .0, c .before .before .before .before .before .before .use-step .ensures)))

@@ -13,4 +13,4 @@ read-spec =
     (λ c. search needs)
     (λ c κs. search needs)
     (λ c κs. search needs)
-    (λ c. cc))
+    (λ c. rw (c .of .ensures, c .before .read .ensures, c .before .before .u16-at .ensures .0)))
