@@ -1,2 +1,5 @@
 // Orders from a sound job.
+pub mod fill;
 pub mod starts;
+pub mod support;
+pub mod window;
