@@ -1,6 +1,6 @@
 -- A table is raised by one order at a time. What a loop has raised is the largest of its orders so far, two rules one after the other
 -- raise by the larger of their gaps, and an empty table raised by all rules is the table of gaps.
-use Prim.Native.Nat.{ℕ, zero, suc, _+_, _*_, _/_, _%_, _≤_, _<_, max}
+use Prim.Native.Nat.{ℕ, _+_, _*_, _≤_, _<_, max}
 use mathlib.Core.Path.{_≡_, refl, sym, ap, ap₂, _∙_}
 use mathlib.Core.Bool.{Bool, true, false, _&&_, cond, and-false}
 use mathlib.Core.List.{List}
@@ -15,10 +15,11 @@ use Rattle.laws.specs.Fold.{largest}
 use Rattle.laws.proofs.Fold.{largest-ge, largest-le}
 use Rattle.schedule.proofs.Steps.{counted-le}
 use Rattle.partialize.specs.Table.{gapIn, Gaps, single, Raised, TableOf}
+use Rattle.partialize.proofs.Chosen.{eqb-same}
 
 -- what one order says of the entry at a and b
 single-at : (i k gap : ℕ) → single i k gap i k ≡ gap
-single-at i k gap = ap (λ t. cond t gap 0) (ap₂ _&&_ (eq-eqb i i refl) (eq-eqb k k refl))
+single-at i k gap = ap (λ t. cond t gap 0) (ap₂ _&&_ (eqb-same i) (eqb-same k))
 
 single-off : (i k gap a b : ℕ) → (i ≡ a → k ≡ b → ⊥) → single i k gap a b ≡ 0
 single-off i k gap a b d =
@@ -27,11 +28,11 @@ single-off i k gap a b d =
       | no e ↦ ap (λ t. cond (t && eqb k b) gap 0) (ne-eqb i a e)
     ]
 
--- an order whose two further tests were made beforehand
+-- an order by its gap between its own two steps
 pub single-order :
-    {a b gap : ℕ} (first second : ℕ) (r t : Bool) (g : ℕ) → a ≡ first → b ≡ second → gap ≡ cond (r && t) g 0
+    {a b gap : ℕ} (first second : ℕ) (r t : Bool) (g : ℕ) → a ≡ first → b ≡ second → gap ≡ cond (eqb first first && eqb second second && r && t) g 0
     → (i k : ℕ) → single a b gap i k ≡ cond (eqb first i && eqb second k && r && t) g 0
-single-order first second r t g p q e i k = rw (p, q, e) (tests (eqb first i && eqb second k))
+single-order first second r t g p q e i k = rw (p, q, e, eqb-same first, eqb-same second) (tests (eqb first i && eqb second k))
   where
     tests : (b : Bool) → cond b (cond (r && t) g 0) 0 ≡ cond (b && r && t) g 0
     tests true = refl

@@ -1,5 +1,6 @@
 -- Loosening: what supports each condition and goal, which step precedes which by how much, and when each step may start.
 pub mod Links
+pub mod Producers
 pub mod Gaps
 pub mod Windows
 pub mod Obeys

@@ -1,6 +1,6 @@
 // The table of gaps, filled rule by rule (orders, rules 1 to 5). Of several gaps for one entry the largest stays.
 ghost use mathlib.Core.Path.{_≡_};
-ghost use mathlib.Core.Bool.{_&&_, _||_, not, cond};
+ghost use mathlib.Core.Bool.{_&&_, _||_, not};
 ghost use Prim.Native.Nat.{ℕ, _+_, _≤_, _<_};
 ghost use lib.Dec.{eqb, leb, ltb};
 ghost use lib.ListN.{length, getD};
@@ -8,7 +8,7 @@ ghost use Rattle.laws.specs.Fold.{largest};
 ghost use Rattle.job.specs.Model.{view};
 ghost use Rattle.job.specs.WellFormed.{WellFormed};
 ghost use Rattle.schedule.specs.Ticks as ticks;
-ghost use Rattle.schedule.specs.Ticks.{scheduleOf, effectTick, firstTick, lastTick, useTick};
+ghost use Rattle.schedule.specs.Ticks.{scheduleOf};
 ghost use Rattle.schedule.specs.Valid.{Valid};
 ghost use Rattle.partialize.specs.Gaps as spec;
 ghost use Rattle.partialize.specs.Gaps.{supportOrder, supportGap, opposingOrder, opposingGap, beforeOrder, afterOrder, conditionGap, levelOrder, levelGap, serialGap, gapOf};
@@ -18,8 +18,26 @@ use crate::starts::NONE;
 use crate::starts::WIDTH;
 use crate::support::INITIAL;
 use job::layout::Job;
-use job::records::*;
-use schedule::ticks::*;
+use job::records::condition_fact;
+use job::records::condition_from;
+use job::records::condition_step;
+use job::records::condition_to;
+use job::records::condition_value;
+use job::records::effect_at;
+use job::records::effect_fact;
+use job::records::effect_step;
+use job::records::effect_value;
+use job::records::step_length;
+use job::records::use_at;
+use job::records::use_level;
+use job::records::use_step;
+use schedule::ticks::effect_tick;
+use schedule::ticks::finish;
+use schedule::ticks::first_tick;
+use schedule::ticks::last_tick;
+use schedule::ticks::opposes;
+use schedule::ticks::start_of;
+use schedule::ticks::use_tick;
 
 // The gap of "p strictly before q", plus the bias.
 fn strictly(p: usize, q: usize) -> u32
@@ -78,7 +96,7 @@ fn fill_support(s: &[u8], job: Job, links: &[u16], gaps: &mut [u32])
 // The gap from effect e to effect f, where they oppose each other and e comes first.
 fn opposing_gap(s: &[u8], job: Job, starts: &[u32], e: u16, f: u16) -> u32
     requires { ⌜ WellFormed (view job (now s)) × (e < job .count .effects) × (f < job .count .effects) ⌝ }
-    ensures { λ r. ⌜ (r ≡ cond (ticks.opposes (view job (now (s .entry))) e (view job (now (s .entry)) .effectFact f) (view job (now (s .entry)) .effectValue f) && ltb (effectTick (view job (now (s .entry))) (scheduleOf (now (starts .entry))) e) (effectTick (view job (now (s .entry))) (scheduleOf (now (starts .entry))) f)) (spec.strictly (view job (now (s .entry)) .effectAt e) (view job (now (s .entry)) .effectAt f)) 0) × (r ≤ 200001) ⌝ }
+    ensures { λ r. ⌜ (r ≡ opposingOrder (view job (now (s .entry))) (scheduleOf (now (starts .entry))) (view job (now (s .entry)) .effectStep e) (view job (now (s .entry)) .effectStep f) e f) × (r ≤ 200001) ⌝ }
 {
     let fact = effect_fact(s, job, f);
     let value = effect_value(s, job, f);
@@ -122,7 +140,7 @@ fn fill_opposing(s: &[u8], job: Job, starts: &[u32], gaps: &mut [u32])
 // The gap from effect e to the first tick of condition c, where e opposes c and comes before it.
 fn before_gap(s: &[u8], job: Job, starts: &[u32], c: u16, e: u16) -> u32
     requires { ⌜ WellFormed (view job (now s)) × (c < job .count .conditions) × (e < job .count .effects) ⌝ }
-    ensures { λ r. ⌜ (r ≡ cond (ticks.opposes (view job (now (s .entry))) e (view job (now (s .entry)) .conditionFact c) (view job (now (s .entry)) .conditionValue c) && ltb (effectTick (view job (now (s .entry))) (scheduleOf (now (starts .entry))) e) (firstTick (view job (now (s .entry))) (scheduleOf (now (starts .entry))) c)) (spec.strictly (view job (now (s .entry)) .effectAt e) (view job (now (s .entry)) .conditionFrom c)) 0) × (r ≤ 200001) ⌝ }
+    ensures { λ r. ⌜ (r ≡ beforeOrder (view job (now (s .entry))) (scheduleOf (now (starts .entry))) (view job (now (s .entry)) .effectStep e) (view job (now (s .entry)) .conditionStep c) c e) × (r ≤ 200001) ⌝ }
 {
     let fact = condition_fact(s, job, c);
     let value = condition_value(s, job, c);
@@ -138,7 +156,7 @@ fn before_gap(s: &[u8], job: Job, starts: &[u32], c: u16, e: u16) -> u32
 // The gap from the last tick of condition c to effect e, where e opposes c and comes after it.
 fn after_gap(s: &[u8], job: Job, starts: &[u32], c: u16, e: u16) -> u32
     requires { ⌜ WellFormed (view job (now s)) × (c < job .count .conditions) × (e < job .count .effects) ⌝ }
-    ensures { λ r. ⌜ (r ≡ cond (ticks.opposes (view job (now (s .entry))) e (view job (now (s .entry)) .conditionFact c) (view job (now (s .entry)) .conditionValue c) && ltb (lastTick (view job (now (s .entry))) (scheduleOf (now (starts .entry))) c) (effectTick (view job (now (s .entry))) (scheduleOf (now (starts .entry))) e)) (spec.strictly (view job (now (s .entry)) .conditionTo c) (view job (now (s .entry)) .effectAt e)) 0) × (r ≤ 200001) ⌝ }
+    ensures { λ r. ⌜ (r ≡ afterOrder (view job (now (s .entry))) (scheduleOf (now (starts .entry))) (view job (now (s .entry)) .conditionStep c) (view job (now (s .entry)) .effectStep e) c e) × (r ≤ 200001) ⌝ }
 {
     let fact = condition_fact(s, job, c);
     let value = condition_value(s, job, c);
@@ -198,7 +216,7 @@ fn fill_conditions(s: &[u8], job: Job, starts: &[u32], gaps: &mut [u32])
 // The gap from use u to use v, where they use one level and u comes first.
 fn level_gap(s: &[u8], job: Job, starts: &[u32], u: u16, v: u16) -> u32
     requires { ⌜ WellFormed (view job (now s)) × (u < job .count .uses) × (v < job .count .uses) ⌝ }
-    ensures { λ r. ⌜ (r ≡ cond (eqb (view job (now (s .entry)) .useLevel u) (view job (now (s .entry)) .useLevel v) && ltb (useTick (view job (now (s .entry))) (scheduleOf (now (starts .entry))) u) (useTick (view job (now (s .entry))) (scheduleOf (now (starts .entry))) v)) (spec.strictly (view job (now (s .entry)) .useAt u) (view job (now (s .entry)) .useAt v)) 0) × (r ≤ 200001) ⌝ }
+    ensures { λ r. ⌜ (r ≡ levelOrder (view job (now (s .entry))) (scheduleOf (now (starts .entry))) (view job (now (s .entry)) .useStep u) (view job (now (s .entry)) .useStep v) u v) × (r ≤ 200001) ⌝ }
 {
     if (use_level(s, job, u) == use_level(s, job, v))
         & (use_tick(s, job, starts, u) < use_tick(s, job, starts, v))

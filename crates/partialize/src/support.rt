@@ -2,17 +2,16 @@
 ghost use mathlib.Core.Path.{_≡_};
 ghost use mathlib.Core.Bool.{_&&_, cond};
 ghost use Prim.Native.Nat.{_+_, _≤_, min};
-ghost use lib.Dec.{leb, eqb};
+ghost use lib.Dec.{eqb};
 ghost use lib.ListN.{length};
 ghost use Rattle.laws.specs.Search.{lowest};
 ghost use Rattle.laws.specs.Fold.{least};
 ghost use Rattle.job.specs.Model.{view};
 ghost use Rattle.job.specs.WellFormed.{WellFormed};
-ghost use Rattle.schedule.specs.Ticks as ticks;
 ghost use Rattle.schedule.specs.Ticks.{scheduleOf, effectTick};
-ghost use Rattle.schedule.specs.Seen.{afterAll};
 ghost use Rattle.partialize.specs.Links as spec;
 ghost use Rattle.partialize.specs.Links.{lastOpposing, linkOf, conditionLink, goalLink};
+ghost use Rattle.partialize.specs.Producers.{givesFrom};
 ghost use Rattle.partialize.specs.Table.{linkAt, Filled};
 use job::layout::Job;
 use job::records::condition_fact;
@@ -50,14 +49,14 @@ fn last_opposing(s: &[u8], job: Job, starts: &[u32], fact: u16, value: u16, t: u
 }
 
 fn producer(s: &[u8], job: Job, starts: &[u32], want: Wanted, e: u16) -> bool
-    ensures { λ r. ⌜ r ≡ (ticks.gives (view job (now (s .entry))) e (want .fact) (want .value) && leb (want .from) (effectTick (view job (now (s .entry))) (scheduleOf (now (starts .entry))) e)) ⌝ }
+    ensures { λ r. ⌜ r ≡ givesFrom (view job (now (s .entry))) (scheduleOf (now (starts .entry))) (want .fact) (want .value) (want .from) e ⌝ }
 {
     gives(s, job, e, want.fact, want.value) & (want.from <= effect_tick(s, job, starts, e))
 }
 
 // The tick of a producer; `none` for any other effect.
 fn produced_at(s: &[u8], job: Job, starts: &[u32], want: Wanted, none: usize, e: u16) -> usize
-    ensures { λ r. ⌜ r ≡ cond (ticks.gives (view job (now (s .entry))) e (want .fact) (want .value) && leb (want .from) (effectTick (view job (now (s .entry))) (scheduleOf (now (starts .entry))) e)) (effectTick (view job (now (s .entry))) (scheduleOf (now (starts .entry))) e) none ⌝ }
+    ensures { λ r. ⌜ r ≡ cond (givesFrom (view job (now (s .entry))) (scheduleOf (now (starts .entry))) (want .fact) (want .value) (want .from) e) (effectTick (view job (now (s .entry))) (scheduleOf (now (starts .entry))) e) none ⌝ }
 {
     if producer(s, job, starts, want, e) {
         effect_tick(s, job, starts, e)
@@ -74,7 +73,7 @@ fn lower(a: usize, b: usize) -> usize
 
 // The tick of the earliest producer.
 fn earliest_produced(s: &[u8], job: Job, starts: &[u32], want: Wanted, none: usize) -> usize
-    ensures { λ r. ⌜ r ≡ least (job .count .effects) none (λ e. cond (ticks.gives (view job (now (s .entry))) e (want .fact) (want .value) && leb (want .from) (effectTick (view job (now (s .entry))) (scheduleOf (now (starts .entry))) e)) (effectTick (view job (now (s .entry))) (scheduleOf (now (starts .entry))) e) none) ⌝ }
+    ensures { λ r. ⌜ r ≡ least (job .count .effects) none (λ e. cond (givesFrom (view job (now (s .entry))) (scheduleOf (now (starts .entry))) (want .fact) (want .value) (want .from) e) (effectTick (view job (now (s .entry))) (scheduleOf (now (starts .entry))) e) none) ⌝ }
 {
     let n = job.count.effects;
     let mut earliest = none;
@@ -88,7 +87,7 @@ fn earliest_produced(s: &[u8], job: Job, starts: &[u32], want: Wanted, none: usi
 
 // The lowest producer at the tick of the earliest.
 fn supporter(s: &[u8], job: Job, starts: &[u32], want: Wanted, earliest: usize) -> u16
-    ensures { λ r. ⌜ r ≡ lowest (job .count .effects) (λ e. ticks.gives (view job (now (s .entry))) e (want .fact) (want .value) && leb (want .from) (effectTick (view job (now (s .entry))) (scheduleOf (now (starts .entry))) e) && eqb (effectTick (view job (now (s .entry))) (scheduleOf (now (starts .entry))) e) earliest) ⌝ }
+    ensures { λ r. ⌜ r ≡ lowest (job .count .effects) (λ e. givesFrom (view job (now (s .entry))) (scheduleOf (now (starts .entry))) (want .fact) (want .value) (want .from) e && eqb (effectTick (view job (now (s .entry))) (scheduleOf (now (starts .entry))) e) earliest) ⌝ }
 {
     let n = job.count.effects;
     let mut e = 0;

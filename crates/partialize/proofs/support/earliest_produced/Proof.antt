@@ -1,12 +1,12 @@
 -- The least so far is kept.
 use Prim.Native.Nat.{_≤_, _-_}
 use mathlib.Core.Path.{_≡_}
-use mathlib.Core.Bool.{_&&_, cond}
-use lib.Dec.{leb}
+use mathlib.Core.Bool.{cond}
 use Rattle.laws.specs.Fold.{least}
 use Rattle.laws.proofs.Fold.{least-start, least-more, least-end}
 use Rattle.job.specs.Model.{view}
-use Rattle.schedule.specs.Ticks.{scheduleOf, effectTick, gives}
+use Rattle.schedule.specs.Ticks.{scheduleOf, effectTick}
+use Rattle.partialize.specs.Producers.{givesFrom}
 use borrow.Author.Needs.{needs}
 use Rattle.partialize.proofs.support.earliest_produced.Statement.{statement}
 use Rattle.partialize.proofs.support.earliest_produced.Tie as tie
@@ -15,7 +15,7 @@ pub earliest-produced-spec : {M : Type 1} → statement M
 earliest-produced-spec =
     tie.close
     (tie.spec
-    (λ s job starts want none n earliest₀ e₀ earliest e. (e ≤ n) × (earliest ≡ least e none (λ k. cond (gives (view job s) k (want .fact) (want .value) && leb (want .from) (effectTick (view job s) (scheduleOf starts) k)) (effectTick (view job s) (scheduleOf starts) k) none)))
+    (λ s job starts want none n earliest₀ e₀ earliest e. (e ≤ n) × (earliest ≡ least e none (λ k. cond (givesFrom (view job s) (scheduleOf starts) (want .fact) (want .value) (want .from) k) (effectTick (view job s) (scheduleOf starts) k) none)))
     (λ s job starts want none n earliest₀ e₀ earliest e. n - e)
     (λ c. (search needs, least-start _ _))
     (λ c κs. search needs)
