@@ -1,6 +1,10 @@
--- Rounds; and demand 3 over the model: every order is kept, what supports is found, so each choice that obeys is sound with the same end.
+-- Rounds, and the loops and tables of the code; and demand 3 over the model: every order is kept, what supports is found, so each choice that obeys is sound with the same end.
 pub mod Rounds
 pub mod Loops
+pub mod Near
+pub mod Chosen
+pub mod Raised
+pub mod LinkList
 pub mod Orders
 pub mod Links
 pub mod Limits

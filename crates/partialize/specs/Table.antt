@@ -1,8 +1,13 @@
--- The table of gaps as it is stored: one flat list, 64 entries a row, each a gap plus the bias, 0 for no order.
-use Prim.Native.Nat.{ℕ, _+_, _*_, _≤_, _<_}
+-- The table of gaps as it is stored: one flat list, 64 entries a row, each a gap plus the bias, 0 for no order; and the lists of starts
+-- and links beside it.
+use Prim.Native.Nat.{ℕ, _+_, _*_, _-_, _≤_, _<_, max}
 use mathlib.Core.Path.{_≡_}
+use mathlib.Core.Bool.{_&&_, cond}
 use mathlib.Core.List.{List}
 use lib.ListN.{length, getD}
+use lib.Dec.{ltb, eqb}
+use Rattle.job.specs.Model.{Model}
+use Rattle.partialize.specs.Links.{initialState, conditionLink, goalLink}
 
 -- what is added to every gap
 abbrev pub gapBias : ℕ
@@ -31,3 +36,31 @@ pub record Filled (n : ℕ) (f : ℕ → ℕ) (before starts : List ℕ) : Type 
   pub size : length starts ≡ length before
   pub below : (k : ℕ) → k < n → startIn starts k ≡ f k
   pub rest : (k : ℕ) → n ≤ k → startIn starts k ≡ startIn before k
+
+-- the gaps of a single order, from i to k
+abbrev pub single : ℕ → ℕ → ℕ → ℕ → ℕ → ℕ
+single i k gap a b = cond (eqb i a && eqb k b) gap 0
+
+-- a table raised by f: between different steps below n the larger of before and f stays, and nothing else changes
+pub record Raised (n : ℕ) (f : ℕ → ℕ → ℕ) (before after : List ℕ) : Type 0 where
+  pub whole : Gaps before → Gaps after
+  pub below : (i k : ℕ) → i < n → k < n → gapIn after i k ≡ max (gapIn before i k) (cond (eqb i k) 0 (f i k))
+  pub rest : (i k : ℕ) → k < 64 → (i < n → k < n → ⊥) → gapIn after i k ≡ gapIn before i k
+
+-- the table of the gaps between n steps, and of nothing else
+pub record TableOf (n : ℕ) (gap : ℕ → ℕ → ℕ) (gaps : List ℕ) : Type 0 where
+  pub whole : Gaps gaps
+  pub below : (i k : ℕ) → i < n → k < n → gapIn gaps i k ≡ gap i k
+  pub rest : (i k : ℕ) → k < 64 → (i < n → k < n → ⊥) → gapIn gaps i k ≡ 0
+
+-- the links in one list: of each condition, then of each goal
+unfoldable pub linkAt : Model → (ℕ → ℕ) → ℕ → ℕ
+linkAt m x k = cond (ltb k (m .conditions)) (conditionLink m x k) (goalLink m x (k - m .conditions))
+
+-- a list of all links
+pub record LinksOf (m : Model) (x : ℕ → ℕ) (links : List ℕ) : Type 0 where
+  pub each : (k : ℕ) → k < m .conditions + m .goals → getD links k 0 ≡ linkAt m x k
+
+-- a list in which the link of each condition is the initial state or an effect of the job
+abbrev pub Named : Model → List ℕ → Type 0
+Named m links = (c : ℕ) → c < m .conditions → (getD links c 0 ≡ initialState → ⊥) → getD links c 0 < m .effects

@@ -1,0 +1,25 @@
+-- Bounds in a well-formed job: no point lies further from its step's start than any gap can tell, and no limit is later than a start.
+use Prim.Native.Nat.{ℕ, _≤_, _<_}
+use lib.Dec.{eqb}
+use native.Mathlib.Omega.{arith}
+use Rattle.job.specs.Model.{Model}
+use Rattle.job.specs.WellFormed.{WellFormed}
+use Rattle.schedule.proofs.Steps.{counted-le}
+use Rattle.partialize.specs.Windows.{limitOf}
+
+module _ (m : Model) (w : WellFormed m) where
+  pub effect-near : (e : ℕ) → e < m .effects → m .effectAt e ≤ 100000
+  effect-near e h = omega (arith, w .effectEnd e h, w .lengthRange (m .effectStep e) (w .effectStep e h))
+
+  pub to-near : (c : ℕ) → c < m .conditions → m .conditionTo c ≤ 100000
+  to-near c h = omega (arith, w .conditionEnd c h, w .lengthRange (m .conditionStep c) (w .conditionStep c h))
+
+  pub from-near : (c : ℕ) → c < m .conditions → m .conditionFrom c ≤ 100000
+  from-near c h = omega (arith, w .conditionSpan c h, to-near c h)
+
+  pub use-near : (u : ℕ) → u < m .uses → m .useAt u ≤ 100000
+  use-near u h = omega (arith, w .useEnd u h, w .lengthRange (m .useStep u) (w .useStep u h))
+
+  pub limit-most : (k : ℕ) → k < m .steps → limitOf m k ≤ 1000000
+  unfolding limitOf
+  limit-most k h = omega (arith, counted-le (eqb (m .fixed k) 1) (m .start k), w .startRange k h)

@@ -1,0 +1,20 @@
+-- The rules one after the other.
+use Rattle.partialize.specs.Gaps.{gapOf}
+use Rattle.partialize.proofs.Raised.{raised-then, empty-gaps, table-of}
+use Rattle.partialize.proofs.LinkList.{valid-named}
+use borrow.Author.Needs.{needs}
+use Rattle.partialize.proofs.fill.fill_gaps.Statement.{statement}
+use Rattle.partialize.proofs.fill.fill_gaps.Tie as tie
+
+pub fill-gaps-spec : {M : Type 1} → statement M
+unfolding gapOf
+fill-gaps-spec =
+    tie.close
+    (tie.spec
+    (λ c κs. let d = c .before .before .before .before .before in (d .pre .0, valid-named _ _ _ (d .pre .2) (d .pre .0) (d .pre .1), empty-gaps _ (d .pre .4) (d .pre .5), d .pre .3))
+    (λ c κs. let d = c .before .before .before .before .before .before .before .before .before in (d .pre .0, (c .before .before .before .fill-support .ensures _ (d .pre .2)) .whole (empty-gaps _ (d .pre .4) (d .pre .5))))
+    (λ c κs. let d = c .before .before .before .before .before .before .before .before .before .before .before .before .before in (d .pre .0, c .before .before .before .fill-opposing .ensures .whole ((c .before .before .before .before .before .before .before .fill-support .ensures _ (d .pre .2)) .whole (empty-gaps _ (d .pre .4) (d .pre .5)))))
+    (λ c κs. let d = c .before .before .before .before .before .before .before .before .before .before .before .before .before .before .before .before .before in (d .pre .0, c .before .before .before .fill-conditions .ensures .whole (c .before .before .before .before .before .before .before .fill-opposing .ensures .whole ((c .before .before .before .before .before .before .before .before .before .before .before .fill-support .ensures _ (d .pre .2)) .whole (empty-gaps _ (d .pre .4) (d .pre .5))))))
+    (λ c κs. let d = c .before .before .before .before .before .before .before .before .before .before .before .before .before .before .before .before .before .before .before .before .before in (d .pre .0, c .before .before .before .fill-levels .ensures .whole (c .before .before .before .before .before .before .before .fill-conditions .ensures .whole (c .before .before .before .before .before .before .before .before .before .before .before .fill-opposing .ensures .whole ((c .before .before .before .before .before .before .before .before .before .before .before .before .before .before .before .fill-support .ensures _ (d .pre .2)) .whole (empty-gaps _ (d .pre .4) (d .pre .5)))))))
+    (λ c. search needs)
+    (λ c. let d = c .before .before .before .before .before .before .before .before .before .before .before .before .before .before .before .before .before .before .before .before .before .before .before .before in table-of _ _ _ _ (raised-then _ _ _ _ _ _ (raised-then _ _ _ _ _ _ (raised-then _ _ _ _ _ _ (raised-then _ _ _ _ _ _ (c .before .before .before .before .before .before .before .before .before .before .before .before .before .before .before .before .before .before .fill-support .ensures _ (d .pre .2)) (c .before .before .before .before .before .before .before .before .before .before .before .before .before .before .fill-opposing .ensures)) (c .before .before .before .before .before .before .before .before .before .before .fill-conditions .ensures)) (c .before .before .before .before .before .before .fill-levels .ensures)) (c .before .before .fill-serial .ensures)) (d .pre .4) (d .pre .5)))

@@ -1,0 +1,30 @@
+-- Each effect in turn.
+use Prim.Native.Nat.{_≤_, _-_}
+use Rattle.laws.specs.Fold.{largest}
+use Rattle.job.specs.Model.{view}
+use Rattle.schedule.specs.Ticks.{scheduleOf}
+use Rattle.partialize.specs.Gaps.{beforeOrder}
+use Rattle.partialize.specs.Table.{Raised}
+use Rattle.partialize.proofs.Raised.{single-order, raised-start, raised-order, raised-end}
+use borrow.Author.Needs.{needs}
+use native.Mathlib.Omega.{arith}
+use Rattle.partialize.proofs.fill.raise_before.Statement.{statement}
+use Rattle.partialize.proofs.fill.raise_before.Tie as tie
+
+pub raise-before-spec : {M : Type 1} → statement M
+unfolding beforeOrder
+raise-before-spec =
+    tie.close
+    (tie.spec
+    (λ s job starts gaps₀ c n second e₀ gaps e. (e ≤ n) × Raised (job .count .steps) (λ i k. largest e (beforeOrder (view job s) (scheduleOf starts) i k c)) gaps₀ gaps)
+    (λ s job starts gaps₀ c n second e₀ gaps e. n - e)
+    (λ c κs. search needs)
+    (λ c. (omega arith, raised-start _ _ _))
+    (λ c κs. let d = c .before .before .before .before .before .before in (d .pre .0, d .pre .2, c .loop-test .taken))
+    (λ c κs. search needs)
+    (λ c κs. let d = c .before .before .before .before .before .before .before .before .before in (c .before .before .before .before .loop .inv .1 .whole (d .pre .1), omega (arith, c .effect-step .ensures, d .pre .0 .effectStep _ (c .before .before .before .loop-test .taken), d .pre .0 .stepCount), omega (arith, c .before .before .before .before .before .condition-step .ensures, d .pre .0 .conditionStep _ (d .pre .2), d .pre .0 .stepCount), c .before .before .before-gap .ensures .1))
+    (λ c. omega arith)
+    (λ c. omega arith)
+    (λ c. let d = c .before .before .before .before .before .before .before .before .before .before .before .before in (omega arith, raised-order _ _ _ _ _ _ _ _ _ (c .before .before .before .before .before .before .before .loop .inv .1) (d .pre .0 .stepCount) (rw (c .before .before .before .effect-step .ensures) (d .pre .0 .effectStep _ (c .before .before .before .before .before .before .loop-test .taken))) (rw (c .before .before .before .before .before .before .before .before .condition-step .ensures) (d .pre .0 .conditionStep _ (d .pre .2))) (c .before .before .raise .ensures) (single-order _ _ _ _ _ (c .before .before .before .effect-step .ensures) (c .before .before .before .before .before .before .before .before .condition-step .ensures) (c .before .before .before .before .before .before-gap .ensures .0))))
+    (λ c. let d = c .before .before .before .before .before .before in omega (arith, c .before .loop .inv .1 .whole (d .pre .1) .size, d .pre .1 .size))
+    (λ c. raised-end _ _ _ _ _ _ (c .before .loop .inv .1) (c .before .loop .inv .0) (c .loop-test .left)))

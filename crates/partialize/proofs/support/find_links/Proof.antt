@@ -1,0 +1,28 @@
+-- The list is filled one by one.
+use Prim.Native.Nat.{_≤_, _-_}
+use Rattle.job.specs.Model.{view}
+use Rattle.schedule.specs.Ticks.{scheduleOf}
+use Rattle.partialize.specs.Table.{linkAt, Filled}
+use Rattle.partialize.proofs.Loops.{filled-start, filled-more, filled-end}
+use borrow.Author.Needs.{needs}
+use native.Mathlib.Omega.{arith}
+use Rattle.partialize.proofs.support.find_links.Statement.{statement}
+use Rattle.partialize.proofs.support.find_links.Tie as tie
+
+pub find-links-spec : {M : Type 1} → statement M
+find-links-spec =
+    tie.close
+    (tie.spec
+    (λ s job starts links₀ n k₀ links k. (k ≤ n) × Filled k (linkAt (view job s) (scheduleOf starts)) links₀ links)
+    (λ s job starts links₀ n k₀ links k. n - k)
+    (λ c. omega arith)
+    (λ c. (omega arith, filled-start _ _))
+    (λ c κs. search needs)
+    (λ c. search needs)
+    (λ c. search needs)
+    (λ c. omega arith)
+    (λ c. omega arith)
+    (λ c. omega arith)
+    (λ c. (omega arith, filled-more _ _ _ _ _ (omega arith) (c .before .before .loop .inv .1) (c .link-at .ensures)))
+    (λ c. c .before .loop .inv .1 .size)
+    (λ c. filled-end _ _ _ _ _ (c .before .loop .inv .1) (c .before .loop .inv .0) (c .loop-test .left)))

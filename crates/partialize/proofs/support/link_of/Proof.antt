@@ -1,0 +1,22 @@
+-- The initial state, or the supporter after the last opposing effect.
+use mathlib.Core.Path.{refl, ap, ap₂}
+use mathlib.Core.Bool.{_&&_}
+use lib.Dec.{eqb}
+use Rattle.partialize.specs.Links.{producer, earliestProduced, supporter, linkOf}
+use Rattle.partialize.proofs.Chosen.{chosen-yes, chosen-no}
+use borrow.Author.Needs.{needs}
+use Rattle.partialize.proofs.support.link_of.Statement.{statement}
+use Rattle.partialize.proofs.support.link_of.Tie as tie
+
+pub link-of-spec : {M : Type 1} → statement M
+unfolding producer earliestProduced supporter linkOf
+link-of-spec =
+    tie.close
+    (tie.spec
+    (λ c κs. search needs)
+    (λ c κs. search needs)
+    (λ c. let d = c .before .before .before .before .before in chosen-yes _ _ _ (c .if1 .taken) (ap₂ _&&_ (ap (λ n. eqb n 0) (c .before .before .last-opposing .ensures)) (ap (λ n. eqb n (d .args .value)) (c .before .fact-initial .ensures))) refl)
+    (λ c κs. search needs)
+    (λ c κs. search needs)
+    (λ c κs. search needs)
+    (λ c. let d = c .before .before .before .before .before .before .before .before in chosen-no _ _ _ (c .before .before .before .if1 .left) (ap₂ _&&_ (ap (λ n. eqb n 0) (c .before .before .before .before .before .last-opposing .ensures)) (ap (λ n. eqb n (d .args .value)) (c .before .before .before .before .fact-initial .ensures))) (rw (c .before .earliest-produced .ensures, c .before .before .after-all .ensures, c .before .before .before .before .before .last-opposing .ensures) at (c .supporter .ensures))))
