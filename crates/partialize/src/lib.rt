@@ -1,2 +1,3 @@
 // Orders from a sound job.
 pub mod starts;
+pub mod write;
