@@ -11,3 +11,4 @@ pub mod Satisfied
 pub mod Within
 pub mod Filed
 pub mod Put
+pub mod Whole

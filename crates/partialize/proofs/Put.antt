@@ -1,13 +1,13 @@
--- Bytes put one part behind the other: two parts, three, one more record, and a whole file at the beginning.
-use Prim.Native.Nat.{ℕ, suc, _+_, _*_, _/_, _≤_, _<_}
-use mathlib.Core.Path.{_≡_, refl, sym, ap, ap₂, _∙_}
+-- Bytes put one part behind the other: two parts, three, the header's numbers, one more record of a table.
+use Prim.Native.Nat.{ℕ, suc, _+_, _*_, _≤_, _<_}
+use mathlib.Core.Path.{_≡_, refl, sym, ap, _∙_}
 use mathlib.Core.Bool.{true, not}
 use mathlib.Core.List.{List, [], _∷_, _++_}
-use native.Mathlib.Nat.{add-zero, zero-add}
+use native.Mathlib.Nat.{add-zero}
 use native.Mathlib.Omega.{arith}
 use borrow.Author.Tests.{eq-eqb, ne-eqb}
-use lib.ListN.{length, set, getD, drop, length-append}
-use lib.Seq.{sets, sets-eq}
+use lib.ListN.{length, set, getD, length-append}
+use lib.Seq.{sets}
 use Rattle.laws.specs.Listed.{concatenate}
 use Rattle.laws.specs.Bytes.{u16Bytes, u32Bytes}
 use Rattle.laws.specs.Nth.{count}
@@ -72,7 +72,7 @@ put-more f width each before from i at e q w =
 
 -- one more window
 module _ (limits latest earliest before : List ℕ) (from : ℕ) where
-  length-window : (k : ℕ) → length (windowIn limits latest earliest k) ≡ 12
+  pub length-window : (k : ℕ) → length (windowIn limits latest earliest k) ≡ 12
   unfolding windowIn u32Bytes u16Bytes
   length-window k = refl
 
@@ -85,7 +85,7 @@ module _ (limits latest earliest before : List ℕ) (from : ℕ) where
 
 -- one more link
 module _ (linked before : List ℕ) (from : ℕ) where
-  length-link : (j : ℕ) → length (linkIn linked j) ≡ 2
+  pub length-link : (j : ℕ) → length (linkIn linked j) ≡ 2
   unfolding linkIn u16Bytes
   length-link j = refl
 
@@ -104,7 +104,7 @@ pub record OrdersPut (gaps before : List ℕ) (from q at : ℕ) (bytes : List �
   pub put : bytes ≡ sets before from (concatenate (count q (entered gaps)) (orderIn gaps))
 
 module _ (gaps before : List ℕ) (from : ℕ) where
-  length-order : (o : ℕ) → length (orderIn gaps o) ≡ 8
+  pub length-order : (o : ℕ) → length (orderIn gaps o) ≡ 8
   unfolding orderIn entryBytes u32Bytes u16Bytes
   length-order o = refl
 
@@ -151,7 +151,3 @@ module _ (gaps before : List ℕ) (from : ℕ) where
   orders-end q at bytes w h =
       let e : q ≡ 4096 = omega (arith, w .entries) in
       w .put ∙ ap (λ k. sets before from (concatenate (count k (entered gaps)) (orderIn gaps))) e
-
--- bytes put at the beginning, and those past them as they were
-pub put-first : (l bytes : List ℕ) → length bytes ≤ length l → sets l 0 bytes ≡ bytes ++ drop (length bytes) l
-put-first l bytes h = sets-eq bytes l 0 (omega arith) ∙ ap (λ n. bytes ++ drop n l) (zero-add (length bytes))

@@ -4,7 +4,7 @@ ghost use mathlib.Core.List.{_++_};
 ghost use Prim.Native.Nat.{_≤_, _<_};
 ghost use lib.ListN.{length};
 ghost use lib.Seq.{sets};
-ghost use Rattle.laws.specs.Bytes.{u16Bytes, u32Bytes};
+ghost use Rattle.laws.specs.Bytes.{u32Bytes};
 ghost use Rattle.laws.specs.Listed.{concatenate};
 ghost use Rattle.laws.specs.Nth.{count};
 ghost use Rattle.order_file.specs.Layout.{windowsAt};
