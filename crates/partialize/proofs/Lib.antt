@@ -1,4 +1,5 @@
--- Rounds; and demand 3 over the model: every order is kept, what supports is found, so each choice that obeys is sound with the same end.
+-- Rounds; demand 3 over the model: every order is kept, what supports is found, so each choice that obeys is sound with the same end; and the
+-- file: what satisfies it, its limits, its bytes.
 pub mod Rounds
 pub mod Loops
 pub mod Orders

@@ -1,4 +1,4 @@
--- Loosening: what supports each condition and goal, which step precedes which by how much, and when each step may start.
+-- Loosening: what supports each condition and goal, which step precedes which by how much, when each step may start, what is filed of it.
 pub mod Links
 pub mod Gaps
 pub mod Windows

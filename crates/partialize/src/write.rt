@@ -27,8 +27,11 @@ const LINK: usize = 2;
 // The entries of the table of gaps.
 const PAIRS: usize = 4096;
 
-// What is added to a gap of the table, and the bits of the i32 are left.
-const SIGNED: usize = 4294867296;
+// How many values four bytes have.
+const VALUES: usize = 4294967296;
+
+// What takes the bias off a gap of the table, counted round below 0.
+const UNBIASED: usize = 4294867296;
 
 // How many orders the table holds.
 pub fn count_orders(gaps: &[u32]) -> usize
@@ -96,7 +99,7 @@ fn write_order(out: &mut [u8], at: usize, q: usize, gap: usize)
 {
     put_u16(out, at, q / WIDTH);
     put_u16(out, at + 2, q % WIDTH);
-    put_u32(out, at + 4, (gap + SIGNED) % 4294967296);
+    put_u32(out, at + 4, (gap + UNBIASED) % VALUES);
 }
 
 // Puts every order that the table holds, ascending.
