@@ -1,4 +1,5 @@
--- Rounds, and the loops and tables of the code; and demand 3 over the model: every order is kept, what supports is found, so each choice that obeys is sound with the same end.
+-- Rounds; demand 3 over the model: every order is kept, what supports is found, so each choice that obeys is sound with the same end; and
+-- the code's loops and tables, and the file: what satisfies it, its limits, its bytes.
 pub mod Rounds
 pub mod Loops
 pub mod Near
@@ -14,3 +15,5 @@ pub mod End
 pub mod Satisfied
 pub mod Within
 pub mod Filed
+pub mod Put
+pub mod Whole

@@ -18,12 +18,12 @@ use Rattle.job.specs.WellFormed.{WellFormed}
 use Rattle.schedule.specs.Ticks.{finish, opposes}
 use Rattle.schedule.specs.Valid.{Valid}
 use Rattle.order_file.specs.Within.{Within}
-use Rattle.partialize.specs.Links.{initialState, conditionLink, goalLink}
+use Rattle.partialize.specs.Links.{initialState, conditionLink, goalLink, linkAt}
 use Rattle.partialize.specs.Gaps.{strictly, supportOrder, supportGap, opposingOrder, opposingGap, beforeOrder, afterOrder, conditionGap, levelOrder, levelGap, serialGap, gapOf}
 use Rattle.partialize.specs.Windows.{noLatest, limitOf, allowed, latestOf}
 use Rattle.partialize.specs.Rounds.{demand, after, earliest, rounds}
 use Rattle.partialize.specs.Table.{gapBias}
-use Rattle.partialize.specs.File.{roundsOf, earliestOf, ordered, pairOf, linkAt, fileOf}
+use Rattle.partialize.specs.File.{roundsOf, earliestOf, ordered, pairOf, fileOf}
 use Rattle.partialize.proofs.Rounds.{raised-le, after-above, rounds-le}
 use Rattle.partialize.proofs.Links.{Linked, initially, produced, condition-linked, goal-linked}
 use Rattle.partialize.proofs.Limits.{limit-fixed, limit-free, latest-fixed, latest-free}

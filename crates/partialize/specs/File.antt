@@ -1,11 +1,11 @@
 -- What is filed of a job: "The order file", of the orders and limits that are found by the ticks of the planned schedule x.
-use Prim.Native.Nat.{ℕ, _+_, _-_, _/_, _%_}
-use mathlib.Core.Bool.{Bool, _&&_, not, cond}
+use Prim.Native.Nat.{ℕ, _+_, _/_, _%_}
+use mathlib.Core.Bool.{Bool, _&&_, not}
 use lib.Dec.{ltb, eqb}
 use Rattle.laws.specs.Nth.{count, nth}
 use Rattle.job.specs.Model.{Model}
 use Rattle.order_file.specs.Contents.{Contents}
-use Rattle.partialize.specs.Links.{conditionLink, goalLink}
+use Rattle.partialize.specs.Links.{linkAt}
 use Rattle.partialize.specs.Gaps.{gapOf}
 use Rattle.partialize.specs.Windows.{limitOf, latestOf}
 use Rattle.partialize.specs.Rounds.{rounds, earliest}
@@ -26,10 +26,6 @@ ordered m x q = ltb (q / 64) (m .steps) && ltb (q % 64) (m .steps) && not (eqb (
 -- "ascending by first, then second": the pair of order o
 abbrev pub pairOf : Model → (ℕ → ℕ) → ℕ → ℕ
 pairOf m x = nth 4096 (ordered m x)
-
--- "one for each condition, then each goal"
-unfoldable pub linkAt : Model → (ℕ → ℕ) → ℕ → ℕ
-linkAt m x j = cond (ltb j (m .conditions)) (conditionLink m x j) (goalLink m x (j - m .conditions))
 
 -- "Header", "Window, one a step", "Order", "Link"
 unfoldable pub fileOf : Model → (ℕ → ℕ) → Contents

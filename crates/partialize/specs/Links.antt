@@ -1,7 +1,7 @@
 -- Orders from a sound job, rule 1: the link of a condition or goal is its supporter. x is the schedule by whose ticks it is found.
 use Prim.Native.Nat.{ℕ, _-_}
 use mathlib.Core.Bool.{Bool, _&&_, cond}
-use lib.Dec.{leb, eqb}
+use lib.Dec.{ltb, leb, eqb}
 use Rattle.laws.specs.Search.{lowest}
 use Rattle.laws.specs.Fold.{least}
 use Rattle.job.specs.Model.{Model}
@@ -47,3 +47,7 @@ conditionLink m x c = linkOf m x (m .conditionFact c) (m .conditionValue c) (fir
 -- the link of a goal: of all effects
 unfoldable pub goalLink : Model → (ℕ → ℕ) → ℕ → ℕ
 goalLink m x g = linkOf m x (m .goalFact g) (m .goalValue g) (afterAll m x)
+
+-- "one for each condition, then each goal": all links in one list
+unfoldable pub linkAt : Model → (ℕ → ℕ) → ℕ → ℕ
+linkAt m x j = cond (ltb j (m .conditions)) (conditionLink m x j) (goalLink m x (j - m .conditions))

@@ -7,7 +7,7 @@ use mathlib.Core.List.{List}
 use lib.ListN.{length, getD}
 use lib.Dec.{ltb, eqb}
 use Rattle.job.specs.Model.{Model}
-use Rattle.partialize.specs.Links.{initialState, conditionLink, goalLink}
+use Rattle.partialize.specs.Links.{initialState, linkAt}
 
 -- what is added to every gap
 abbrev pub gapBias : ℕ
@@ -52,10 +52,6 @@ pub record TableOf (n : ℕ) (gap : ℕ → ℕ → ℕ) (gaps : List ℕ) : Typ
   pub whole : Gaps gaps
   pub below : (i k : ℕ) → i < n → k < n → gapIn gaps i k ≡ gap i k
   pub rest : (i k : ℕ) → k < 64 → (i < n → k < n → ⊥) → gapIn gaps i k ≡ 0
-
--- the links in one list: of each condition, then of each goal
-unfoldable pub linkAt : Model → (ℕ → ℕ) → ℕ → ℕ
-linkAt m x k = cond (ltb k (m .conditions)) (conditionLink m x k) (goalLink m x (k - m .conditions))
 
 -- a list of all links
 pub record LinksOf (m : Model) (x : ℕ → ℕ) (links : List ℕ) : Type 0 where

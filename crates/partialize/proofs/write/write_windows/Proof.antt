@@ -1,0 +1,36 @@
+-- One more window is put behind the others.
+use Prim.Native.Nat.{_≤_, _-_}
+use mathlib.Core.Path.{_≡_, refl, ap, _∙_}
+use native.Mathlib.Omega.{arith}
+use lib.ListN.{length}
+use lib.Seq.{sets, length-sets}
+use Rattle.laws.specs.Listed.{concatenate}
+use Rattle.partialize.specs.Held.{windowIn}
+use Rattle.partialize.proofs.Put.{put-start, windows-more, put-end}
+use Rattle.partialize.proofs.write.write_windows.Statement.{statement}
+use Rattle.partialize.proofs.write.write_windows.Tie as tie
+
+pub write-windows-spec : {M : Type 1} → statement M
+write-windows-spec =
+    tie.close
+    (tie.spec
+    (λ out₀ steps limits latest earliest k₀ out k. (k ≤ steps) × (out ≡ sets out₀ 24 (concatenate k (windowIn limits latest earliest))))
+    (λ out₀ steps limits latest earliest k₀ out k. steps - k)
+    (λ c. (omega arith, put-start _ _ _))
+    (λ c. omega arith)
+    (λ c. omega arith)
+    (λ c. omega arith)
+    (λ c. omega arith)
+    (λ c. omega (arith, c .shared-slice-known4 .given (c .before .before .before .loop .k)))
+    (λ c. omega arith)
+    (λ c. omega arith)
+    (λ c. omega (arith, c .shared-slice-known5 .given (c .before .before .before .before .loop .k)))
+    (λ c. omega arith)
+    (λ c. omega arith)
+    (λ c. omega (arith, c .shared-slice-known6 .given (c .before .before .before .before .before .loop .k)))
+    (λ c κs. omega arith)
+    (λ c. omega arith)
+    (λ c. omega arith)
+    (λ c. (omega arith, windows-more _ _ _ _ _ _ _ (c .before .before .before .before .before .before .before .before .loop .inv .1) refl (c .before .before .write-window .ensures)))
+    (λ c. ap length (c .before .loop .inv .1) ∙ simp length-sets)
+    (λ c. put-end _ _ _ _ _ (c .before .loop .inv .1) (c .before .loop .inv .0) (c .loop-test .left)))
