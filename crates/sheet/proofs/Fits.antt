@@ -1,6 +1,6 @@
 -- The text of every order file within the limits fits a buffer of 164771 bytes.
-use Prim.Native.Nat.{ℕ, zero, suc, _+_, _*_, _-_, _≤_, _<_}
-use mathlib.Core.List.{List, _++_}
+use Prim.Native.Nat.{ℕ, zero, suc, _*_, _-_, _≤_, _<_}
+use mathlib.Core.List.{List}
 use native.Mathlib.Nat.{mul-suc}
 use native.Mathlib.Decide.{decLt}
 use native.Mathlib.Omega.{arith}
@@ -8,7 +8,7 @@ use lib.ListN.{length, length-append}
 use Rattle.laws.specs.Listed.{concatenate}
 use Rattle.order_file.specs.Contents.{Contents, none, gapBias}
 use Rattle.order_file.specs.Within.{Within}
-use Rattle.sheet.specs.Text.{decimal, gapText, latestText, headLine, windowLine, orderLine, sheetText, sheetMost}
+use Rattle.sheet.specs.Text.{gapText, latestText, headLine, windowLine, orderLine, sheetText, sheetMost}
 use Rattle.sheet.proofs.Decimal.{length-decimal}
 use Rattle.sheet.proofs.Forms.{gap-below, gap-above, latest-none, latest-some}
 

@@ -1,7 +1,7 @@
--- Laws of writing: one text behind another, one byte more of a word, and the whole text at the front of a buffer.
+-- Laws of writing: one text behind another, one byte more of a word, one part more of a text, and the text at the front of a buffer.
 use Prim.Native.Nat.{ℕ, suc, _+_, _<_, _≤_}
 use mathlib.Core.Path.{_≡_, refl, sym, ap, _∙_}
-use mathlib.Core.List.{List, [], _∷_, _++_, append-nil}
+use mathlib.Core.List.{List, [], _∷_, _++_}
 use native.Mathlib.Nat.{add-zero}
 use native.Mathlib.Numerals.{add-one}
 use native.Mathlib.Decide.{decLe}
@@ -13,6 +13,7 @@ use Rattle.laws.proofs.Listed.{concatenate-more}
 use Rattle.laws.proofs.Bytes.{sets-out}
 use Rattle.sheet.specs.Put.{Put, Written}
 
+-- stores behind stores
 sets-append : (l : List ℕ) (at : ℕ) (s t : List ℕ) → sets (sets l at s) (at + length s) t ≡ sets l at (s ++ t)
 sets-append l at [] t = ap (λ (k : ℕ). sets l k t) (add-zero at)
 sets-append l at (v ∷ vs) t =
@@ -32,14 +33,14 @@ pub put-length : {l text m : List ℕ} {at r : ℕ} → Put l at text m r → le
 put-length {l} {text} {m} {at} p = ap length (p .bytes) ∙ length-sets l at text
 
 -- one byte
-pub put-byte : (l m : List ℕ) (at b : ℕ) → m ≡ set l at b → Put l at (b ∷ []) m (at + 1)
+put-byte : (l m : List ℕ) (at b : ℕ) → m ≡ set l at b → Put l at (b ∷ []) m (at + 1)
 put-byte l m at b e = record { bytes = e; ends = refl }
 
 -- one byte more of a word
 pub word-more : {l m : List ℕ} (n word : List ℕ) (at k : ℕ) → Put l at (take k word) m (at + k) → k < length word → n ≡ set m (at + k) (getD word k 0) → Put l at (take (k + 1) word) n (at + (k + 1))
-word-more {l} {m} n word at k p h e =
-    let e1 : at + (k + 1) ≡ at + k + 1 = omega arith in
-    rw (e1, add-one k, take-suc word k 0 h) (put-then p (put-byte m n (at + k) (getD word k 0) e))
+word-more {l} {m} n word at k p h s =
+    let e : at + (k + 1) ≡ at + k + 1 = omega arith in
+    rw (e, add-one k, take-suc word k 0 h) (put-then p (put-byte m n (at + k) (getD word k 0) s))
 
 -- the whole word
 pub word-end : {l m : List ℕ} (word : List ℕ) (at k : ℕ) → Put l at (take k word) m (at + k) → length word ≤ k → Put l at word m (at + k)
@@ -82,3 +83,8 @@ pub put-written : {l text m : List ℕ} {r : ℕ} → Put l 0 text m r → Writt
 put-written {l} {text} {m} {r} p =
     let e : r ≡ length text = omega (arith, p .ends) in
     record { counted = e; bytes = rw e (p .bytes ∙ sets-front l text) }
+
+-- where there is room, the whole text stands
+pub written-whole : {text before after : List ℕ} {count : ℕ} → Written text before after count → length text ≤ length before → after ≡ text ++ drop count before
+written-whole {text} {before} {after} {count} w h =
+    w .bytes ∙ ap (λ (t : List ℕ). t ++ drop count before) (take-all (length before) text h)

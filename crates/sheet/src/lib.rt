@@ -54,5 +54,7 @@ pub fn write_refused(number: u16, place: u16, out: &mut [u8]) -> usize
     ensures { λ r. ⌜ Written (refusedText number place) (now (out .entry)) (now (out .exit)) r ⌝ }
     ensures { λ r. ⌜ r ≤ 36 ⌝ }
 {
-    lines::put_refused(number as usize, place as usize, out, 0)
+    let refused = put::put_field(out, 0, b"refused ", number as usize);
+    let placed = put::put_field(out, refused, b" place ", place as usize);
+    put::put_word(out, placed, b"\n")
 }

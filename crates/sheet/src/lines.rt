@@ -1,7 +1,7 @@
 // The lines of the text, each put into a buffer from a position on.
 ghost use Prim.Native.Nat.{_+_, _≤_, _<_};
 ghost use Rattle.order_file.specs.Layout.{contentsOf};
-ghost use Rattle.sheet.specs.Text.{latestText, gapText, headLine, windowLine, orderLine, refusedText};
+ghost use Rattle.sheet.specs.Text.{latestText, gapText, headLine, windowLine, orderLine};
 ghost use Rattle.sheet.specs.Put.{Put};
 use crate::fields;
 use crate::put::put_decimal;
@@ -67,14 +67,4 @@ pub fn put_order(file: &[u8], out: &mut [u8], at: usize, k: usize) -> usize
     let space = put_word(out, second, b" ");
     let gap = put_gap(out, space, fields::gap(file, k));
     put_word(out, gap, b"\n")
-}
-
-// Puts the line of a refusal.
-pub fn put_refused(number: usize, place: usize, out: &mut [u8], at: usize) -> usize
-    requires { ⌜ (at < 100000000) × (number < 65536) × (place < 65536) ⌝ }
-    ensures { λ r. ⌜ Put (now (out .entry)) at (refusedText number place) (now (out .exit)) r × (r ≤ at + 36) ⌝ }
-{
-    let refused = put_field(out, at, b"refused ", number);
-    let placed = put_field(out, refused, b" place ", place);
-    put_word(out, placed, b"\n")
 }

@@ -1,4 +1,4 @@
--- The lines below k are put, each of at most 54 bytes.
+-- The lines below k stand, each of at most 54 bytes.
 use Prim.Native.Nat.{_+_, _-_, _*_, _≤_}
 use Rattle.laws.specs.Listed.{concatenate}
 use Rattle.order_file.specs.Layout.{contentsOf}

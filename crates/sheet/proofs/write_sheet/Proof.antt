@@ -17,4 +17,10 @@ write-sheet-spec =
     (λ c κs. search needs)
     (λ c κs. search needs)
     (λ c. search needs)
-    (λ c. (put-written (put-then (put-then (c .before .before .before .before .before .before .before .before .before .before .put-head .ensures .0) (rw (c .before .before .before .before .before .before .before .before .before .before .before .before .before .steps .ensures .0) at (c .before .before .before .before .before .before .put-windows .ensures .0))) (rw (c .before .before .before .before .before .before .before .before .before .before .before .before .orders .ensures .0) at (c .before .before .put-orders .ensures .0))), omega arith)))
+    (λ c.
+    let orders = c .before .before in
+    let windows = orders .before .before .before .before in
+    let head = windows .before .before .before .before in (
+      put-written (put-then (put-then (head .put-head .ensures .0) (rw (head .before .before .before .steps .ensures .0) at (windows .put-windows .ensures .0))) (rw (head .before .before .orders .ensures .0) at (orders .put-orders .ensures .0))),
+      omega arith,
+    )))

@@ -1,4 +1,4 @@
--- The two fields and the newline, one behind the other.
+-- The parts of the line, one behind the other.
 use Rattle.sheet.proofs.Writing.{put-then}
 use Rattle.sheet.specs.Text.{headLine}
 use borrow.Author.Needs.{needs}
@@ -20,4 +20,10 @@ put-head-spec =
     (λ c. search needs)
     (λ c κs. search needs)
     (λ c. search needs)
-    (λ c. (put-then (put-then (rw (c .before .before .before .before .before .before .before .before .before .before .before .before .before .before .steps .ensures .0) at (c .before .before .before .before .before .before .before .before .before .before .before .before .before .put-field .ensures .0)) (rw (c .before .before .before .before .before .before .before .before .rounds .ensures .0) at (c .before .before .before .before .before .before .before .put-field2 .ensures .0))) (c .before .before .put-word .ensures), omega arith)))
+    (λ c.
+    let newline = c .before .before in
+    let rounds = newline .before .before .before .before .before in
+    let steps = rounds .before .before .before .before .before .before in (
+      put-then (put-then (rw (steps .before .steps .ensures .0) at (steps .put-field .ensures .0)) (rw (rounds .before .rounds .ensures .0) at (rounds .put-field2 .ensures .0))) (newline .put-word .ensures),
+      omega arith,
+    )))

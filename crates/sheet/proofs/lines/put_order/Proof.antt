@@ -24,4 +24,12 @@ put-order-spec =
     (λ c. search needs)
     (λ c κs. search needs)
     (λ c. search needs)
-    (λ c. (put-then (put-then (put-then (put-then (rw (c .before .before .before .before .before .before .before .before .before .before .before .before .before .before .before .before .before .before .before .before .before .before .before .before .first .ensures .0) at (c .before .before .before .before .before .before .before .before .before .before .before .before .before .before .before .before .before .before .before .before .before .before .before .put-field .ensures .0)) (rw (c .before .before .before .before .before .before .before .before .before .before .before .before .before .before .before .before .before .before .second .ensures .0) at (c .before .before .before .before .before .before .before .before .before .before .before .before .before .before .before .before .before .put-field2 .ensures .0))) (c .before .before .before .before .before .before .before .before .before .before .before .before .put-word .ensures)) (rw (c .before .before .before .before .before .before .before .before .gap .ensures .0) at (c .before .before .before .before .before .before .before .put-gap .ensures .0))) (c .before .before .put-word2 .ensures), omega arith)))
+    (λ c.
+    let newline = c .before .before in
+    let gap = newline .before .before .before .before .before in
+    let word = gap .before .before .before .before .before in
+    let second = word .before .before .before .before .before in
+    let first = second .before .before .before .before .before .before in (
+      put-then (put-then (put-then (put-then (rw (first .before .first .ensures .0) at (first .put-field .ensures .0)) (rw (second .before .second .ensures .0) at (second .put-field2 .ensures .0))) (word .put-word .ensures)) (rw (gap .before .gap .ensures .0) at (gap .put-gap .ensures .0))) (newline .put-word2 .ensures),
+      omega arith,
+    )))

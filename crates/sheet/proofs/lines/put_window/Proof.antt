@@ -23,4 +23,12 @@ put-window-spec =
     (λ c. search needs)
     (λ c κs. search needs)
     (λ c. search needs)
-    (λ c. (put-then (put-then (put-then (put-then (c .before .before .before .before .before .before .before .before .before .before .before .before .before .before .before .before .before .before .before .before .before .before .before .put-field .ensures .0) (rw (c .before .before .before .before .before .before .before .before .before .before .before .before .before .before .before .before .before .before .earliest .ensures .0) at (c .before .before .before .before .before .before .before .before .before .before .before .before .before .before .before .before .before .put-field2 .ensures .0))) (c .before .before .before .before .before .before .before .before .before .before .before .before .put-word .ensures)) (rw (c .before .before .before .before .before .before .before .before .latest .ensures .0) at (c .before .before .before .before .before .before .before .put-latest .ensures .0))) (c .before .before .put-word2 .ensures), omega arith)))
+    (λ c.
+    let newline = c .before .before in
+    let latest = newline .before .before .before .before .before in
+    let word = latest .before .before .before .before .before in
+    let earliest = word .before .before .before .before .before in
+    let step = earliest .before .before .before .before .before .before in (
+      put-then (put-then (put-then (put-then (step .put-field .ensures .0) (rw (earliest .before .earliest .ensures .0) at (earliest .put-field2 .ensures .0))) (word .put-word .ensures)) (rw (latest .before .latest .ensures .0) at (latest .put-latest .ensures .0))) (newline .put-word2 .ensures),
+      omega arith,
+    )))

@@ -1,6 +1,7 @@
-use native.Mathlib.Omega.{arith}
-use borrow.Author.Needs.{needs}
+-- The number stands behind the word.
 use Rattle.sheet.proofs.Writing.{put-then}
+use borrow.Author.Needs.{needs}
+use native.Mathlib.Omega.{arith}
 use Rattle.sheet.proofs.put.put_field.Statement.{statement}
 use Rattle.sheet.proofs.put.put_field.Tie as tie
 
@@ -11,4 +12,7 @@ put-field-spec =
     (λ c κs. search needs)
     (λ c κs. search needs)
     (λ c. search needs)
-    (λ c. (put-then (c .before .before .before .before .before .before .put-word .ensures) (c .before .before .put-decimal .ensures .0), omega arith)))
+    (λ c.
+    let number = c .before .before in
+    let word = number .before .before .before .before in
+    (put-then (word .put-word .ensures) (number .put-decimal .ensures .0), omega arith)))
