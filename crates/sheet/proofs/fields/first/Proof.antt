@@ -1,0 +1,14 @@
+-- The field that the layout gives.
+use Rattle.order_file.specs.Layout.{contentsOf}
+use borrow.Author.Needs.{needs}
+use Rattle.sheet.proofs.fields.first.Statement.{statement}
+use Rattle.sheet.proofs.fields.first.Tie as tie
+
+pub first-spec : {M : Type 1} → statement M
+unfolding contentsOf
+first-spec =
+    tie.close
+    (tie.spec
+    (λ c κs. search needs)
+    (λ c κs. search needs)
+    (λ c. (cc, c .u16-at .ensures .1)))

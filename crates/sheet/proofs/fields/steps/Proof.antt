@@ -1,0 +1,13 @@
+-- The field that the layout gives.
+use Rattle.order_file.specs.Layout.{contentsOf}
+use borrow.Author.Needs.{needs}
+use Rattle.sheet.proofs.fields.steps.Statement.{statement}
+use Rattle.sheet.proofs.fields.steps.Tie as tie
+
+pub steps-spec : {M : Type 1} → statement M
+unfolding contentsOf
+steps-spec =
+    tie.close
+    (tie.spec
+    (λ c κs. search needs)
+    (λ c. (cc, c .u16-at .ensures .1)))

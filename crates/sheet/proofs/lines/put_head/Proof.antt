@@ -1,0 +1,29 @@
+-- The parts of the line, one behind the other.
+use Rattle.sheet.proofs.Writing.{put-then}
+use Rattle.sheet.specs.Text.{headLine}
+use borrow.Author.Needs.{needs}
+use native.Mathlib.Omega.{arith}
+use Rattle.sheet.proofs.lines.put_head.Statement.{statement}
+use Rattle.sheet.proofs.lines.put_head.Tie as tie
+
+pub put-head-spec : {M : Type 1} → statement M
+unfolding headLine
+put-head-spec =
+    tie.close
+    (tie.spec
+    (λ c. search needs)
+    (λ c κs. search needs)
+    (λ c κs. search needs)
+    (λ c. search needs)
+    (λ c κs. search needs)
+    (λ c κs. search needs)
+    (λ c. search needs)
+    (λ c κs. search needs)
+    (λ c. search needs)
+    (λ c.
+    let newline = c .before .before in
+    let rounds = newline .before .before .before .before .before in
+    let steps = rounds .before .before .before .before .before .before in (
+      put-then (put-then (rw (steps .before .steps .ensures .0) at (steps .put-field .ensures .0)) (rw (rounds .before .rounds .ensures .0) at (rounds .put-field2 .ensures .0))) (newline .put-word .ensures),
+      omega arith,
+    )))

@@ -1,0 +1,36 @@
+-- The measure is the number, which falls to its tenth.
+use Prim.Native.Nat.{ℕ, _<_}
+use native.Mathlib.Omega.{arith}
+use borrow.Author.Needs.{needs}
+use borrow.Fn.Kinds.{In}
+use borrow.Fn.PlainCycle.{Measures, is, falls, and}
+use Rattle.sheet.proofs.Decimal.{put-one, put-more}
+use Rattle.sheet.proofs.put.put_decimal.Reads as put-decimal
+use Rattle.sheet.proofs.put.put_decimal.Kinds as put-decimal-kinds
+use Rattle.sheet.proofs.put.+put_decimal.Lts-put_decimal as put-decimal-lts
+use Rattle.sheet.proofs.put.put_digit.Reads as put-digit-reads
+use Rattle.sheet.proofs.put.+put_decimal.{statement}
+use Rattle.sheet.proofs.put.+put_decimal.Tie.{close}
+
+abbrev μ-put-decimal : Measures 1 put-decimal-kinds.ps ℕ
+μ-put-decimal κs a = a .1 .1 .0
+
+abbrev put-decimal-at : ℕ → In 1 put-decimal-kinds.ps
+put-decimal-at t =
+    and 1 put-decimal-kinds.ps (is 1 put-decimal-kinds.ps μ-put-decimal t) put-decimal.Pre
+
+abbrev put-decimal-below : ℕ → In 1 put-decimal-kinds.ps
+put-decimal-below t =
+    and 1 put-decimal-kinds.ps (falls 1 put-decimal-kinds.ps _<_ μ-put-decimal t) put-decimal.Pre
+
+pub +put-decimal-spec : {M : Type 1} → statement M
++put-decimal-spec =
+    close μ-put-decimal λ t.
+    put-decimal-lts.spec (put-digit-reads.Asked, put-digit-reads.Learnt, put-decimal-below t, put-decimal.Post) (put-decimal-at t) put-decimal.Post
+    (λ c κs. search needs)
+    (λ c κs. search needs)
+    (λ c κs. search needs)
+    (λ c. search needs)
+    (λ c. put-one _ (omega arith) (c .before .before .put-digit .ensures))
+    (λ c. search needs)
+    (λ c. put-more _ (omega arith) (omega arith) (c .before .before .before .before .before .before .put-decimal .ensures .0) (c .before .before .put-digit2 .ensures))

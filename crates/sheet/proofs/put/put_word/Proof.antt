@@ -1,0 +1,27 @@
+-- The first k bytes of the word stand.
+use Prim.Native.Nat.{_+_, _-_, _≤_}
+use mathlib.Core.Path.{refl}
+use lib.ListN.{length, take}
+use Rattle.sheet.specs.Put.{Put}
+use Rattle.sheet.proofs.Writing.{put-length, word-more, word-end}
+use borrow.Author.Needs.{needs}
+use native.Mathlib.Omega.{arith}
+use Rattle.sheet.proofs.put.put_word.Statement.{statement}
+use Rattle.sheet.proofs.put.put_word.Tie as tie
+
+pub put-word-spec : {M : Type 1} → statement M
+put-word-spec =
+    tie.close
+    (tie.spec
+    (λ out₀ at word k₀ out k. (k ≤ length word) × Put out₀ at (take k word) out (at + k))
+    (λ out₀ at word k₀ out k. length word - k)
+    (λ c. (omega arith, record { bytes = refl; ends = refl }))
+    (λ c. search needs)
+    (λ c. search needs)
+    (λ c κs. search needs)
+    (λ c. search needs)
+    (λ c. search needs)
+    (λ c. (omega arith, word-more _ _ _ _ (c .before .before .before .before .before .before .loop .inv .1) (omega arith) (c .before .before .put-byte .ensures)))
+    (λ c. search needs)
+    (λ c. put-length (c .before .loop .inv .1))
+    (λ c. word-end _ _ _ (c .before .loop .inv .1) (omega arith)))

@@ -1,0 +1,26 @@
+-- The head, the windows and the orders, one behind the other.
+use Rattle.sheet.proofs.Writing.{put-then, put-written}
+use Rattle.sheet.specs.Text.{sheetText}
+use borrow.Author.Needs.{needs}
+use native.Mathlib.Omega.{arith}
+use Rattle.sheet.proofs.write_sheet.Statement.{statement}
+use Rattle.sheet.proofs.write_sheet.Tie as tie
+
+pub write-sheet-spec : {M : Type 1} → statement M
+unfolding sheetText
+write-sheet-spec =
+    tie.close
+    (tie.spec
+    (λ c κs. search needs)
+    (λ c κs. search needs)
+    (λ c κs. search needs)
+    (λ c κs. search needs)
+    (λ c κs. search needs)
+    (λ c. search needs)
+    (λ c.
+    let orders = c .before .before in
+    let windows = orders .before .before .before .before in
+    let head = windows .before .before .before .before in (
+      put-written (put-then (put-then (head .put-head .ensures .0) (rw (head .before .before .before .steps .ensures .0) at (windows .put-windows .ensures .0))) (rw (head .before .before .orders .ensures .0) at (orders .put-orders .ensures .0))),
+      omega arith,
+    )))

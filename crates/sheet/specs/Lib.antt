@@ -1,0 +1,3 @@
+-- The text that `show` prints, and what writing a text into a buffer leaves there.
+pub mod Text
+pub mod Put
