@@ -1,7 +1,6 @@
 // What loosening answers.
 ghost use mathlib.Core.Path.{_≡_};
 ghost use Rattle.partialize.specs.Answer as spec;
-
 use job::verdict;
 use job::verdict::Verdict;
 
