@@ -1,22 +1,26 @@
 -- What loosening promises of the file that it wrote, one field a clause of the user's demands.
 use Prim.Native.Nat.{ℕ, _≤_, _<_}
 use mathlib.Core.Path.{_≡_}
-use mathlib.Core.Bool.{true}
+use mathlib.Core.Bool.{true, cond}
 use mathlib.Core.List.{List}
 use mathlib.Core.Logic.{_⊎_}
 use lib.ListN.{length, take}
+use lib.Dec.{leb}
 use Rattle.job.specs.Model.{modelOf}
 use Rattle.schedule.specs.Ticks.{planned}
 use Rattle.schedule.specs.Valid.{Valid}
 use Rattle.schedule.specs.EndState.{SameEnd}
 use Rattle.schedule.specs.Promise.{Sound}
+use Rattle.order_file.specs.Contents.{Contents}
+use Rattle.order_file.specs.Encode.{encode}
 use Rattle.order_file.specs.Agree.{Agree}
 use Rattle.order_file.specs.Layout.{contentsOf}
 use Rattle.order_file.specs.WellFormed.{wellFormed}
 use Rattle.order_file.specs.Satisfies.{SatisfiesFile}
 use Rattle.partialize.specs.declared.answer.Answer.{Answer}
-use Rattle.partialize.specs.declared.answer.Answer.the-variants.{BufferTooShort}
+use Rattle.partialize.specs.declared.answer.Answer.the-variants.{Filed, BufferTooShort}
 use Rattle.partialize.specs.Answer.{number, lengthOf}
+use Rattle.partialize.specs.Held.{over}
 use Rattle.partialize.specs.Partialization.{looseOf, answerTo, bufferAfter}
 
 -- demand 2: the file passes the reader and holds exactly the supporters, orders and start limits of the rules
@@ -41,6 +45,11 @@ pub record Loose (s file : List ℕ) : Type 0 where
   pub plannedSatisfies : SatisfiesFile file (planned (modelOf s))
   -- the rounds number at most the steps
   pub fewRounds : contentsOf file .rounds ≤ modelOf s .steps
+
+-- the answer and the buffer where contents c are to be filed: the file's length and the file, or 15 and no change
+pub record Written (c : Contents) (before after : List ℕ) (r : Answer) : Type 0 where
+  pub answer : r ≡ cond (leb (length (encode c)) (length before)) (Filed (length (encode c))) BufferTooShort
+  pub buffer : after ≡ cond (leb (length (encode c)) (length before)) (over (encode c) before) before
 
 -- what loosening promises of its answer and of the buffer at exit
 pub record Promise (s before after : List ℕ) (r : Answer) : Type 0 where
