@@ -1,6 +1,7 @@
 -- Rounds; demand 3 over the model: every order is kept, what supports is found, so each choice that obeys is sound with the same end; and
 -- the code's loops and tables, and the file: what satisfies it, its limits, its bytes.
 pub mod Rounds
+pub mod Same
 pub mod Loops
 pub mod Near
 pub mod Chosen
@@ -15,5 +16,6 @@ pub mod End
 pub mod Satisfied
 pub mod Within
 pub mod Filed
+pub mod Found
 pub mod Put
 pub mod Whole

@@ -4,16 +4,19 @@ use Rattle.job.specs.Verdict as verdict
 use Rattle.partialize.specs.declared.answer.Answer.{Answer}
 use Rattle.partialize.specs.declared.answer.Answer.the-variants.{Filed, Refused, BufferTooShort}
 
+-- the number of a refusal, 0 for accepted
 abbrev pub number : Answer → ℕ
 number (Filed n) = 0
 number (Refused v) = verdict.number v
 number BufferTooShort = 15
 
+-- the place of a refusal
 abbrev pub place : Answer → ℕ
 place (Filed n) = verdict.nowhere
 place (Refused v) = verdict.place v
 place BufferTooShort = verdict.nowhere
 
+-- the file's length, 0 for a refusal
 abbrev pub lengthOf : Answer → ℕ
 lengthOf (Filed n) = n
 lengthOf (Refused v) = 0

@@ -1,4 +1,4 @@
-// Orders from a sound job.
+// Orders from a sound job: links, the gap table, windows, rounds, and the file that holds them.
 pub mod answer;
 pub mod fill;
 pub mod starts;

@@ -104,6 +104,7 @@ fn latest(s: &[u8], job: Job, links: &[u16], k: u16) -> u32
 pub fn latest_starts(s: &[u8], job: Job, links: &[u16]) -> Starts
     requires { ⌜ WellFormed (view job (now s)) × (job .count .conditions + job .count .goals ≤ length (now links)) ⌝ }
     ensures { λ r. ⌜ ((x : ℕ → ℕ) → LinksOf (view job (now (s .entry))) x (now (links .entry)) → (k : ℕ) → k < job .count .steps → startIn (r .at) k ≡ latestOf (view job (now (s .entry))) x k) ⌝ }
+    ensures { λ r. ⌜ length (r .at) ≡ 64 ⌝ }
 {
     let n = job.count.steps;
     let mut at = [0; 64];

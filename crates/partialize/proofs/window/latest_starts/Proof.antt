@@ -25,4 +25,4 @@ latest-starts-spec =
     (λ c. omega arith)
     (λ c. omega arith)
     (λ c. (omega arith, simp length-set (c .before .before .loop .inv .1), λ x l. filled-more _ _ _ _ _ (omega (arith, c .before .before .loop .inv .2 x l .size, c .before .before .before .before .before .pre .0 .stepCount)) (c .before .before .loop .inv .2 x l) (c .latest .ensures x l)))
-    (λ c. λ x l. filled-end _ _ _ _ _ (c .before .loop .inv .2 x l) (c .before .loop .inv .0) (c .loop-test .left) .below))
+    (λ c. (λ x l. filled-end _ _ _ _ _ (c .before .loop .inv .2 x l) (c .before .loop .inv .0) (c .loop-test .left) .below, c .before .loop .inv .1)))

@@ -1,0 +1,73 @@
+-- What the code finds holds what is filed, and what it then does with the buffer is what is to be written.
+use Prim.Native.Nat.{ℕ, _+_, _*_, _≤_, _<_}
+use mathlib.Core.Path.{_≡_, refl, sym, ap, _∙_}
+use mathlib.Core.List.{List}
+use native.Mathlib.Omega.{arith}
+use native.Mathlib.Nat.{add-sub-cancel-left}
+use borrow.Author.Tests.{le-leb, lt-leb, lt-ltb, le-ltb}
+use lib.ListN.{length, getD}
+use Rattle.laws.specs.Nth.{count}
+use Rattle.job.specs.Model.{Model}
+use Rattle.job.specs.WellFormed.{WellFormed}
+use Rattle.order_file.specs.Encode.{encode}
+use Rattle.order_file.specs.Layout.{fileLength}
+use Rattle.order_file.proofs.Encode.{length-encode}
+use Rattle.partialize.specs.declared.answer.Answer.the-variants.{Filed, BufferTooShort}
+use Rattle.partialize.specs.Links.{conditionLink, goalLink, linkAt}
+use Rattle.partialize.specs.Gaps.{gapOf}
+use Rattle.partialize.specs.Windows.{limitOf, latestOf}
+use Rattle.partialize.specs.Rounds.{rounds, earliest}
+use Rattle.partialize.specs.Table.{gapBias, gapIn, startIn, Filled, TableOf, LinksOf}
+use Rattle.partialize.specs.File.{fileOf}
+use Rattle.partialize.specs.Held.{entered, heldIn, over, Holds}
+use Rattle.partialize.specs.Demands.{Written}
+use Rattle.partialize.proofs.Same.{rounds-same, earliest-same}
+use Rattle.partialize.proofs.Filed.{held-file}
+
+module _
+    (m : Model) (x : ℕ → ℕ) (w : WellFormed m) (found : ℕ) (limits latest early gaps linked : List ℕ)
+    (links : LinksOf m x linked) (table : TableOf (m .steps) (gapOf m x) gaps)
+    (limit : (k : ℕ) → k < m .steps → startIn limits k ≡ limitOf m k)
+    (late : (k : ℕ) → k < m .steps → startIn latest k ≡ latestOf m x k)
+    (counted : found ≡ rounds (m .steps) (gapIn gaps) gapBias (startIn limits))
+    (filled : Filled (m .steps) (earliest (m .steps) (gapIn gaps) gapBias (startIn limits)) limits early)
+  where
+    holds : Holds m x found limits latest early gaps linked
+    unfolding linkAt
+    holds =
+        record {
+          roundCount = counted ∙ rounds-same (m .steps) (gapIn gaps) (gapOf m x) gapBias (startIn limits) (limitOf m) (table .below) limit;
+          limitAt = limit;
+          latestAt = late;
+          earliestAt = λ k l. filled .below k l ∙ earliest-same (m .steps) (gapIn gaps) (gapOf m x) gapBias (startIn limits) (limitOf m) (table .below) limit k l;
+          gapAt = table .below;
+          emptyAt = λ i k _. table .rest i k;
+          conditionAt = λ c l. links .each c (omega arith) ∙ condition-link c l;
+          goalAt = λ g l. links .each (m .conditions + g) (omega arith) ∙ goal-link g }
+      where
+        condition-link : (c : ℕ) → c < m .conditions → linkAt m x c ≡ conditionLink m x c
+        condition-link c l = unfold linkAt in simp (lt-ltb _ _ l)
+        goal-link : (g : ℕ) → linkAt m x (m .conditions + g) ≡ goalLink m x g
+        goal-link g = unfold linkAt in simp (le-ltb (m .conditions + g) (m .conditions) (omega arith), add-sub-cancel-left)
+
+    -- the length that the code sums is the file's
+    pub found-length : fileLength (m .steps) (count 4096 (entered gaps)) (m .conditions + m .goals) ≡ length (encode (fileOf m x))
+    unfolding heldIn
+    found-length =
+        sym (length-encode (heldIn (m .steps) (m .conditions + m .goals) found limits latest early gaps linked))
+        ∙ ap length (held-file m x w found limits latest early gaps linked holds)
+
+    pub written-short : (n : ℕ) (before : List ℕ) → n ≡ length (encode (fileOf m x)) → length before < n → Written (fileOf m x) before before BufferTooShort
+    written-short n before e h =
+        let f = lt-leb (length (encode (fileOf m x))) (length before) (omega arith) in
+        record { answer = simp f; buffer = simp f }
+
+    pub written-file :
+        (n : ℕ) (before after : List ℕ) → n ≡ length (encode (fileOf m x)) → n ≤ length before
+        → after ≡ over (encode (heldIn (m .steps) (m .conditions + m .goals) found limits latest early gaps linked)) before
+        → Written (fileOf m x) before after (Filed n)
+    written-file n before after e h a =
+        let f = le-leb (length (encode (fileOf m x))) (length before) (omega arith) in
+        record {
+          answer = ap Filed e ∙ simp f;
+          buffer = a ∙ ap (λ (b : List ℕ). over b before) (held-file m x w found limits latest early gaps linked holds) ∙ simp f }
