@@ -1,4 +1,5 @@
 // Texts put into a buffer from a position on. Each function answers where its text ends; bytes past the buffer's end are not written.
+// The bounds on positions keep every sum far below the highest usize.
 ghost use Prim.Native.Nat.{_+_, _≤_, _<_};
 ghost use mathlib.Core.List.{[], _∷_};
 ghost use lib.ListN.{length};
