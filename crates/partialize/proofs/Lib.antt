@@ -10,3 +10,4 @@ pub mod End
 pub mod Satisfied
 pub mod Within
 pub mod Filed
+pub mod Starred

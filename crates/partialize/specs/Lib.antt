@@ -7,3 +7,4 @@ pub mod Rounds
 pub mod Table
 pub mod File
 pub mod Held
+pub mod Starred
