@@ -19,3 +19,4 @@ pub mod Filed
 pub mod Found
 pub mod Put
 pub mod Whole
+pub mod Starred

@@ -11,3 +11,4 @@ pub mod Held
 pub mod Answer
 pub mod Partialization
 pub mod Demands
+pub mod Starred
