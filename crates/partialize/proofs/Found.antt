@@ -43,10 +43,12 @@ module _
           gapAt = table .below;
           emptyAt = λ i k _. table .rest i k;
           conditionAt = λ c l. links .each c (omega arith) ∙ condition-link c l;
-          goalAt = λ g l. links .each (m .conditions + g) (omega arith) ∙ goal-link g }
+          goalAt = λ g l. links .each (m .conditions + g) (omega arith) ∙ goal-link g;
+        }
       where
         condition-link : (c : ℕ) → c < m .conditions → linkAt m x c ≡ conditionLink m x c
         condition-link c l = unfold linkAt in simp (lt-ltb _ _ l)
+
         goal-link : (g : ℕ) → linkAt m x (m .conditions + g) ≡ goalLink m x g
         goal-link g = unfold linkAt in simp (le-ltb (m .conditions + g) (m .conditions) (omega arith), add-sub-cancel-left)
 
@@ -70,4 +72,5 @@ module _
         let f = le-leb (length (encode (fileOf m x))) (length before) (omega arith) in
         record {
           answer = ap Filed e ∙ simp f;
-          buffer = a ∙ ap (λ (b : List ℕ). over b before) (held-file m x w found limits latest early gaps linked holds) ∙ simp f }
+          buffer = a ∙ ap (λ (b : List ℕ). over b before) (held-file m x w found limits latest early gaps linked holds) ∙ simp f;
+        }
