@@ -17,3 +17,4 @@ pub mod Within
 pub mod Filed
 pub mod Put
 pub mod Whole
+pub mod Promised
