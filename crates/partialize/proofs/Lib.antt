@@ -20,3 +20,4 @@ pub mod Found
 pub mod Put
 pub mod Whole
 pub mod Starred
+pub mod Promised

@@ -1,7 +1,75 @@
-// Orders from a sound job: links, the gap table, windows, rounds, and the file that holds them.
+// Loosening: an order file from a sound job.
+ghost use Prim.Native.Nat.{ℕ, _+_, _≤_};
+ghost use mathlib.Core.Path.{_≡_};
+ghost use lib.ListN.{length};
+ghost use Rattle.job.specs.Model.{view};
+ghost use Rattle.job.specs.WellFormed.{WellFormed};
+ghost use Rattle.schedule.specs.Ticks.{scheduleOf};
+ghost use Rattle.schedule.specs.Valid.{Valid};
+ghost use Rattle.partialize.specs.Gaps.{gapOf};
+ghost use Rattle.partialize.specs.Table.{Gaps, TableOf, LinksOf};
+ghost use Rattle.partialize.specs.File.{fileOf};
+ghost use Rattle.partialize.specs.Demands.{Written, Promise};
+
 pub mod answer;
-pub mod fill;
-pub mod starts;
-pub mod support;
-pub mod window;
-pub mod write;
+mod fill;
+mod starts;
+mod support;
+mod window;
+mod write;
+
+use answer::Answer;
+use job::layout::Job;
+use job::verdict::number;
+use starts::NONE;
+
+// Files what the links and the gaps of a valid schedule say, if the buffer is long enough for it.
+fn file_found(s: &[u8], job: Job, links: &[u16], gaps: &[u32], out: &mut [u8]) -> Answer
+    requires { ⌜ WellFormed (view job (now s)) × Gaps (now gaps) × (length (now links) ≡ 544) ⌝ }
+    ensures { λ r. ⌜ ((x : ℕ → ℕ) → LinksOf (view job (now (s .entry))) x (now (links .entry)) → TableOf (job .count .steps) (gapOf (view job (now (s .entry))) x) (now (gaps .entry)) → Written (fileOf (view job (now (s .entry))) x) (now (out .entry)) (now (out .exit)) r) ⌝ }
+{
+    let n = job.count.steps as usize;
+    let count = job.count.conditions as usize + job.count.goals as usize;
+    let limits = window::limits(s, job);
+    let latest = window::latest_starts(s, job, links);
+    let found = starts::earliest_starts(limits, n, gaps);
+    let orders = write::count_orders(gaps);
+    let length = 24 + 12 * n + 8 * orders + 2 * count;
+    if out.len() < length {
+        return Answer::BufferTooShort;
+    }
+    let from = limits.at;
+    let to = latest.at;
+    let early = found.starts;
+    let at = early.at;
+    write::write_file(out, n, orders, count, found.rounds, &from, &to, &at, gaps, links);
+    Answer::Filed(length as u32)
+}
+
+// Finds the links and the gaps of a valid schedule, and files them.
+fn file_schedule(s: &[u8], job: Job, starts: &[u32], out: &mut [u8]) -> Answer
+    requires { ⌜ WellFormed (view job (now s)) × Valid (view job (now s)) (scheduleOf (now starts)) ⌝ }
+    ensures { λ r. ⌜ Written (fileOf (view job (now (s .entry))) (scheduleOf (now (starts .entry)))) (now (out .entry)) (now (out .exit)) r ⌝ }
+{
+    let mut links = [0u16; 544];
+    support::find_links(s, job, starts, &mut links);
+    let mut gaps = [NONE; 4096];
+    fill::fill_gaps(s, job, starts, &links, &mut gaps);
+    file_found(s, job, &links, &gaps, out)
+}
+
+// Loosens a job into an order file: the file's length, with the file at the front of the buffer and every byte past it as it was; or
+// the first refusal of the job check, or that the buffer is too short, with no byte changed. Whatever starts satisfy the file are a
+// sound timing of the job with the planned end.
+pub fn partialize(s: &[u8], out: &mut [u8]) -> Answer
+    ensures { λ r. ⌜ Promise (now (s .entry)) (now (out .entry)) (now (out .exit)) r ⌝ }
+{
+    let v = schedule::check_job(s);
+    if number(v) != 0 {
+        return Answer::Refused(v);
+    }
+    let job = Job::read(s);
+    let n = job.count.steps as usize;
+    let starts = schedule::planned_starts(s, job, n);
+    file_schedule(s, job, &starts[..n], out)
+}

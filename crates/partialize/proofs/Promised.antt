@@ -1,0 +1,195 @@
+-- What loosening promises, of a job that the job check refuses and of one whose contents were filed. What was filed reads back, so a
+-- choice satisfies the file exactly if it satisfies its contents.
+use Prim.Native.Nat.{ℕ, _≤_, _<_}
+use mathlib.Core.Path.{_≡_, sym, ap, ap₂, _∙_, subst}
+use mathlib.Core.Bool.{true, false}
+use mathlib.Core.List.{List}
+use mathlib.Core.Logic.{inl, inr, ⊎-elim}
+use native.Mathlib.Omega.{arith}
+use borrow.Author.Tests.{eq-eqb, ne-eqb}
+use lib.ListN.{length, take, drop}
+use lib.Dec.{leb}
+use lib.Seq.{take-append-seam}
+use Rattle.laws.proofs.Search.{either}
+use Rattle.laws.proofs.Listed.{getD-tabulate}
+use Rattle.job.specs.declared.verdict.Verdict.{Verdict}
+use Rattle.job.specs.Verdict as verdict
+use Rattle.job.specs.Model.{Model, modelOf}
+use Rattle.job.specs.WellFormed.{WellFormed}
+use Rattle.schedule.specs.Ticks.{planned}
+use Rattle.schedule.specs.Valid.{Valid}
+use Rattle.schedule.specs.Promise.{Sound, JobPromise}
+use Rattle.order_file.specs.Contents.{Contents}
+use Rattle.order_file.specs.Layout.{contentsOf}
+use Rattle.order_file.specs.Encode.{encode}
+use Rattle.order_file.specs.Within.{Within}
+use Rattle.order_file.specs.Agree.{Agree}
+use Rattle.order_file.specs.Satisfies.{Satisfies, SatisfiesFile}
+use Rattle.order_file.proofs.RoundTrip.{round-trip}
+use Rattle.order_file.proofs.WellFormed.{encode-well-formed}
+use Rattle.partialize.specs.declared.answer.Answer.{Answer}
+use Rattle.partialize.specs.declared.answer.Answer.the-variants.{Filed, Refused, BufferTooShort}
+use Rattle.partialize.specs.Answer.{number, lengthOf}
+use Rattle.partialize.specs.Obeys.{Obeys}
+use Rattle.partialize.specs.File.{earliestOf, fileOf}
+use Rattle.partialize.specs.Held.{over}
+use Rattle.partialize.specs.Partialization.{looseOf, fileBytes, accepts, fits, answerTo, bufferAfter}
+use Rattle.partialize.specs.Demands.{Exact, Loose, Written, Promise}
+use Rattle.partialize.proofs.Sound.{obeying-valid}
+use Rattle.partialize.proofs.End.{same-end}
+use Rattle.partialize.proofs.Satisfied.{satisfies-obeys, planned-satisfies, earliest-first, earliest-planned, earliest-satisfies}
+use Rattle.partialize.proofs.Within.{file-within}
+
+-- contents that agree are satisfied alike
+module _ (c d : Contents) (a : Agree c d) (y : ℕ → ℕ) where
+  agree-satisfies : Satisfies c y → Satisfies d y
+  agree-satisfies s =
+      record {
+        fromLimit = λ k h. omega (arith, a .limit k h, s .fromLimit k (omega arith));
+        byLatest = λ k h n. omega (arith, a .latest k h, s .byLatest k (omega arith) (λ e. n (sym (a .latest k h) ∙ e)));
+        keeps = λ o h. rw (a .first o h, a .second o h, a .gap o h) at (s .keeps o (omega arith));
+      }
+
+  satisfies-agree : Satisfies d y → Satisfies c y
+  satisfies-agree s =
+      record {
+        fromLimit = λ k h. let l : k < d .steps = omega arith in omega (arith, a .limit k l, s .fromLimit k l);
+        byLatest = λ k h n.
+            let l : k < d .steps = omega arith in
+            omega (arith, a .latest k l, s .byLatest k l (λ e. n (a .latest k l ∙ e)));
+        keeps = λ o h. let l : o < d .orders = omega arith in rw (a .first o l, a .second o l, a .gap o l) (s .keeps o l);
+      }
+
+-- and so are starts that agree on the steps
+starts-satisfy : (c : Contents) (y z : ℕ → ℕ) → Within c → ((k : ℕ) → k < c .steps → y k ≡ z k) → Satisfies c y → Satisfies c z
+starts-satisfy c y z w e s =
+    record {
+      fromLimit = λ k h. omega (arith, e k h, s .fromLimit k h);
+      byLatest = λ k h n. omega (arith, e k h, s .byLatest k h n);
+      keeps = λ o h.
+          omega (arith, e (c .first o) (w .firstCounted o h), e (c .second o) (w .secondCounted o h), s .keeps o h);
+    }
+
+-- the file of a valid schedule
+module _ (m : Model) (x : ℕ → ℕ) (w : WellFormed m) (v : Valid m x) where
+  read-back : Agree (contentsOf (encode (fileOf m x))) (fileOf m x)
+  read-back = round-trip (fileOf m x) (file-within m x w v)
+
+  file-obeys : (y : ℕ → ℕ) → SatisfiesFile (encode (fileOf m x)) y → Obeys m x y
+  file-obeys y h = satisfies-obeys m x w y (agree-satisfies (contentsOf (encode (fileOf m x))) (fileOf m x) read-back y h)
+
+  satisfies-file : (y : ℕ → ℕ) → Satisfies (fileOf m x) y → SatisfiesFile (encode (fileOf m x)) y
+  satisfies-file y h = satisfies-agree (contentsOf (encode (fileOf m x))) (fileOf m x) read-back y h
+
+  earliest-filed : (k : ℕ) → k < m .steps → contentsOf (encode (fileOf m x)) .earliest k ≡ earliestOf m x k
+  unfolding fileOf
+  earliest-filed = read-back .earliest
+
+  filed-satisfies : SatisfiesFile (encode (fileOf m x)) (contentsOf (encode (fileOf m x)) .earliest)
+  unfolding fileOf
+  filed-satisfies =
+      satisfies-file (contentsOf (encode (fileOf m x)) .earliest)
+      (starts-satisfy (fileOf m x) (earliestOf m x) (contentsOf (encode (fileOf m x)) .earliest) (file-within m x w v)
+      (λ k h. sym (earliest-filed k h))
+      (earliest-satisfies m x w v))
+
+  rounds-filed : contentsOf (encode (fileOf m x)) .rounds ≤ m .steps
+  unfolding fileOf
+  rounds-filed = omega (arith, read-back .rounds, file-within m x w v .rounds)
+
+-- demands 2 and 3 of the file of a sound job
+module _ (s : List ℕ) (p : Sound s (planned (modelOf s))) where
+  exact-file : Exact s (encode (looseOf s))
+  unfolding looseOf
+  exact-file =
+      let m = modelOf s in
+      record {
+        readable = encode-well-formed (looseOf s) (file-within m (planned m) (p .wellFormed) (p .valid));
+        contents = read-back m (planned m) (p .wellFormed) (p .valid);
+      }
+
+  loose-file : Loose s (encode (looseOf s))
+  unfolding looseOf
+  loose-file =
+      let m = modelOf s in
+      let x : ℕ → ℕ = planned m in
+      let w = p .wellFormed in
+      let v = p .valid in
+      record {
+        valid = λ y h. obeying-valid m x y w v (file-obeys m x w v y h);
+        sameEnd = λ y h. same-end m x y w v (file-obeys m x w v y h);
+        atOrAfter = λ y h k l. omega (arith, earliest-filed m x w v k l, earliest-first m x w v y (file-obeys m x w v y h) k l);
+        earliestSatisfy = filed-satisfies m x w v;
+        atMostPlanned = λ k l.
+            omega (arith, earliest-filed m x w v k l, earliest-planned m x w v k l, getD-tabulate (m .start) (m .steps) k 0 l);
+        plannedSatisfies = satisfies-file m x w v x (planned-satisfies m x w v);
+        fewRounds = rounds-filed m x w v;
+      }
+
+module _ (s before : List ℕ) (v : Verdict) (j : JobPromise s v) where
+  -- a refusal of the job check
+  refuses : (verdict.number v ≡ 0 → ⊥) → accepts s ≡ false
+  unfolding accepts
+  refuses n = ne-eqb _ _ (λ e. n (ap verdict.number (j .answer) ∙ e))
+
+  pub refused-promise : (verdict.number v ≡ 0 → ⊥) → Promise s before before (Refused v)
+  unfolding answerTo bufferAfter
+  refused-promise n =
+      record {
+        answer = rw (refuses n) (ap Refused (j .answer));
+        buffer = rw (refuses n);
+        sound = λ e. absurd (n e);
+        complete = λ h. absurd (n (j .complete h));
+        exact = λ e. absurd (n e);
+        loose = λ e. absurd (n e);
+      }
+
+module _ (s before after : List ℕ) (v : Verdict) (r : Answer) (j : JobPromise s v) (z : verdict.number v ≡ 0) (w : Written (looseOf s) before after r) where
+  accepted : accepts s ≡ true
+  unfolding accepts
+  accepted = eq-eqb _ _ (sym (ap verdict.number (j .answer)) ∙ z)
+
+  answered : r ≡ answerTo s (length before)
+  unfolding answerTo fits fileBytes
+  answered = rw accepted (w .answer)
+
+  buffered : after ≡ bufferAfter s before
+  unfolding bufferAfter fits fileBytes
+  buffered = rw accepted (w .buffer)
+
+  -- the file fits
+  fitting : leb (length (encode (looseOf s))) (length before) ≡ true → Promise s before after r
+  fitting t =
+      let e : r ≡ Filed (length (encode (looseOf s))) = rw t at (w .answer) in
+      let b : after ≡ over (encode (looseOf s)) before = rw t at (w .buffer) in
+      let f : take (lengthOf r) after ≡ encode (looseOf s) =
+      ap₂ (λ (q : Answer) (l : List ℕ). take (lengthOf q) l) e b
+      ∙ take-append-seam (encode (looseOf s)) (drop (length (encode (looseOf s))) before)
+      in
+      record {
+        answer = answered;
+        buffer = buffered;
+        sound = λ _. j .sound z;
+        complete = λ _. inl (ap number e);
+        exact = λ _. subst (Exact s) (sym f) (exact-file s (j .sound z));
+        loose = λ _. subst (Loose s) (sym f) (loose-file s (j .sound z));
+      }
+
+  -- it does not
+  short : r ≡ BufferTooShort → number r ≡ 0 → ⊥
+  short e n = let q : _≡_ {A = ℕ} 15 0 = sym (ap number e) ∙ n in omega arith
+
+  too-short : leb (length (encode (looseOf s))) (length before) ≡ false → Promise s before after r
+  too-short t =
+      let e : r ≡ BufferTooShort = rw t at (w .answer) in
+      record {
+        answer = answered;
+        buffer = buffered;
+        sound = λ n. absurd (short e n);
+        complete = λ _. inr e;
+        exact = λ n. absurd (short e n);
+        loose = λ n. absurd (short e n);
+      }
+
+  pub filed-promise : Promise s before after r
+  filed-promise = ⊎-elim fitting too-short (either (leb (length (encode (looseOf s))) (length before)))
