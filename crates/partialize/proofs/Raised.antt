@@ -38,6 +38,7 @@ single-order first second r t g p q e i k = rw (p, q, e, eqb-same first, eqb-sam
     tests true = refl
     tests false = refl
 
+-- an entry that is large enough stays, and raised twice it is raised by the larger gap
 keeps : (a b : ℕ) (t : Bool) → b ≤ a → a ≡ max a (cond t 0 b)
 keeps a b true h = omega arith
 keeps a b false h = omega arith
@@ -47,7 +48,7 @@ joins a b c d e true p q = omega arith
 joins a b c d e false p q = omega arith
 
 -- An order into a table: of one step with itself, no larger than what is there, or larger.
-module _ (gaps : List ℕ) (i k gap : ℕ) (small : k < 64) where
+module _ (gaps : List ℕ) (i k gap : ℕ) where
   pub raised-own : i ≡ k → Raised 64 (single i k gap) gaps gaps
   raised-own e =
       record {
@@ -76,9 +77,9 @@ module _ (gaps : List ℕ) (i k gap : ℕ) (small : k < 64) where
           ]
 
   pub raised-set :
-      i < 64 → (i ≡ k → ⊥) → gapIn gaps i k < gap → gap ≤ 200001 → length gaps ≡ 4096
+      i < 64 → k < 64 → (i ≡ k → ⊥) → gapIn gaps i k < gap → gap ≤ 200001 → length gaps ≡ 4096
       → Raised 64 (single i k gap) gaps (set gaps (64 * i + k) gap)
-  raised-set h d l m n =
+  raised-set h small d l m n =
       record {
         whole = λ g. record { size = length-set gaps (64 * i + k) gap ∙ n; most = most g };
         below = below;

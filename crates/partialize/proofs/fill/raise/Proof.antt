@@ -8,7 +8,7 @@ pub raise-spec : {M : Type 1} → statement M
 raise-spec =
     tie.close
     (tie.spec
-    (λ c. raised-own _ _ _ _ (c .before .pre .2) (c .if1 .taken))
+    (λ c. raised-own _ _ _ _ (c .if1 .taken))
     (λ c. search needs)
     (λ c. search needs)
     (λ c. search needs)
@@ -16,5 +16,5 @@ raise-spec =
     (λ c. search needs)
     (λ c. search needs)
     (λ c. search needs)
-    (λ c. let d = c .before .before .before in raised-set _ _ _ _ (d .pre .2) (d .pre .1) (c .before .before .if1 .left) (c .if2 .taken) (d .pre .3) (d .pre .0 .size))
-    (λ c. raised-less _ _ _ _ (c .before .before .before .pre .2) (c .if2 .left)))
+    (λ c. let d = c .before .before .before in raised-set _ _ _ _ (d .pre .1) (d .pre .2) (c .before .before .if1 .left) (c .if2 .taken) (d .pre .3) (d .pre .0 .size))
+    (λ c. raised-less _ _ _ _ (c .if2 .left)))
