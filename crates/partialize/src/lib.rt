@@ -42,7 +42,18 @@ fn file_found(s: &[u8], job: Job, links: &[u16], gaps: &[u32], out: &mut [u8]) -
     let to = latest.at;
     let early = found.starts;
     let at = early.at;
-    write::write_file(out, n, orders, count, found.rounds, &from, &to, &at, gaps, links);
+    write::write_file(
+        out,
+        n,
+        orders,
+        count,
+        found.rounds,
+        &from,
+        &to,
+        &at,
+        gaps,
+        links,
+    );
     Answer::Filed(length as u32)
 }
 
