@@ -20,7 +20,7 @@ use crate::random::Random;
 use crate::samples::{sample, SAMPLES};
 
 /// The commands that the replay program serves; the others join here as it learns them.
-pub const SERVED: &str = "whract";
+pub const SERVED: &str = "whractl";
 
 pub struct Stored {
     pub cases: Vec<u8>,

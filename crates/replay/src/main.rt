@@ -2,6 +2,7 @@
 mod fields;
 mod form;
 mod lines;
+mod loosen;
 mod orders;
 mod timing;
 
@@ -16,6 +17,7 @@ fn serve(fd: i32) -> bool {
         b'w' => form::serve_form(fd),
         b'c' => timing::serve_job(fd),
         b't' => timing::serve_schedule(fd),
+        b'l' => loosen::serve_loosen(fd),
         b'h' => orders::serve_header(fd),
         b'r' => orders::serve_record(fd),
         b'a' => orders::serve_alike(fd),

@@ -1,0 +1,59 @@
+// Cases about loosening.
+use crate::fields::read_field;
+use crate::fields::read_number;
+use crate::lines;
+use libc::STDOUT_FILENO;
+use partialize::answer;
+
+// The longest buffer.
+const MOST: u32 = 65536;
+
+// What a buffer holds beforehand.
+const FILL: u8 = 165;
+
+fn print_byte(b: u8) {
+    io::print_hex(STDOUT_FILENO, b as u64, 2);
+}
+
+fn print_hex(bytes: &[u8]) {
+    let mut i = 0;
+    while i < bytes.len() {
+        print_byte(bytes[i]);
+        i += 1;
+    }
+}
+
+fn print_buffer(bytes: &[u8]) {
+    io::write_all(STDOUT_FILENO, b" ");
+    if bytes.len() == 0 {
+        io::write_all(STDOUT_FILENO, b"-");
+    }
+    print_hex(bytes);
+}
+
+// Loosens a job into a whole buffer, and prints the line.
+fn loosen(file: &[u8], out: &mut [u8]) -> bool {
+    let a = partialize::partialize(file, out);
+    lines::begin(b"l", answer::number(a), answer::place(a));
+    lines::print_number(answer::length(a) as u64);
+    print_buffer(out);
+    lines::end()
+}
+
+// `l`: loosening into a buffer of a given length.
+pub fn serve_loosen(fd: i32) -> bool {
+    let mut file = io::large_buffer();
+    let field = read_field(fd, &mut file);
+    let room = read_number(fd);
+    if !(field.whole & room.whole) {
+        return lines::bad_cases();
+    }
+    if MOST < room.value {
+        return lines::bad_cases();
+    }
+    let mut out = [FILL; 65536];
+    let n = field.len;
+    let from = 0;
+    let k = room.value as usize;
+    loosen(&file[..n], &mut out[from..k])
+}
