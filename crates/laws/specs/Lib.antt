@@ -4,3 +4,4 @@ pub mod Fold
 pub mod Nth
 pub mod Listed
 pub mod Bytes
+pub mod Linked

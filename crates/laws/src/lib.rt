@@ -1,7 +1,8 @@
 // Little-endian numbers in a caller's bytes: total readers and writers.
 ghost use mathlib.Core.Path.{_≡_};
-ghost use Prim.Native.Nat.{_<_};
-ghost use lib.ListN.{set};
+ghost use Prim.Native.Nat.{_+_, _≤_, _<_};
+ghost use lib.Dec.{leb};
+ghost use lib.ListN.{length, set};
 ghost use lib.Seq.{sets};
 ghost use Rattle.laws.specs.Bytes.{byteAt, u16At, u32At, biasedAt, u16Bytes, u32Bytes};
 
@@ -18,23 +19,49 @@ pub fn byte_at(s: &[u8], at: usize) -> usize
     if at < s.len() { wide(s[at]) } else { 0 }
 }
 
+// Whether n bytes lie at a position.
+fn has_room(s: &[u8], at: usize, n: usize) -> bool
+    ensures { λ r. ⌜ r ≡ leb (at + n) (length (now (s .entry))) ⌝ }
+{
+    if s.len() < n {
+        return false;
+    }
+    at <= s.len() - n
+}
+
+// The u16 at a position within the bytes.
+fn u16_within(s: &[u8], at: usize) -> usize
+    requires { ⌜ at + 2 ≤ length (now s) ⌝ }
+    ensures { λ r. ⌜ (r ≡ u16At (now (s .entry)) at) × (r < 65536) ⌝ }
+{
+    wide(s[at]) + 256 * wide(s[at + 1])
+}
+
 // The u16 that starts at a position; its bytes past the end count as 0.
 pub fn u16_at(s: &[u8], at: usize) -> usize
     ensures { λ r. ⌜ (r ≡ u16At (now (s .entry)) at) × (r < 65536) ⌝ }
 {
-    if at < s.len() {
-        let low = byte_at(s, at);
-        let high = byte_at(s, at + 1);
-        low + 256 * high
-    } else {
-        0
+    if has_room(s, at, 2) {
+        return u16_within(s, at);
     }
+    byte_at(s, at)
+}
+
+// The u32 at a position within the bytes.
+fn u32_within(s: &[u8], at: usize) -> usize
+    requires { ⌜ at + 4 ≤ length (now s) ⌝ }
+    ensures { λ r. ⌜ (r ≡ u32At (now (s .entry)) at) × (r < 4294967296) ⌝ }
+{
+    u16_within(s, at) + 65536 * u16_within(s, at + 2)
 }
 
 // The u32 that starts at a position; its bytes past the end count as 0.
 pub fn u32_at(s: &[u8], at: usize) -> usize
     ensures { λ r. ⌜ (r ≡ u32At (now (s .entry)) at) × (r < 4294967296) ⌝ }
 {
+    if has_room(s, at, 4) {
+        return u32_within(s, at);
+    }
     if at < s.len() {
         let low = u16_at(s, at);
         let high = u16_at(s, at + 2);
@@ -60,20 +87,43 @@ pub fn put_byte(s: &mut [u8], at: usize, b: u8)
     }
 }
 
+// Puts the two bytes of a u16 within the bytes.
+fn put_u16_within(s: &mut [u8], at: usize, n: usize)
+    requires { ⌜ at + 2 ≤ length (now s) ⌝ }
+    ensures { λ _. ⌜ now (s .exit) ≡ sets (now (s .entry)) at (u16Bytes n) ⌝ }
+{
+    s[at] = (n % 256) as u8;
+    s[at + 1] = (n / 256 % 256) as u8;
+}
+
 // Puts the two bytes of a u16: of a larger number, its lowest two.
 pub fn put_u16(s: &mut [u8], at: usize, n: usize)
     ensures { λ _. ⌜ now (s .exit) ≡ sets (now (s .entry)) at (u16Bytes n) ⌝ }
 {
-    if at < s.len() {
-        put_byte(s, at, (n % 256) as u8);
-        put_byte(s, at + 1, (n / 256 % 256) as u8);
+    if has_room(s, at, 2) {
+        put_u16_within(s, at, n);
+        return;
     }
+    put_byte(s, at, (n % 256) as u8);
+}
+
+// Puts the four bytes of a u32 within the bytes.
+fn put_u32_within(s: &mut [u8], at: usize, n: usize)
+    requires { ⌜ at + 4 ≤ length (now s) ⌝ }
+    ensures { λ _. ⌜ now (s .exit) ≡ sets (now (s .entry)) at (u32Bytes n) ⌝ }
+{
+    put_u16_within(s, at, n);
+    put_u16_within(s, at + 2, n / 65536);
 }
 
 // Puts the four bytes of a u32.
 pub fn put_u32(s: &mut [u8], at: usize, n: usize)
     ensures { λ _. ⌜ now (s .exit) ≡ sets (now (s .entry)) at (u32Bytes n) ⌝ }
 {
+    if has_room(s, at, 4) {
+        put_u32_within(s, at, n);
+        return;
+    }
     if at < s.len() {
         put_u16(s, at, n);
         put_u16(s, at + 2, n / 65536);
