@@ -1,3 +1,4 @@
 -- Laws of the definitions in specs/.
 pub mod Chain
 pub mod WellFormed
+pub mod Indexing

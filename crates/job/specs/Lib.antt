@@ -6,3 +6,4 @@ pub mod Ranges
 pub mod Against
 pub mod Refusals
 pub mod WellFormed
+pub mod Indexed

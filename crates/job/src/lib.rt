@@ -6,6 +6,7 @@ ghost use Rattle.job.specs.Verdict.{number as numberOf};
 ghost use Rattle.job.specs.WellFormed.{WellFormed};
 
 pub mod against;
+pub mod index;
 pub mod layout;
 pub mod ranges;
 pub mod records;

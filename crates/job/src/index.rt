@@ -1,0 +1,89 @@
+// Records linked by a key, so that a search for one step, fact or level passes over all others. An index has 1,024 entries: the first
+// record of each of 512 keys, then after each record the next of its key; the count of the records stands for none.
+ghost use mathlib.Core.Path.{_≡_};
+ghost use Prim.Native.Nat.{_+_, _≤_, _<_};
+ghost use lib.ListN.{length, getD};
+ghost use Rattle.job.specs.Model.{view};
+ghost use Rattle.job.specs.Indexed.{stepKey, factKey, levelKey, keyOf, Indexed};
+use crate::layout::Job;
+use crate::records::*;
+
+// What records are linked by.
+pub enum Linking {
+    // What one step does to one fact or level.
+    EffectsByStep,
+    ConditionsByStep,
+    UsesByStep,
+    // What gives one fact one value.
+    EffectsByFact,
+    UsesByLevel,
+}
+
+// The keys of an index.
+pub const KEYS: usize = 512;
+
+// The key of a step with a fact or level.
+pub fn step_key(step: u16, what: u16) -> usize
+    ensures { λ r. ⌜ (r ≡ stepKey step what) × (r < 512) ⌝ }
+{
+    (4 * step as usize + what as usize) % KEYS
+}
+
+// The key of a fact with a value.
+pub fn fact_key(fact: u16, value: u16) -> usize
+    ensures { λ r. ⌜ (r ≡ factKey fact value) × (r < 512) ⌝ }
+{
+    (2 * fact as usize + value as usize) % KEYS
+}
+
+// The key of a level.
+pub fn level_key(level: u16) -> usize
+    ensures { λ r. ⌜ (r ≡ levelKey level) × (r < 512) ⌝ }
+{
+    level as usize % KEYS
+}
+
+// The key of record k.
+fn key(s: &[u8], job: Job, linking: Linking, k: u16) -> usize
+    ensures { λ r. ⌜ (r ≡ keyOf (view job (now (s .entry))) linking k) × (r < 512) ⌝ }
+{
+    match linking {
+        Linking::EffectsByStep => step_key(effect_step(s, job, k), effect_fact(s, job, k)),
+        Linking::ConditionsByStep => step_key(condition_step(s, job, k), condition_fact(s, job, k)),
+        Linking::UsesByStep => step_key(use_step(s, job, k), use_level(s, job, k)),
+        Linking::EffectsByFact => fact_key(effect_fact(s, job, k), effect_value(s, job, k)),
+        Linking::UsesByLevel => level_key(use_level(s, job, k)),
+    }
+}
+
+// Links the first n records: the later ones come first, so that each finds the next of its key.
+pub fn index_of(s: &[u8], job: Job, linking: Linking, n: u16) -> [u16; 1024]
+    requires { ⌜ n ≤ 512 ⌝ }
+    ensures { λ r. ⌜ Indexed n (keyOf (view job (now (s .entry))) linking) r ⌝ }
+{
+    let mut index = [n; 1024];
+    let mut k = n;
+    while 0 < k {
+        k -= 1;
+        let f = key(s, job, linking, k);
+        index[KEYS + k as usize] = index[f];
+        index[f] = k;
+    }
+    index
+}
+
+// The first record of a key.
+pub fn first_of(index: &[u16], key: usize) -> u16
+    requires { ⌜ (length (now index) ≡ 1024) × (key < 512) ⌝ }
+    ensures { λ r. ⌜ r ≡ getD (now (index .entry)) key 0 ⌝ }
+{
+    index[key]
+}
+
+// The next record after k of its key.
+pub fn next_of(index: &[u16], k: u16) -> u16
+    requires { ⌜ (length (now index) ≡ 1024) × (k < 512) ⌝ }
+    ensures { λ r. ⌜ r ≡ getD (now (index .entry)) (512 + k) 0 ⌝ }
+{
+    index[KEYS + k as usize]
+}
