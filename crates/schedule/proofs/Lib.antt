@@ -4,3 +4,5 @@ pub mod Levels
 pub mod Steps
 pub mod Tested
 pub mod Accepted
+pub mod Known
+pub mod Walks

@@ -1,11 +1,17 @@
 // The value of a fact that is seen at a tick.
 ghost use mathlib.Core.Path.{_≡_};
-ghost use Prim.Native.Nat.{max};
+ghost use Prim.Native.Nat.{suc, max, _≤_, _<_};
+ghost use mathlib.Core.Bool.{cond};
+ghost use lib.Dec.{ltb};
 ghost use Rattle.job.specs.Model.{view};
 ghost use Rattle.schedule.specs.Ticks.{scheduleOf};
 ghost use Rattle.schedule.specs.Seen.{setAt, lastSet, seen, afterAll};
+ghost use Rattle.schedule.specs.Known.{EffectsKnown};
 use crate::ticks::effect_tick;
 use crate::ticks::gives;
+use job::index::fact_key;
+use job::index::first_of;
+use job::index::next_of;
 use job::layout::Job;
 use job::records::fact_initial;
 
@@ -37,6 +43,36 @@ pub fn last_set(s: &[u8], job: Job, starts: &[u32], fact: u16, value: u16, t: us
     while e < n {
         last = larger(last, set_at(s, job, starts, fact, value, t, e));
         e += 1;
+    }
+    last
+}
+
+// One more than a tick before tick t, else 0.
+fn counted(tick: usize, t: usize) -> usize
+    ensures { λ r. ⌜ r ≡ cond (ltb tick t) (suc tick) 0 ⌝ }
+{
+    if tick < t { tick + 1 } else { 0 }
+}
+
+// One more than the latest tick before t at which an effect gives the fact that value; 0 for none.
+pub fn last_given(
+    s: &[u8],
+    job: Job,
+    starts: &[u32],
+    ticks: &[usize],
+    index: &[u16],
+    fact: u16,
+    value: u16,
+    t: usize,
+) -> usize
+    requires { ⌜ EffectsKnown (view job (now s)) (scheduleOf (now starts)) (now ticks) (now index) × (fact < 256) × (value ≤ 1) ⌝ }
+    ensures { λ r. ⌜ r ≡ lastSet (view job (now (s .entry))) (scheduleOf (now (starts .entry))) fact value t ⌝ }
+{
+    let mut last = 0;
+    let mut e = first_of(index, fact_key(fact, value));
+    while e < job.count.effects {
+        last = larger(last, counted(ticks[e as usize], t));
+        e = next_of(index, e);
     }
     last
 }

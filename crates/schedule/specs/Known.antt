@@ -1,0 +1,27 @@
+-- What is known of a job's points before they are searched: their ticks, and which of them share a fact or a level.
+use Prim.Native.Nat.{ℕ, _≤_, _<_}
+use mathlib.Core.Path.{_≡_}
+use mathlib.Core.List.{List}
+use lib.ListN.{length, getD}
+use Rattle.job.specs.declared.index.Linking.the-variants.{EffectsByFact, UsesByLevel}
+use Rattle.job.specs.Model.{Model}
+use Rattle.job.specs.WellFormed.{WellFormed}
+use Rattle.job.specs.Indexed.{keyOf, Indexed}
+use Rattle.schedule.specs.Ticks.{effectTick, useTick}
+
+-- a list of the ticks of n points
+pub record Timed (n : ℕ) (tick : ℕ → ℕ) (ticks : List ℕ) : Type 0 where
+  pub size : n ≤ length ticks
+  pub at : (k : ℕ) → k < n → getD ticks k 0 ≡ tick k
+
+-- a well-formed job, the ticks of its effects, and its effects by fact and value
+pub record EffectsKnown (m : Model) (x : ℕ → ℕ) (ticks index : List ℕ) : Type 0 where
+  pub form : WellFormed m
+  pub timed : Timed (m .effects) (effectTick m x) ticks
+  pub linked : Indexed (m .effects) (keyOf m EffectsByFact) index
+
+-- a well-formed job, the ticks of its uses, and its uses by level
+pub record UsesKnown (m : Model) (x : ℕ → ℕ) (ticks index : List ℕ) : Type 0 where
+  pub form : WellFormed m
+  pub timed : Timed (m .uses) (useTick m x) ticks
+  pub linked : Indexed (m .uses) (keyOf m UsesByLevel) index
