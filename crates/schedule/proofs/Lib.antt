@@ -1,7 +1,7 @@
 -- Laws of the definitions in specs/, and what the code's tests and sums say of them.
 pub mod Seen
 pub mod Levels
-pub mod Steps
+pub mod Planned
 pub mod Tested
 pub mod Accepted
 pub mod Known

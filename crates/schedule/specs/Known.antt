@@ -8,6 +8,7 @@ use Rattle.job.specs.Model.{Model}
 use Rattle.job.specs.WellFormed.{WellFormed}
 use Rattle.job.specs.Indexed.{keyOf, Indexed}
 use Rattle.schedule.specs.Ticks.{effectTick, useTick}
+use Rattle.schedule.specs.Seen.{afterAll}
 
 -- a list of the ticks of n points
 pub record Timed (n : ℕ) (tick : ℕ → ℕ) (ticks : List ℕ) : Type 0 where
@@ -25,3 +26,9 @@ pub record UsesKnown (m : Model) (x : ℕ → ℕ) (ticks index : List ℕ) : Ty
   pub form : WellFormed m
   pub timed : Timed (m .uses) (useTick m x) ticks
   pub linked : Indexed (m .uses) (keyOf m UsesByLevel) index
+
+-- both, and a tick after all effects
+pub record Known (m : Model) (x : ℕ → ℕ) (ticks facts useTicks levels : List ℕ) (end : ℕ) : Type 0 where
+  pub effects : EffectsKnown m x ticks facts
+  pub uses : UsesKnown m x useTicks levels
+  pub after : end ≡ afterAll m x

@@ -1,11 +1,14 @@
 // The rises and falls of a level, and its rule at a tick.
 ghost use mathlib.Core.Path.{_≡_};
 ghost use mathlib.Core.Bool.{_&&_, cond};
-ghost use Prim.Native.Nat.{_+_, _≤_, _<_};
+ghost use Prim.Native.Nat.{suc, _+_, _≤_, _<_};
 ghost use Rattle.job.specs.Model.{view};
 ghost use Rattle.schedule.specs.Ticks.{scheduleOf};
-ghost use Rattle.schedule.specs.Levels.{rise, fall, usedBy, risesBefore, fallsBefore, aboveLeast, belowMost};
-use crate::ticks::use_tick;
+ghost use Rattle.schedule.specs.Levels.{rise, fall, risesBefore, fallsBefore, aboveLeast, belowMost};
+ghost use Rattle.schedule.specs.Known.{UsesKnown};
+use job::index::first_of;
+use job::index::level_key;
+use job::index::next_of;
 use job::layout::Job;
 use job::records::*;
 
@@ -29,57 +32,81 @@ fn change(s: &[u8], job: Job, rising: bool, u: u16) -> usize
     }
 }
 
-fn used_by(s: &[u8], job: Job, starts: &[u32], level: u16, t: usize, u: u16) -> bool
-    ensures { λ r. ⌜ r ≡ usedBy (view job (now (s .entry))) (scheduleOf (now (starts .entry))) level t u ⌝ }
-{
-    (use_level(s, job, u) == level) & (use_tick(s, job, starts, u) < t)
+// What a level's uses add to it and take from it: rises and falls before a tick, risen and fallen with those of the tick.
+struct Changes {
+    rises: usize,
+    falls: usize,
+    risen: usize,
+    fallen: usize,
 }
 
 fn added(total: usize, counts: bool, amount: usize) -> usize
-    requires { ⌜ (total ≤ 281474976710656) × (amount ≤ 2147483648) ⌝ }
+    requires { ⌜ (total ≤ 1099511627776) × (amount ≤ 2147483648) ⌝ }
     ensures { λ r. ⌜ r ≡ total + cond counts amount 0 ⌝ }
 {
     if counts { total + amount } else { total }
 }
 
-// All rises, or all falls, of a level before tick t.
-fn changes_before(s: &[u8], job: Job, starts: &[u32], level: u16, t: usize, rising: bool) -> usize
-    ensures { λ r. ⌜ (r ≡ cond rising (risesBefore (view job (now (s .entry))) (scheduleOf (now (starts .entry))) level t) (fallsBefore (view job (now (s .entry))) (scheduleOf (now (starts .entry))) level t)) × (r ≤ 140737488355328) ⌝ }
+// The changes with those of a use at a tick, by its rise and its fall.
+fn with_use(sums: Changes, before: bool, within: bool, rise: usize, fall: usize) -> Changes
+    requires { ⌜ (sums .rises ≤ 1099511627776) × (sums .falls ≤ 1099511627776) × (sums .risen ≤ 1099511627776) × (sums .fallen ≤ 1099511627776) × (rise ≤ 2147483648) × (fall ≤ 2147483648) ⌝ }
+    ensures { λ r. ⌜ (r .rises ≡ sums .rises + cond before rise 0) × (r .falls ≡ sums .falls + cond before fall 0) × (r .risen ≡ sums .risen + cond within rise 0) × (r .fallen ≡ sums .fallen + cond within fall 0) ⌝ }
 {
-    let n = job.count.uses;
-    let mut total = 0;
-    let mut u = 0;
-    while u < n {
-        let counts = used_by(s, job, starts, level, t, u);
-        total = added(total, counts, change(s, job, rising, u));
-        u += 1;
+    Changes {
+        rises: added(sums.rises, before, rise),
+        falls: added(sums.falls, before, fall),
+        risen: added(sums.risen, within, rise),
+        fallen: added(sums.fallen, within, fall),
     }
-    total
 }
 
-// At tick t the level from earlier ticks bears all of that tick's falls.
-fn above_least(s: &[u8], job: Job, starts: &[u32], level: u16, t: usize) -> bool
-    requires { ⌜ t < 8589934592 ⌝ }
-    ensures { λ r. ⌜ r ≡ aboveLeast (view job (now (s .entry))) (scheduleOf (now (starts .entry))) level t ⌝ }
+// All changes of a level before tick t, and up to it.
+fn changes_of(
+    s: &[u8],
+    job: Job,
+    starts: &[u32],
+    ticks: &[usize],
+    index: &[u16],
+    level: u16,
+    t: usize,
+) -> Changes
+    requires { ⌜ UsesKnown (view job (now s)) (scheduleOf (now starts)) (now ticks) (now index) × (level < 16) ⌝ }
+    ensures { λ r. ⌜ (r .rises ≡ risesBefore (view job (now (s .entry))) (scheduleOf (now (starts .entry))) level t) × (r .falls ≡ fallsBefore (view job (now (s .entry))) (scheduleOf (now (starts .entry))) level t) × (r .risen ≡ risesBefore (view job (now (s .entry))) (scheduleOf (now (starts .entry))) level (suc t)) × (r .fallen ≡ fallsBefore (view job (now (s .entry))) (scheduleOf (now (starts .entry))) level (suc t)) ⌝ }
+    ensures { λ r. ⌜ (r .rises ≤ 1099511627776) × (r .falls ≤ 1099511627776) × (r .risen ≤ 1099511627776) × (r .fallen ≤ 1099511627776) ⌝ }
 {
-    let falls = changes_before(s, job, starts, level, t + 1, false);
-    let rises = changes_before(s, job, starts, level, t, true);
-    level_least(s, job, level) + falls <= level_initial(s, job, level) + rises
+    let mut sums = Changes {
+        rises: 0,
+        falls: 0,
+        risen: 0,
+        fallen: 0,
+    };
+    let mut u = first_of(index, level_key(level));
+    while u < job.count.uses {
+        let tick = ticks[u as usize];
+        let rise = change(s, job, true, u);
+        let fall = change(s, job, false, u);
+        sums = with_use(sums, tick < t, tick <= t, rise, fall);
+        u = next_of(index, u);
+    }
+    sums
 }
 
-// At tick t the level from earlier ticks bears all of that tick's rises.
-fn below_most(s: &[u8], job: Job, starts: &[u32], level: u16, t: usize) -> bool
-    requires { ⌜ t < 8589934592 ⌝ }
-    ensures { λ r. ⌜ r ≡ belowMost (view job (now (s .entry))) (scheduleOf (now (starts .entry))) level t ⌝ }
-{
-    let rises = changes_before(s, job, starts, level, t + 1, true);
-    let falls = changes_before(s, job, starts, level, t, false);
-    level_initial(s, job, level) + rises <= level_most(s, job, level) + falls
-}
-
-pub fn in_bounds(s: &[u8], job: Job, starts: &[u32], level: u16, t: usize) -> bool
-    requires { ⌜ t < 8589934592 ⌝ }
+// At tick t the level from earlier ticks bears all of that tick's falls, and all of its rises.
+pub fn in_bounds(
+    s: &[u8],
+    job: Job,
+    starts: &[u32],
+    ticks: &[usize],
+    index: &[u16],
+    level: u16,
+    t: usize,
+) -> bool
+    requires { ⌜ UsesKnown (view job (now s)) (scheduleOf (now starts)) (now ticks) (now index) × (level < 16) ⌝ }
     ensures { λ r. ⌜ r ≡ (aboveLeast (view job (now (s .entry))) (scheduleOf (now (starts .entry))) level t && belowMost (view job (now (s .entry))) (scheduleOf (now (starts .entry))) level t) ⌝ }
 {
-    above_least(s, job, starts, level, t) & below_most(s, job, starts, level, t)
+    let sums = changes_of(s, job, starts, ticks, index, level, t);
+    let initial = level_initial(s, job, level);
+    let above = level_least(s, job, level) + sums.fallen <= initial + sums.rises;
+    let below = initial + sums.risen <= level_most(s, job, level) + sums.falls;
+    above & below
 }

@@ -5,8 +5,11 @@ ghost use Prim.Native.Nat.{_≤_};
 ghost use Rattle.laws.specs.Listed.{tabulate};
 ghost use Rattle.job.specs.Model.{view};
 ghost use Rattle.job.specs.Verdict.{_then_};
+ghost use Rattle.job.specs.WellFormed.{WellFormed};
 ghost use Rattle.schedule.specs.Ticks.{scheduleOf};
+ghost use Rattle.schedule.specs.declared.checks.Rule.the-variants.{FixedSteps};
 ghost use Rattle.schedule.specs.Checks.{countUnder, refusalOf, ruleCheck, timingCheck, startsCheck};
+ghost use Rattle.schedule.specs.Known.{Known};
 ghost use Rattle.schedule.specs.Promise.{JobPromise, SchedulePromise};
 
 pub mod bounds;
@@ -15,6 +18,8 @@ pub mod ticks;
 pub mod values;
 
 use checks::Rule;
+use job::index::Linking;
+use job::index::index_of;
 use job::layout::Job;
 use job::records::step_start;
 use job::verdict::Verdict;
@@ -48,14 +53,26 @@ fn refusal_of(rule: Rule, k: u16) -> Verdict
 }
 
 // A verdict so far, and where it accepts, the lowest that breaks a rule.
-fn rule_after(before: Verdict, s: &[u8], job: Job, starts: &[u32], rule: Rule) -> Verdict
+fn rule_after(
+    before: Verdict,
+    s: &[u8],
+    job: Job,
+    starts: &[u32],
+    ticks: &[usize],
+    facts: &[u16],
+    uses: &[usize],
+    levels: &[u16],
+    end: usize,
+    rule: Rule,
+) -> Verdict
+    requires { ⌜ Known (view job (now s)) (scheduleOf (now starts)) (now ticks) (now facts) (now uses) (now levels) end ⌝ }
     ensures { λ r. ⌜ r ≡ (before then ruleCheck (view job (now (s .entry))) (scheduleOf (now (starts .entry))) rule) ⌝ }
 {
     if number(before) != 0 {
         return before;
     }
     let n = count_under(s, job, rule);
-    let k = checks::first_broken(s, job, starts, rule, n);
+    let k = checks::first_broken(s, job, starts, ticks, facts, uses, levels, end, rule, n);
     if k < n {
         refusal_of(rule, k)
     } else {
@@ -64,27 +81,127 @@ fn rule_after(before: Verdict, s: &[u8], job: Job, starts: &[u32], rule: Rule) -
 }
 
 // Refusals 10 to 14.
-fn check_timing(s: &[u8], job: Job, starts: &[u32]) -> Verdict
+fn check_timing(
+    s: &[u8],
+    job: Job,
+    starts: &[u32],
+    ticks: &[usize],
+    facts: &[u16],
+    uses: &[usize],
+    levels: &[u16],
+    end: usize,
+) -> Verdict
+    requires { ⌜ Known (view job (now s)) (scheduleOf (now starts)) (now ticks) (now facts) (now uses) (now levels) end ⌝ }
     ensures { λ r. ⌜ r ≡ timingCheck (view job (now (s .entry))) (scheduleOf (now (starts .entry))) ⌝ }
 {
-    let v = rule_after(Verdict::Accepted, s, job, starts, Rule::Effects);
-    let v = rule_after(v, s, job, starts, Rule::Conditions);
-    let v = rule_after(v, s, job, starts, Rule::Levels);
-    let v = rule_after(v, s, job, starts, Rule::Goals);
-    rule_after(v, s, job, starts, Rule::Steps)
+    let v = rule_after(
+        Verdict::Accepted,
+        s,
+        job,
+        starts,
+        ticks,
+        facts,
+        uses,
+        levels,
+        end,
+        Rule::Effects,
+    );
+    let v = rule_after(
+        v,
+        s,
+        job,
+        starts,
+        ticks,
+        facts,
+        uses,
+        levels,
+        end,
+        Rule::Conditions,
+    );
+    let v = rule_after(
+        v,
+        s,
+        job,
+        starts,
+        ticks,
+        facts,
+        uses,
+        levels,
+        end,
+        Rule::Levels,
+    );
+    let v = rule_after(
+        v,
+        s,
+        job,
+        starts,
+        ticks,
+        facts,
+        uses,
+        levels,
+        end,
+        Rule::Goals,
+    );
+    rule_after(
+        v,
+        s,
+        job,
+        starts,
+        ticks,
+        facts,
+        uses,
+        levels,
+        end,
+        Rule::Steps,
+    )
+}
+
+// A verdict so far, and where it accepts, refusals 9 to 14.
+fn rules_after(
+    before: Verdict,
+    s: &[u8],
+    job: Job,
+    starts: &[u32],
+    ticks: &[usize],
+    facts: &[u16],
+    uses: &[usize],
+    levels: &[u16],
+    end: usize,
+) -> Verdict
+    requires { ⌜ Known (view job (now s)) (scheduleOf (now starts)) (now ticks) (now facts) (now uses) (now levels) end ⌝ }
+    ensures { λ r. ⌜ r ≡ (before then ruleCheck (view job (now (s .entry))) (scheduleOf (now (starts .entry))) FixedSteps then timingCheck (view job (now (s .entry))) (scheduleOf (now (starts .entry)))) ⌝ }
+{
+    let v = rule_after(
+        before,
+        s,
+        job,
+        starts,
+        ticks,
+        facts,
+        uses,
+        levels,
+        end,
+        Rule::FixedSteps,
+    );
+    if number(v) != 0 {
+        return v;
+    }
+    check_timing(s, job, starts, ticks, facts, uses, levels, end)
 }
 
 // Refusals 8 to 14.
 fn check_starts(s: &[u8], job: Job, starts: &[u32]) -> Verdict
+    requires { ⌜ WellFormed (view job (now s)) ⌝ }
     ensures { λ r. ⌜ r ≡ startsCheck (view job (now (s .entry))) (now (starts .entry)) ⌝ }
 {
     let other = starts.len() != job.count.steps as usize;
     let v = refuse_if(Verdict::Accepted, other, Verdict::StartsMiscounted);
-    let v = rule_after(v, s, job, starts, Rule::FixedSteps);
-    if number(v) != 0 {
-        return v;
-    }
-    check_timing(s, job, starts)
+    let ticks = ticks::effect_ticks(s, job, starts);
+    let facts = index_of(s, job, Linking::EffectsByFact, job.count.effects);
+    let uses = ticks::use_ticks(s, job, starts);
+    let levels = index_of(s, job, Linking::UsesByLevel, job.count.uses);
+    let end = values::after_all(s, job, starts);
+    rules_after(v, s, job, starts, &ticks, &facts, &uses, &levels, end)
 }
 
 // The written starts of the first n steps, of at most 64.
@@ -112,7 +229,7 @@ pub fn check_job(s: &[u8]) -> Verdict
     let job = Job::read(s);
     let n = job.count.steps as usize;
     let starts = planned_starts(s, job, n);
-    check_timing(s, job, &starts[..n])
+    check_starts(s, job, &starts[..n])
 }
 
 // Whether a list of starts is a sound timing of a job: accepted, or the first of refusals 1 to 14 that fits.

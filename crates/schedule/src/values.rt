@@ -1,50 +1,30 @@
 // The value of a fact that is seen at a tick.
 ghost use mathlib.Core.Path.{_≡_};
-ghost use Prim.Native.Nat.{suc, max, _≤_, _<_};
+ghost use Prim.Native.Nat.{suc, max, _-_, _≤_, _<_};
 ghost use mathlib.Core.Bool.{cond};
 ghost use lib.Dec.{ltb};
 ghost use Rattle.job.specs.Model.{view};
 ghost use Rattle.schedule.specs.Ticks.{scheduleOf};
-ghost use Rattle.schedule.specs.Seen.{setAt, lastSet, seen, afterAll};
+ghost use Rattle.schedule.specs.Seen.{lastSet, seen, afterAll};
 ghost use Rattle.schedule.specs.Known.{EffectsKnown};
 use crate::ticks::effect_tick;
-use crate::ticks::gives;
 use job::index::fact_key;
 use job::index::first_of;
 use job::index::next_of;
 use job::layout::Job;
 use job::records::fact_initial;
 
+// The other of the two values.
+pub fn other(value: u16) -> u16
+    ensures { λ r. ⌜ r ≡ 1 - value ⌝ }
+{
+    if value == 0 { 1 } else { 0 }
+}
+
 pub fn larger(a: usize, b: usize) -> usize
     ensures { λ r. ⌜ r ≡ max a b ⌝ }
 {
     if a < b { b } else { a }
-}
-
-// One more than the tick of e, where it gives the fact that value before tick t; else 0.
-fn set_at(s: &[u8], job: Job, starts: &[u32], fact: u16, value: u16, t: usize, e: u16) -> usize
-    ensures { λ r. ⌜ r ≡ setAt (view job (now (s .entry))) (scheduleOf (now (starts .entry))) fact value t e ⌝ }
-{
-    let tick = effect_tick(s, job, starts, e);
-    if gives(s, job, e, fact, value) & (tick < t) {
-        tick + 1
-    } else {
-        0
-    }
-}
-
-// One more than the latest tick before t at which an effect gives the fact that value; 0 for none.
-pub fn last_set(s: &[u8], job: Job, starts: &[u32], fact: u16, value: u16, t: usize) -> usize
-    ensures { λ r. ⌜ r ≡ lastSet (view job (now (s .entry))) (scheduleOf (now (starts .entry))) fact value t ⌝ }
-{
-    let n = job.count.effects;
-    let mut last = 0;
-    let mut e = 0;
-    while e < n {
-        last = larger(last, set_at(s, job, starts, fact, value, t, e));
-        e += 1;
-    }
-    last
 }
 
 // One more than a tick before tick t, else 0.
@@ -78,11 +58,20 @@ pub fn last_given(
 }
 
 // The value of a fact seen at tick t.
-pub fn value_seen(s: &[u8], job: Job, starts: &[u32], fact: u16, t: usize) -> u16
+pub fn value_seen(
+    s: &[u8],
+    job: Job,
+    starts: &[u32],
+    ticks: &[usize],
+    index: &[u16],
+    fact: u16,
+    t: usize,
+) -> u16
+    requires { ⌜ EffectsKnown (view job (now s)) (scheduleOf (now starts)) (now ticks) (now index) × (fact < 256) ⌝ }
     ensures { λ r. ⌜ r ≡ seen (view job (now (s .entry))) (scheduleOf (now (starts .entry))) fact t ⌝ }
 {
-    let ones = last_set(s, job, starts, fact, 1, t);
-    let zeros = last_set(s, job, starts, fact, 0, t);
+    let ones = last_given(s, job, starts, ticks, index, fact, 1, t);
+    let zeros = last_given(s, job, starts, ticks, index, fact, 0, t);
     if zeros < ones {
         1
     } else if ones < zeros {

@@ -1,8 +1,7 @@
--- The count, the fixed steps, then the timing.
-use mathlib.Core.Path.{sym, ap, _∙_}
+-- What is known of the points, then the rules.
+use native.Mathlib.Omega.{arith}
 use Rattle.schedule.specs.Checks.{startsCheck, countCheck}
-use Rattle.job.specs.Verdict.{number, _then_}
-use Rattle.job.proofs.Chain.{accepted-then, then-refused, then-accepted}
+use Rattle.job.proofs.Chain.{accepted-then}
 use borrow.Author.Needs.{needs}
 use Rattle.schedule.proofs.check_starts.Statement.{statement}
 use Rattle.schedule.proofs.check_starts.Tie as tie
@@ -14,8 +13,14 @@ check-starts-spec =
     (tie.spec
     (λ c. search needs)
     (λ c κs. search needs)
+    (λ c κs. c .before .before .before .before .pre .effectCount)
+    (λ c κs. c .before .before .before .before .before .pre .effectCount)
+    (λ c κs. c .before .before .before .before .before .before .pre .useCount)
+    (λ c κs. omega (arith, c .before .before .before .before .before .before .before .pre .useCount))
     (λ c κs. search needs)
-    (λ c κs. search needs)
-    (λ c. let d = c .before .before in let e = rw (d .before .refuse-if .ensures, accepted-then) at (d .rule-after .ensures) in e ∙ then-refused _ _ (λ z. c .if1 .taken (c .before .number .ensures ∙ ap number e ∙ z)))
-    (λ c κs. search needs)
-    (λ c. let d = c .before .before .before in let e = rw (d .before .refuse-if .ensures, accepted-then) at (d .rule-after .ensures) in c .check-timing .ensures ∙ then-accepted _ _ (sym (ap number e) ∙ sym (c .before .before .number .ensures) ∙ c .before .if1 .left)))
+    (λ c. search needs)
+    (λ c. search needs)
+    (λ c. search needs)
+    (λ c. search needs)
+    (λ c κs. let form = c .before .before .before .before .before .before .before .before .before .before .before .before .before .pre in record { effects = record { form = form; timed = c .before .before .before .before .before .before .before .before .effect-ticks .ensures; linked = c .before .before .before .before .before .before .before .index-of .ensures }; uses = record { form = form; timed = c .before .before .before .before .before .before .use-ticks .ensures; linked = c .before .before .before .before .before .index-of2 .ensures }; after = c .before .before .before .before .after-all .ensures })
+    (λ c. rw (c .before .before .before .before .before .before .before .before .before .before .refuse-if .ensures, accepted-then) at (c .rules-after .ensures)))

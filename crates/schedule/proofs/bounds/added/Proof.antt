@@ -1,6 +1,6 @@
 -- Adds or does not.
-use borrow.Author.Needs.{needs}
 use native.Mathlib.Omega.{arith}
+use borrow.Author.Needs.{needs}
 use Rattle.schedule.proofs.bounds.added.Statement.{statement}
 use Rattle.schedule.proofs.bounds.added.Tie as tie
 

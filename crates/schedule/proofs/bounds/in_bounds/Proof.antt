@@ -1,4 +1,5 @@
--- Both bounds.
+-- The sums and the level are those of the definition.
+use native.Mathlib.Omega.{arith}
 use borrow.Author.Needs.{needs}
 use Rattle.schedule.proofs.bounds.in_bounds.Statement.{statement}
 use Rattle.schedule.proofs.bounds.in_bounds.Tie as tie
@@ -9,4 +10,10 @@ in-bounds-spec =
     (tie.spec
     (λ c κs. search needs)
     (λ c κs. search needs)
+    (λ c κs. search needs)
+    (λ c. search needs)
+    (λ c. search needs)
+    (λ c. search needs)
+    (λ c κs. search needs)
+    (λ c. search needs)
     (λ c. cc))

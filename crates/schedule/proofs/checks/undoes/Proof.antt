@@ -1,4 +1,5 @@
 -- The parts are those of `undoes`.
+use native.Mathlib.Omega.{arith}
 use Rattle.schedule.specs.Checks.{undoes}
 use borrow.Author.Needs.{needs}
 use Rattle.schedule.proofs.checks.undoes.Statement.{statement}
@@ -13,5 +14,6 @@ undoes-spec =
     (λ c κs. search needs)
     (λ c κs. search needs)
     (λ c κs. search needs)
-    (λ c κs. search needs)
-    (λ c. cc))
+    (λ c. search needs)
+    (λ c. omega (arith, c .before .before .before .before .before .before .before .before .before .pre .0 .timed .size, c .before .before .before .before .before .before .before .before .before .pre .1))
+    (λ c. cc (c .before .before .before .before .before .before .before .before .before .pre .0 .timed .at _ (c .before .before .before .before .before .before .before .before .before .pre .1))))
