@@ -1,7 +1,7 @@
 -- An index grows from its last record to its first: each record becomes the first of its key, before the one that was. A search
 -- along it misses nothing if only records of its key pass its test.
 use Prim.Native.Nat.{ℕ, suc, _+_, _-_, _≤_, _<_}
-use mathlib.Core.Path.{_≡_, refl, sym, subst, ap, ap₂, _∙_}
+use mathlib.Core.Path.{_≡_, refl, sym, subst, ap, _∙_}
 use mathlib.Core.Bool.{Bool, true, false, _||_}
 use mathlib.Core.List.{List}
 use mathlib.Core.Logic.{_⊎_, inl, inr, ⊎-elim}
@@ -9,15 +9,11 @@ use native.Mathlib.Nat.{eq-or-lt-of-le}
 use native.Mathlib.Omega.{arith}
 use lib.ListN.{length, set, getD, replicate, length-set, length-replicate, getD-replicate}
 use lib.Seq.{getD-set-same, getD-set-other}
-use borrow.Author.Tests.{eqb-true}
 use Rattle.laws.specs.Linked.{NextAt, Linked}
 use Rattle.laws.specs.Search.{any}
 use Rattle.laws.proofs.Linked.{Walk, walk-start, walk-more, walk-further}
-use Rattle.laws.proofs.Search.{either, and-both, by-order, any-start, any-none, any-false}
-use Rattle.job.specs.declared.index.Linking.the-variants.{EffectsByStep, ConditionsByStep, UsesByStep}
-use Rattle.job.specs.Model.{Model}
-use Rattle.job.specs.Against.{bothWays, usesTwice, opposesOwn}
-use Rattle.job.specs.Indexed.{stepKey, keyOf, Indexed}
+use Rattle.laws.proofs.Search.{either, by-order, any-start, any-none, any-false}
+use Rattle.job.specs.Indexed.{Indexed}
 
 -- an index of the records from k on
 pub record Begun (n : ℕ) (key : ℕ → ℕ) (k : ℕ) (index : List ℕ) : Type 0 where
@@ -158,22 +154,3 @@ search-further indexed at v h e = subst (λ j. at < j) (sym e) (walk-further (in
 -- a walk that has come to m or past it without a record that passes
 pub search-end : {n : ℕ} {key : ℕ → ℕ} {f : ℕ} (p : ℕ → Bool) (m at : ℕ) → Walk n key f (λ i. any i p ≡ false) at → m ≤ at → false ≡ any m p
 search-end p m at walk h = sym (any-none p m (λ k l. any-false p at (walk .gathered) k (omega arith)))
-
--- in the three parts of refusal 7, only records of the same step and fact or level pass
-pub own-both-ways : (m : Model) (e k : ℕ) → bothWays m e k ≡ true → keyOf m EffectsByStep k ≡ keyOf m EffectsByStep e
-unfolding bothWays keyOf
-own-both-ways m e k t =
-    let a = and-both _ _ (and-both _ _ (and-both _ _ t .0) .0) in
-    ap₂ stepKey (sym (eqb-true _ _ (a .0))) (sym (eqb-true _ _ (a .1)))
-
-pub own-uses-twice : (m : Model) (u k : ℕ) → usesTwice m u k ≡ true → keyOf m UsesByStep k ≡ keyOf m UsesByStep u
-unfolding usesTwice keyOf
-own-uses-twice m u k t =
-    let a = and-both _ _ (and-both _ _ t .0) in
-    ap₂ stepKey (sym (eqb-true _ _ (a .0))) (sym (eqb-true _ _ (a .1)))
-
-pub own-opposes : (m : Model) (e k : ℕ) → opposesOwn m e k ≡ true → keyOf m ConditionsByStep k ≡ keyOf m EffectsByStep e
-unfolding opposesOwn keyOf
-own-opposes m e k t =
-    let a = and-both _ _ (and-both _ _ (and-both _ _ (and-both _ _ t .0) .0) .0) in
-    ap₂ stepKey (sym (eqb-true _ _ (a .0))) (sym (eqb-true _ _ (a .1)))

@@ -1,5 +1,5 @@
 // Refusal 7: a step against itself, found in three searches. Each walks an index, so that a record meets only those of its own step
-// and fact or level, and the few others that share the key.
+// and fact or level, and the few others that share the key. The field that most often tells two such records apart is read first.
 ghost use mathlib.Core.Path.{_≡_};
 ghost use mathlib.Core.Bool.{_&&_, cond};
 ghost use Prim.Native.Nat.{min, _≤_, _<_};
@@ -22,27 +22,32 @@ use crate::verdict::refuse_if;
 fn both_ways(s: &[u8], job: Job, e: u16, f: u16) -> bool
     ensures { λ r. ⌜ r ≡ bothWays (view job (now (s .entry))) e f ⌝ }
 {
+    if effect_at(s, job, e) != effect_at(s, job, f) {
+        return false;
+    }
     (effect_step(s, job, e) == effect_step(s, job, f))
         & (effect_fact(s, job, e) == effect_fact(s, job, f))
-        & (effect_at(s, job, e) == effect_at(s, job, f))
         & (effect_value(s, job, e) != effect_value(s, job, f))
 }
 
 fn uses_twice(s: &[u8], job: Job, u: u16, v: u16) -> bool
     ensures { λ r. ⌜ r ≡ usesTwice (view job (now (s .entry))) u v ⌝ }
 {
-    (use_step(s, job, u) == use_step(s, job, v))
-        & (use_level(s, job, u) == use_level(s, job, v))
-        & (use_at(s, job, u) == use_at(s, job, v))
+    if use_at(s, job, u) != use_at(s, job, v) {
+        return false;
+    }
+    (use_step(s, job, u) == use_step(s, job, v)) & (use_level(s, job, u) == use_level(s, job, v))
 }
 
 fn opposes_own(s: &[u8], job: Job, e: u16, c: u16) -> bool
     ensures { λ r. ⌜ r ≡ opposesOwn (view job (now (s .entry))) e c ⌝ }
 {
+    if effect_value(s, job, e) == condition_value(s, job, c) {
+        return false;
+    }
     let at = effect_at(s, job, e);
     (effect_step(s, job, e) == condition_step(s, job, c))
         & (effect_fact(s, job, e) == condition_fact(s, job, c))
-        & (effect_value(s, job, e) != condition_value(s, job, c))
         & (condition_from(s, job, c) <= at)
         & (at < condition_to(s, job, c))
 }

@@ -10,7 +10,8 @@ use Rattle.job.specs.declared.index.Linking.the-variants.{EffectsByStep,
 use Rattle.job.specs.Model.{view}
 use Rattle.job.specs.Indexed.{stepKey, keyOf}
 use Rattle.job.specs.Against.{opposesOwn, opposesAny}
-use Rattle.job.proofs.Indexing.{search-start, search-more, search-further, search-end, own-opposes}
+use Rattle.job.proofs.Indexing.{search-start, search-more, search-further, search-end}
+use Rattle.job.proofs.Steps.{own-opposes}
 use borrow.Author.Needs.{needs}
 use Rattle.job.proofs.against.opposes_any.Statement.{statement}
 use Rattle.job.proofs.against.opposes_any.Tie as tie

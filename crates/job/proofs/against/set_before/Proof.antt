@@ -10,7 +10,8 @@ use Rattle.job.specs.declared.index.Linking.the-variants.{EffectsByStep}
 use Rattle.job.specs.Model.{view}
 use Rattle.job.specs.Indexed.{stepKey, keyOf}
 use Rattle.job.specs.Against.{bothWays, setBefore}
-use Rattle.job.proofs.Indexing.{search-start, search-more, search-further, search-end, own-both-ways}
+use Rattle.job.proofs.Indexing.{search-start, search-more, search-further, search-end}
+use Rattle.job.proofs.Steps.{own-both-ways}
 use borrow.Author.Needs.{needs}
 use Rattle.job.proofs.against.set_before.Statement.{statement}
 use Rattle.job.proofs.against.set_before.Tie as tie

@@ -10,7 +10,8 @@ use Rattle.job.specs.declared.index.Linking.the-variants.{UsesByStep}
 use Rattle.job.specs.Model.{view}
 use Rattle.job.specs.Indexed.{stepKey, keyOf}
 use Rattle.job.specs.Against.{usesTwice, usedBefore}
-use Rattle.job.proofs.Indexing.{search-start, search-more, search-further, search-end, own-uses-twice}
+use Rattle.job.proofs.Indexing.{search-start, search-more, search-further, search-end}
+use Rattle.job.proofs.Steps.{own-uses-twice}
 use borrow.Author.Needs.{needs}
 use Rattle.job.proofs.against.used_before.Statement.{statement}
 use Rattle.job.proofs.against.used_before.Tie as tie
