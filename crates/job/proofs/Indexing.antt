@@ -1,6 +1,8 @@
--- An index grows from its last record to its first: each record becomes the first of its key, before the one that was.
+-- An index grows from its last record to its first: each record becomes the first of its key, before the one that was. A search
+-- along it misses nothing if only records of its key pass its test.
 use Prim.Native.Nat.{ℕ, suc, _+_, _-_, _≤_, _<_}
-use mathlib.Core.Path.{_≡_, refl, sym, subst, _∙_}
+use mathlib.Core.Path.{_≡_, refl, sym, subst, ap, _∙_}
+use mathlib.Core.Bool.{Bool, true, false, _||_}
 use mathlib.Core.List.{List}
 use mathlib.Core.Logic.{_⊎_, inl, inr, ⊎-elim}
 use native.Mathlib.Nat.{eq-or-lt-of-le}
@@ -8,7 +10,9 @@ use native.Mathlib.Omega.{arith}
 use lib.ListN.{length, set, getD, replicate, length-set, length-replicate, getD-replicate}
 use lib.Seq.{getD-set-same, getD-set-other}
 use Rattle.laws.specs.Linked.{NextAt, Linked}
-use Rattle.laws.proofs.Search.{by-order}
+use Rattle.laws.specs.Search.{any}
+use Rattle.laws.proofs.Linked.{Walk, walk-start, walk-more, walk-further}
+use Rattle.laws.proofs.Search.{either, by-order, any-start, any-none, any-false}
 use Rattle.job.specs.Indexed.{Indexed}
 
 -- an index of the records from k on
@@ -124,3 +128,29 @@ module _ (n : ℕ) (key : ℕ → ℕ) where
               nexts = λ j h. begun .nexts j (omega arith) h;
             };
       }
+
+-- A loop that walks an index to answer whether some record passes a test.
+module _ (n : ℕ) (key : ℕ → ℕ) (f : ℕ) (p : ℕ → Bool) (index : List ℕ) (own : (k : ℕ) → p k ≡ true → key k ≡ f) (indexed : Indexed n key index) where
+  -- a record that does not pass, told by its test or by its key
+  none-here : (k : ℕ) → any k p ≡ false → p k ≡ false → any (suc k) p ≡ false
+  unfolding any
+  none-here k e q = ap (λ b. b || p k) e ∙ q
+
+  over : (k : ℕ) → k < n → (key k ≡ f → ⊥) → any k p ≡ false → any (suc k) p ≡ false
+  over k h other e = none-here k e (⊎-elim (λ (t : p k ≡ true). absurd (other (own k t))) (λ q. q) (either (p k)))
+
+  pub search-start : (g v : ℕ) → g ≡ f → g < 512 → v ≡ getD index g 0 → Walk n key f (λ i. any i p ≡ false) v
+  search-start g v e h q =
+      walk-start (indexed .linked) f (λ i. any i p ≡ false) over (omega arith) (any-start p) (q ∙ ap (λ j. getD index j 0) e)
+
+  pub search-more : (at v : ℕ) {r : Bool} → Walk n key f (λ i. any i p ≡ false) at → at < n → r ≡ p at → r ≡ false → v ≡ getD index (512 + at) 0 → Walk n key f (λ i. any i p ≡ false) v
+  search-more at v walk h q z e =
+      walk-more (indexed .linked) f (λ i. any i p ≡ false) over at h (walk .there h) (none-here at (walk .gathered) (sym q ∙ z)) e
+
+-- each record's next lies further on
+pub search-further : {n : ℕ} {key : ℕ → ℕ} {index : List ℕ} → Indexed n key index → (at v : ℕ) → at < n → v ≡ getD index (512 + at) 0 → at < v
+search-further indexed at v h e = subst (λ j. at < j) (sym e) (walk-further (indexed .linked) at h)
+
+-- a walk that has come to m or past it without a record that passes
+pub search-end : {n : ℕ} {key : ℕ → ℕ} {f : ℕ} (p : ℕ → Bool) (m at : ℕ) → Walk n key f (λ i. any i p ≡ false) at → m ≤ at → false ≡ any m p
+search-end p m at walk h = sym (any-none p m (λ k l. any-false p at (walk .gathered) k (omega arith)))

@@ -2,3 +2,4 @@
 pub mod Chain
 pub mod WellFormed
 pub mod Indexing
+pub mod Steps

@@ -1,6 +1,6 @@
 -- A file that refusals 1 to 7 pass holds a well-formed job.
 use Prim.Native.Nat.{ℕ, _≤_, _<_, min}
-use mathlib.Core.Path.{_≡_, refl, sym, ap, ap₂, _∙_}
+use mathlib.Core.Path.{_≡_, refl, sym, ap, ap₂, subst, _∙_}
 use mathlib.Core.Bool.{Bool, true, false, not, _&&_, _||_, cond}
 use mathlib.Core.List.{List, [], _∷_}
 use mathlib.Core.Logic.{_⊎_, inl, inr, ⊎-elim}
@@ -16,6 +16,7 @@ use Rattle.job.specs.declared.layout.Table.the-variants.{Facts, Levels, 
 use Rattle.job.specs.declared.verdict.Verdict.the-variants.{RecordOutOfRange}
 use Rattle.job.specs.declared.layout.Table.{Table}
 use Rattle.job.specs.declared.layout.Counts.{Counts}
+use Rattle.job.specs.declared.layout.Job.{Job}
 use Rattle.job.specs.Verdict.{number, _then_}
 use Rattle.job.specs.Layout.{countsOf, countList, highest, jobOf, countTooHigh}
 use Rattle.job.specs.Model.{Model, modelOf}
@@ -239,6 +240,15 @@ header s e =
       ltb-false _ _ (or-both _ _ (refuse-zero _ _ (λ z. let y : _≡_ {A = ℕ} 3 0 = z in omega arith) (c .1)) .0),
       refuse-zero _ _ (λ z. let y : _≡_ {A = ℕ} 4 0 = z in omega arith) (b .1),
     )
+
+-- so the records can be linked
+pub few-records : (s : List ℕ) (job : Job) → job ≡ jobOf s → number (headerCheck s) ≡ 0 → (job .count .conditions ≤ 512) × (job .count .effects ≤ 512) × (job .count .uses ≤ 512)
+unfolding jobOf
+few-records s job e z =
+    let n = counts (countsOf s) (header s z .1) in
+    let u : countsOf s .uses ≤ 256 = n 5 (lit< tt) in
+    subst (λ (j : Job). (j .count .conditions ≤ 512) × (j .count .effects ≤ 512) × (j .count .uses ≤ 512)) (sym e)
+    (n 3 (lit< tt), n 4 (lit< tt), omega arith)
 
 pub well-formed : (s : List ℕ) → number (formCheck s) ≡ 0 → WellFormed (modelOf s)
 unfolding formCheck jobOf

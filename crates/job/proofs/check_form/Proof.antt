@@ -6,7 +6,7 @@ use Rattle.job.specs.Model.{view, modelOf}
 use Rattle.job.specs.Refusals.{headerCheck, recordCheck, stepCheck, formCheck}
 use Rattle.job.specs.Verdict.{number}
 use Rattle.job.proofs.Chain.{first-refused, second-refused, both-accepted}
-use Rattle.job.proofs.WellFormed.{well-formed}
+use Rattle.job.proofs.WellFormed.{few-records, well-formed}
 use borrow.Author.Needs.{needs}
 use Rattle.job.proofs.check_form.Statement.{statement}
 use Rattle.job.proofs.check_form.Tie as tie
@@ -23,5 +23,5 @@ check-form-spec =
     (λ c κs. search needs)
     (λ c κs. search needs)
     (λ c. let d = c .before .before in let k = d .before .before .before in let s = now (k .before .before .before .args .s) in let j = d .before .read .ensures in let z : number (headerCheck s) ≡ 0 = sym (ap number (k .before .check-header .ensures)) ∙ sym (k .number .ensures) ∙ d .before .before .if1 .left in let r : d .check-records .result ≡ recordCheck (modelOf s) = d .check-records .ensures ∙ ap (λ (x : Job). recordCheck (view x s)) j in let e : d .check-records .result ≡ formCheck s = r ∙ second-refused (headerCheck s) (recordCheck (modelOf s)) (stepCheck (modelOf s)) z (λ y. c .if2 .taken (c .before .number2 .ensures ∙ ap number r ∙ y)) in (e, λ y. well-formed s (sym (ap number e) ∙ y)))
-    (λ c κs. search needs)
+    (λ c κs. let d = c .before .before .before in let k = d .before .before in few-records _ _ (d .read .ensures) (sym (ap number (k .before .check-header .ensures)) ∙ sym (k .number .ensures) ∙ d .before .if1 .left))
     (λ c. let d = c .before .before .before in let k = d .before .before .before in let s = now (k .before .before .before .args .s) in let j = d .before .read .ensures in let z : number (headerCheck s) ≡ 0 = sym (ap number (k .before .check-header .ensures)) ∙ sym (k .number .ensures) ∙ d .before .before .if1 .left in let r : d .check-records .result ≡ recordCheck (modelOf s) = d .check-records .ensures ∙ ap (λ (x : Job). recordCheck (view x s)) j in let e : c .check-steps .result ≡ formCheck s = c .check-steps .ensures ∙ ap (λ (x : Job). stepCheck (view x s)) j ∙ both-accepted (headerCheck s) (recordCheck (modelOf s)) (stepCheck (modelOf s)) z (sym (ap number r) ∙ sym (c .before .before .number2 .ensures) ∙ c .before .if2 .left) in (e, λ y. well-formed s (sym (ap number e) ∙ y))))

@@ -14,13 +14,15 @@ unfolding usesTwiceStep
 uses-twice-step-spec =
     tie.close
     (tie.spec
-    (λ s job n best₀ u₀ best u. (u ≤ n) × (best ≡ lowestOwner (job .count .steps) u (view job s .useStep) (usedBefore (view job s))))
-    (λ s job n best₀ u₀ best u. n - u)
+    (λ s job n index best₀ u₀ best u. (u ≤ n) × (best ≡ lowestOwner (job .count .steps) u (view job s .useStep) (usedBefore (view job s))))
+    (λ s job n index best₀ u₀ best u. n - u)
+    (λ c κs. c .before .pre)
     (λ c. (search needs, sym (owner-start _ _ _)))
-    (λ c κs. search needs)
+    (λ c. search needs)
+    (λ c κs. (c .before .before .before .index-of .ensures, c .before .before .before .before .before .pre, c .before .loop-test .taken))
     (λ c κs. search needs)
     (λ c κs. search needs)
     (λ c. search needs)
     (λ c. search needs)
-    (λ c. (search needs, owner-more _ _ _ _ (c .before .before .before .before .loop .inv .1) (c .before .before .used-before .ensures) (c .before .use-step .ensures) (c .lower-if .ensures)))
+    (λ c. (search needs, owner-more _ _ _ _ (c .before .before .before .before .before .loop .inv .1) (c .before .before .used-before .ensures) (c .before .use-step .ensures) (c .lower-if .ensures)))
     (λ c. owner-end _ _ _ _ _ (c .before .loop .inv .1) (c .before .loop .inv .0) (c .loop-test .left)))

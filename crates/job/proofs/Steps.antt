@@ -1,0 +1,62 @@
+-- Laws of the tests of refusal 7: their keys, and one field tested before the others.
+use Prim.Native.Nat.{ℕ}
+use mathlib.Core.Path.{_≡_, sym, ap₂, _∙_}
+use mathlib.Core.Bool.{true, false, not, _&&_, and-true, and-false}
+use lib.Dec.{ltb, leb, eqb}
+use borrow.Author.Tests.{eqb-true, eq-eqb, ne-eqb}
+use Rattle.laws.proofs.Search.{and-both}
+use Rattle.job.specs.declared.index.Linking.the-variants.{EffectsByStep, ConditionsByStep, UsesByStep}
+use Rattle.job.specs.Model.{Model}
+use Rattle.job.specs.Against.{bothWays, usesTwice, opposesOwn}
+use Rattle.job.specs.Indexed.{stepKey, keyOf}
+
+-- only records of one step and fact or level pass, so they share a key
+pub own-both-ways : (m : Model) (e k : ℕ) → bothWays m e k ≡ true → keyOf m EffectsByStep k ≡ keyOf m EffectsByStep e
+unfolding bothWays keyOf
+own-both-ways m e k t =
+    let a = and-both _ _ (and-both _ _ (and-both _ _ t .0) .0) in
+    ap₂ stepKey (sym (eqb-true _ _ (a .0))) (sym (eqb-true _ _ (a .1)))
+
+pub own-uses-twice : (m : Model) (u k : ℕ) → usesTwice m u k ≡ true → keyOf m UsesByStep k ≡ keyOf m UsesByStep u
+unfolding usesTwice keyOf
+own-uses-twice m u k t =
+    let a = and-both _ _ (and-both _ _ t .0) in
+    ap₂ stepKey (sym (eqb-true _ _ (a .0))) (sym (eqb-true _ _ (a .1)))
+
+pub own-opposes : (m : Model) (e k : ℕ) → opposesOwn m e k ≡ true → keyOf m ConditionsByStep k ≡ keyOf m EffectsByStep e
+unfolding opposesOwn keyOf
+own-opposes m e k t =
+    let a = and-both _ _ (and-both _ _ (and-both _ _ (and-both _ _ t .0) .0) .0) in
+    ap₂ stepKey (sym (eqb-true _ _ (a .0))) (sym (eqb-true _ _ (a .1)))
+
+-- A field that was tested before the others fails them all, or leaves the answer to them; x and y are the code's readings.
+module _ (m : Model) (k j : ℕ) {x y : ℕ} where
+  pub both-ways-not : x ≡ m .effectAt k → y ≡ m .effectAt j → (x ≡ y → ⊥) → false ≡ bothWays m k j
+  unfolding bothWays
+  both-ways-not p q n = simp (ne-eqb (m .effectAt k) (m .effectAt j) (λ e. n (p ∙ e ∙ sym q)), and-false)
+
+  pub both-ways-rest :
+      x ≡ m .effectAt k → y ≡ m .effectAt j → x ≡ y
+      → (eqb (m .effectStep k) (m .effectStep j) && eqb (m .effectFact k) (m .effectFact j) && not (eqb (m .effectValue k) (m .effectValue j))) ≡ bothWays m k j
+  unfolding bothWays
+  both-ways-rest p q e = simp (eq-eqb (m .effectAt k) (m .effectAt j) (sym p ∙ e ∙ q), and-true)
+
+  pub uses-twice-not : x ≡ m .useAt k → y ≡ m .useAt j → (x ≡ y → ⊥) → false ≡ usesTwice m k j
+  unfolding usesTwice
+  uses-twice-not p q n = simp (ne-eqb (m .useAt k) (m .useAt j) (λ e. n (p ∙ e ∙ sym q)), and-false)
+
+  pub uses-twice-rest :
+      x ≡ m .useAt k → y ≡ m .useAt j → x ≡ y
+      → (eqb (m .useStep k) (m .useStep j) && eqb (m .useLevel k) (m .useLevel j)) ≡ usesTwice m k j
+  unfolding usesTwice
+  uses-twice-rest p q e = simp (eq-eqb (m .useAt k) (m .useAt j) (sym p ∙ e ∙ q), and-true)
+
+  pub opposes-not : x ≡ m .effectValue k → y ≡ m .conditionValue j → x ≡ y → false ≡ opposesOwn m k j
+  unfolding opposesOwn
+  opposes-not p q e = simp (eq-eqb (m .effectValue k) (m .conditionValue j) (sym p ∙ e ∙ q), and-false)
+
+  pub opposes-rest :
+      x ≡ m .effectValue k → y ≡ m .conditionValue j → (x ≡ y → ⊥)
+      → (eqb (m .effectStep k) (m .conditionStep j) && eqb (m .effectFact k) (m .conditionFact j) && leb (m .conditionFrom j) (m .effectAt k) && ltb (m .effectAt k) (m .conditionTo j)) ≡ opposesOwn m k j
+  unfolding opposesOwn
+  opposes-rest p q n = simp (ne-eqb (m .effectValue k) (m .conditionValue j) (λ e. n (p ∙ e ∙ sym q)), and-true)
