@@ -44,6 +44,10 @@ againstStep m = min (min (bothWaysStep m) (usesTwiceStep m)) (opposesOwnStep m)
 unfoldable pub stepCheck : Model → Verdict
 stepCheck m = refuseIf (ltb (againstStep m) (m .steps)) (StepAgainstItself (againstStep m))
 
+-- refusals 6 and 7, which look only at the tables
+unfoldable pub bodyCheck : Model → Verdict
+bodyCheck m = recordCheck m then stepCheck m
+
 -- refusals 1 to 7
 unfoldable pub formCheck : List ℕ → Verdict
 formCheck s = headerCheck s then recordCheck (modelOf s) then stepCheck (modelOf s)

@@ -8,10 +8,10 @@ ghost use Rattle.job.specs.WellFormed.{WellFormed};
 pub mod against;
 pub mod layout;
 pub mod ranges;
+pub mod reader;
 pub mod records;
 pub mod verdict;
 
-use layout::Job;
 use verdict::Verdict;
 use verdict::number;
 
@@ -25,10 +25,5 @@ pub fn check_form(s: &[u8]) -> Verdict
     if number(header) != 0 {
         return header;
     }
-    let job = Job::read(s);
-    let records = ranges::check_records(s, job);
-    if number(records) != 0 {
-        return records;
-    }
-    against::check_steps(s, job)
+    reader::check_body(s)
 }

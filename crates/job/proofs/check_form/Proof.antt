@@ -1,27 +1,22 @@
--- The header, the records and the steps, chained as in `formCheck`; what passes is well formed.
+-- The header, and after it the body, grouped as in `formCheck`; what passes is well formed.
 use mathlib.Core.Path.{_≡_, sym, ap, _∙_}
 use denote.Ref.{now}
-use Rattle.job.specs.declared.layout.Job.{Job}
-use Rattle.job.specs.Model.{view, modelOf}
-use Rattle.job.specs.Refusals.{headerCheck, recordCheck, stepCheck, formCheck}
+use Rattle.job.specs.Model.{modelOf}
+use Rattle.job.specs.Refusals.{headerCheck, recordCheck, stepCheck, bodyCheck, formCheck}
 use Rattle.job.specs.Verdict.{number}
-use Rattle.job.proofs.Chain.{first-refused, second-refused, both-accepted}
+use Rattle.job.proofs.Chain.{stands, decides, then-grouped}
 use Rattle.job.proofs.WellFormed.{well-formed}
 use borrow.Author.Needs.{needs}
 use Rattle.job.proofs.check_form.Statement.{statement}
 use Rattle.job.proofs.check_form.Tie as tie
 
 pub check-form-spec : {M : Type 1} → statement M
-unfolding formCheck
+unfolding formCheck bodyCheck
 check-form-spec =
     tie.close
     (tie.spec
     (λ c κs. search needs)
     (λ c κs. search needs)
-    (λ c. let d = c .before .before in let v = d .check-header in let e : v .result ≡ formCheck (now (d .before .before .args .s)) = rw (v .ensures) (first-refused _ _ _ (λ z. c .if1 .taken (c .before .number .ensures ∙ ap number (v .ensures) ∙ z))) in (e, λ z. well-formed _ (sym (ap number e) ∙ z)))
+    (λ c. let d = c .before .before in let s = now (d .before .before .args .s) in let e : d .check-header .result ≡ formCheck s = stands (bodyCheck (modelOf s)) (d .check-header .ensures) (c .before .number .ensures) (c .if1 .taken) ∙ then-grouped (headerCheck s) (recordCheck (modelOf s)) (stepCheck (modelOf s)) in (e, λ z. well-formed s (sym (ap number e) ∙ z)))
     (λ c κs. search needs)
-    (λ c κs. search needs)
-    (λ c κs. search needs)
-    (λ c. let d = c .before .before in let k = d .before .before .before in let s = now (k .before .before .before .args .s) in let j = d .before .read .ensures in let z : number (headerCheck s) ≡ 0 = sym (ap number (k .before .check-header .ensures)) ∙ sym (k .number .ensures) ∙ d .before .before .if1 .left in let r : d .check-records .result ≡ recordCheck (modelOf s) = d .check-records .ensures ∙ ap (λ (x : Job). recordCheck (view x s)) j in let e : d .check-records .result ≡ formCheck s = r ∙ second-refused (headerCheck s) (recordCheck (modelOf s)) (stepCheck (modelOf s)) z (λ y. c .if2 .taken (c .before .number2 .ensures ∙ ap number r ∙ y)) in (e, λ y. well-formed s (sym (ap number e) ∙ y)))
-    (λ c κs. search needs)
-    (λ c. let d = c .before .before .before in let k = d .before .before .before in let s = now (k .before .before .before .args .s) in let j = d .before .read .ensures in let z : number (headerCheck s) ≡ 0 = sym (ap number (k .before .check-header .ensures)) ∙ sym (k .number .ensures) ∙ d .before .before .if1 .left in let r : d .check-records .result ≡ recordCheck (modelOf s) = d .check-records .ensures ∙ ap (λ (x : Job). recordCheck (view x s)) j in let e : c .check-steps .result ≡ formCheck s = c .check-steps .ensures ∙ ap (λ (x : Job). stepCheck (view x s)) j ∙ both-accepted (headerCheck s) (recordCheck (modelOf s)) (stepCheck (modelOf s)) z (sym (ap number r) ∙ sym (c .before .before .number2 .ensures) ∙ c .before .if2 .left) in (e, λ y. well-formed s (sym (ap number e) ∙ y))))
+    (λ c. let d = c .before .before in let s = now (d .before .before .before .args .s) in let e : c .check-body .result ≡ formCheck s = decides (d .before .check-header .ensures) (d .number .ensures) (c .before .if1 .left) (c .check-body .ensures) ∙ then-grouped (headerCheck s) (recordCheck (modelOf s)) (stepCheck (modelOf s)) in (e, λ z. well-formed s (sym (ap number e) ∙ z))))
