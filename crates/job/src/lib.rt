@@ -6,6 +6,7 @@ ghost use Rattle.job.specs.Verdict.{number as numberOf};
 ghost use Rattle.job.specs.WellFormed.{WellFormed};
 
 pub mod against;
+pub mod body;
 pub mod layout;
 pub mod ranges;
 pub mod reader;
@@ -25,5 +26,5 @@ pub fn check_form(s: &[u8]) -> Verdict
     if number(header) != 0 {
         return header;
     }
-    reader::check_body(s)
+    body::check_body(s)
 }

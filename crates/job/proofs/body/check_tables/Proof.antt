@@ -43,14 +43,14 @@ use Rattle.job.proofs.layout.Job.Laws as J′
 use Rattle.job.proofs.reader.JobReader.Laws as T′
 use Rattle.job.proofs.verdict.Verdict as S
 use Rattle.job.proofs.verdict.Verdict.Laws as S′
-use Rattle.job.proofs.reader.check_body_of as work
-use Rattle.job.proofs.reader.check_body_of.Symbol as work-def
-use Rattle.job.proofs.reader.check_body_of.Symbol.{name as #job·reader·check-body-of}
-use Rattle.job.proofs.reader.check_body_of.Met as work-thm
-use Rattle.job.proofs.reader.check_tables.Key.{name as #job·reader·check-tables}
-use Rattle.job.proofs.reader.check_tables as check-tables
-use Rattle.job.proofs.reader.check_tables.Statement as stated
-use Rattle.job.proofs.reader.check_tables.Code as code
+use Rattle.job.proofs.body.check_body_of as work
+use Rattle.job.proofs.body.check_body_of.Symbol as work-def
+use Rattle.job.proofs.body.check_body_of.Symbol.{name as #job·body·check-body-of}
+use Rattle.job.proofs.body.check_body_of.Met as work-thm
+use Rattle.job.proofs.body.check_tables.Key.{name as #job·body·check-tables}
+use Rattle.job.proofs.body.check_tables as check-tables
+use Rattle.job.proofs.body.check_tables.Statement as stated
+use Rattle.job.proofs.body.check_tables.Code as code
 
 abbrev stayed : Stays (check-tables.ended .signature .params) (check-tables.ended .kept)
 stayed = (stay-none Row yes, tt)
@@ -98,7 +98,7 @@ module _ {M : Type 1} (𝓤 : URA M) (H : Heap 𝓤) (A : Atoms 𝓤) (W : Given
       suffices ! _ (ends-at 𝓤 H A check-tables.ended stayed (check-tables.clauses 𝓤 H A mem run) W (((κ, tt), (q, tt), tt, (d, tt), (mach ∷ [], tt)), tt) u r (tt, tt) (tt, tt)) $ says ! e $
       move ! (1 ∷ []) $ frame ! $ nothing ! $ move ! (2 ∷ 0 ∷ []) $ fjoin ! $ frame ! $ done !
 
-  module _ (C : Calls 𝓤 H) (Λ : Loops 𝓤 H) (fm : FmC 𝓤 H (W .laws) C) (known : Triple 𝓤 (C #job·reader·check-body-of) (Body 𝓤 H A mem run)) where
+  module _ (C : Calls 𝓤 H) (Λ : Loops 𝓤 H) (fm : FmC 𝓤 H (W .laws) C) (known : Triple 𝓤 (C #job·body·check-body-of) (Body 𝓤 H A mem run)) where
     walk : Holds (hasTy (T′.mir (named 0)) mach) × WT mach → ent 𝓤 (onEntry 𝓤 H A check-tables.signature (κ, tt) (q, tt) (d, tt) (mach ∷ [], tt)) (WpFn 𝓤 H C Λ code.function (mach ∷ []) Post)
     walk wt =
         qed W (raw (onEntry 𝓤 H A check-tables.signature (κ, tt) (q, tt) (d, tt) (mach ∷ [], tt)) ∷ []) ∵ enter ! C Λ code.function (mach ∷ []) _ $
@@ -116,7 +116,7 @@ module _ {M : Type 1} (𝓤 : URA M) (H : Heap 𝓤) (A : Atoms 𝓤) (W : Given
         move ! (9 ∷ 10 ∷ []) $ free1 ! $ move ! (7 ∷ 8 ∷ []) $ free1 ! $ move ! (5 ∷ 6 ∷ []) $ free1 ! $ move ! (3 ∷ 4 ∷ []) $ free1 ! $ free0 ! $ by ! (exits r u e)))))))))
 
 meets : {M : Type 1} (𝓤 : URA M) (H : Heap 𝓤) (A : Atoms 𝓤) (W : Given 𝓤 H A) (mem : Memory → SProp 𝓤) (run : Routine → Fun 𝓤) (𝓣 : Tables 𝓤 H)
-    → Triple 𝓤 (𝓣 .C #job·reader·check-body-of) (Body 𝓤 H A mem run)
+    → Triple 𝓤 (𝓣 .C #job·body·check-body-of) (Body 𝓤 H A mem run)
     → Meets 𝓤 H A check-tables.signature (WpFn 𝓤 H (𝓣 .C) (𝓣 .Λ) code.function) (check-tables.spec 𝓤 H A mem run)
 meets 𝓤 H A W mem run 𝓣 known =
     walk-meets 𝓤 H A check-tables.ended stayed W (goes-none 𝓤 H A W 1 Row yes (λ κs x f. refl), tt) (check-tables.clauses 𝓤 H A mem run) (WpFn 𝓤 H (𝓣 .C) (𝓣 .Λ) code.function) (WpFn-mono 𝓤 H (W .laws) 𝓣 code.function)
@@ -128,6 +128,6 @@ pub check-tables-spec : {M : Type 1} → stated.statement M
 unfolding code.routine tablesOf
 check-tables-spec 𝓤 H 𝓜 𝓖 𝓡 =
     entered 𝓤 H (tripleOf 𝓤 H (𝓖 .A) check-tables.signature (check-tables.spec 𝓤 H (𝓖 .A) (𝓜 .mem) (𝓡 .run)))
-    (tables 𝓤 H 𝓜 𝓡 code.env .C) (tables 𝓤 H 𝓜 𝓡 code.env .Λ) #job·reader·check-tables code.function (code.unfolded 𝓤 H 𝓜 𝓡)
+    (tables 𝓤 H 𝓜 𝓡 code.env .C) (tables 𝓤 H 𝓜 𝓡 code.env .Λ) #job·body·check-tables code.function (code.unfolded 𝓤 H 𝓜 𝓡)
     (meets 𝓤 H (𝓖 .A) (givenOf 𝓤 H 𝓜 𝓖) (𝓜 .mem) (𝓡 .run) (tablesOf 𝓤 H 𝓜 (tables 𝓤 H 𝓜 𝓡 code.env))
-    (cited 𝓤 H (Body 𝓤 H (𝓖 .A) (𝓜 .mem) (𝓡 .run)) 𝓜 𝓡 code.env #job·reader·check-body-of work-def.routine code.calls-job·reader·check-body-of (work-thm.met 𝓤 H 𝓜 𝓖 𝓡)))
+    (cited 𝓤 H (Body 𝓤 H (𝓖 .A) (𝓜 .mem) (𝓡 .run)) 𝓜 𝓡 code.env #job·body·check-body-of work-def.routine code.calls-job·body·check-body-of (work-thm.met 𝓤 H 𝓜 𝓖 𝓡)))

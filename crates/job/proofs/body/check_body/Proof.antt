@@ -48,14 +48,14 @@ use Rattle.job.proofs.reader.open as opened
 use Rattle.job.proofs.reader.open.Symbol as opened-def
 use Rattle.job.proofs.reader.open.Symbol.{name as #job·reader·open}
 use Rattle.job.proofs.reader.open.Met as opened-thm
-use Rattle.job.proofs.reader.check_tables as check-tables
-use Rattle.job.proofs.reader.check_tables.Symbol as check-tables-def
-use Rattle.job.proofs.reader.check_tables.Symbol.{name as #job·reader·check-tables}
-use Rattle.job.proofs.reader.check_tables.Met as check-tables-thm
-use Rattle.job.proofs.reader.check_body.Key.{name as #job·reader·check-body}
-use Rattle.job.proofs.reader.check_body as check-body
-use Rattle.job.proofs.reader.check_body.Statement as stated
-use Rattle.job.proofs.reader.check_body.Code as code
+use Rattle.job.proofs.body.check_tables as check-tables
+use Rattle.job.proofs.body.check_tables.Symbol as check-tables-def
+use Rattle.job.proofs.body.check_tables.Symbol.{name as #job·body·check-tables}
+use Rattle.job.proofs.body.check_tables.Met as check-tables-thm
+use Rattle.job.proofs.body.check_body.Key.{name as #job·body·check-body}
+use Rattle.job.proofs.body.check_body as check-body
+use Rattle.job.proofs.body.check_body.Statement as stated
+use Rattle.job.proofs.body.check_body.Code as code
 
 abbrev stayed : Stays (check-body.ended .signature .params) (check-body.ended .kept)
 stayed = (stay-none-slice (0 ∷ []) tt (plain (λ _. u8)) yes, tt)
@@ -104,7 +104,7 @@ module _ {M : Type 1} (𝓤 : URA M) (H : Heap 𝓤) (A : Atoms 𝓤) (W : Given
       suffices ! _ (ends-at 𝓤 H A check-body.ended stayed (check-body.clauses 𝓤 H A mem run) W (((κ, tt), (q, tt), tt, (s, tt), (slice s ∷ [], tt)), tt) u t (tt, tt) (tt, tt)) $ says ! e $
       move ! (1 ∷ []) $ frame ! $ nothing ! $ move ! (2 ∷ 0 ∷ []) $ fjoin ! $ frame ! $ done !
 
-  module _ (C : Calls 𝓤 H) (Λ : Loops 𝓤 H) (fm : FmC 𝓤 H (W .laws) C) (known-open : Triple 𝓤 (C #job·reader·open) (Open 𝓤 H A mem run)) (known-check : Triple 𝓤 (C #job·reader·check-tables) (Check 𝓤 H A mem run)) where
+  module _ (C : Calls 𝓤 H) (Λ : Loops 𝓤 H) (fm : FmC 𝓤 H (W .laws) C) (known-open : Triple 𝓤 (C #job·reader·open) (Open 𝓤 H A mem run)) (known-check : Triple 𝓤 (C #job·body·check-tables) (Check 𝓤 H A mem run)) where
     walk : Is (ShrSlice (named 0) κ u8) s (slice s ∷ []) → ent 𝓤 (onEntry 𝓤 H A check-body.signature (κ, tt) (q, tt) (s, tt) (slice s ∷ [], tt)) (WpFn 𝓤 H C Λ code.function (slice s ∷ []) Post)
     walk p =
         qed W (raw (onEntry 𝓤 H A check-body.signature (κ, tt) (q, tt) (s, tt) (slice s ∷ [], tt)) ∷ []) ∵ enter ! C Λ code.function (slice s ∷ []) _ $
@@ -127,7 +127,7 @@ module _ {M : Type 1} (𝓤 : URA M) (H : Heap 𝓤) (A : Atoms 𝓤) (W : Given
         by ! (exits t u′ (e′ ∙ (ap (λ (x : RefT (List ℕ)). bodyCheck (view (r .job) (now x))) (e .0) ∙ ap (λ (j : Job). bodyCheck (view j (now s))) (e .1)))))))))))))))
 
 meets : {M : Type 1} (𝓤 : URA M) (H : Heap 𝓤) (A : Atoms 𝓤) (W : Given 𝓤 H A) (mem : Memory → SProp 𝓤) (run : Routine → Fun 𝓤) (𝓣 : Tables 𝓤 H)
-    → Triple 𝓤 (𝓣 .C #job·reader·open) (Open 𝓤 H A mem run) → Triple 𝓤 (𝓣 .C #job·reader·check-tables) (Check 𝓤 H A mem run)
+    → Triple 𝓤 (𝓣 .C #job·reader·open) (Open 𝓤 H A mem run) → Triple 𝓤 (𝓣 .C #job·body·check-tables) (Check 𝓤 H A mem run)
     → Meets 𝓤 H A check-body.signature (WpFn 𝓤 H (𝓣 .C) (𝓣 .Λ) code.function) (check-body.spec 𝓤 H A mem run)
 meets 𝓤 H A W mem run 𝓣 known-open known-check =
     walk-meets 𝓤 H A check-body.ended stayed W (goes-none-slice 𝓤 H A W 1 (0 ∷ []) tt (plain (λ _. u8)) yes, tt) (check-body.clauses 𝓤 H A mem run) (WpFn 𝓤 H (𝓣 .C) (𝓣 .Λ) code.function) (WpFn-mono 𝓤 H (W .laws) 𝓣 code.function)
@@ -139,7 +139,7 @@ pub check-body-spec : {M : Type 1} → stated.statement M
 unfolding code.routine tablesOf
 check-body-spec 𝓤 H 𝓜 𝓖 𝓡 =
     entered 𝓤 H (tripleOf 𝓤 H (𝓖 .A) check-body.signature (check-body.spec 𝓤 H (𝓖 .A) (𝓜 .mem) (𝓡 .run)))
-    (tables 𝓤 H 𝓜 𝓡 code.env .C) (tables 𝓤 H 𝓜 𝓡 code.env .Λ) #job·reader·check-body code.function (code.unfolded 𝓤 H 𝓜 𝓡)
+    (tables 𝓤 H 𝓜 𝓡 code.env .C) (tables 𝓤 H 𝓜 𝓡 code.env .Λ) #job·body·check-body code.function (code.unfolded 𝓤 H 𝓜 𝓡)
     (meets 𝓤 H (𝓖 .A) (givenOf 𝓤 H 𝓜 𝓖) (𝓜 .mem) (𝓡 .run) (tablesOf 𝓤 H 𝓜 (tables 𝓤 H 𝓜 𝓡 code.env))
     (cited 𝓤 H (Open 𝓤 H (𝓖 .A) (𝓜 .mem) (𝓡 .run)) 𝓜 𝓡 code.env #job·reader·open opened-def.routine code.calls-job·reader·open (opened-thm.met 𝓤 H 𝓜 𝓖 𝓡))
-    (cited 𝓤 H (Check 𝓤 H (𝓖 .A) (𝓜 .mem) (𝓡 .run)) 𝓜 𝓡 code.env #job·reader·check-tables check-tables-def.routine code.calls-job·reader·check-tables (check-tables-thm.met 𝓤 H 𝓜 𝓖 𝓡)))
+    (cited 𝓤 H (Check 𝓤 H (𝓖 .A) (𝓜 .mem) (𝓡 .run)) 𝓜 𝓡 code.env #job·body·check-tables check-tables-def.routine code.calls-job·body·check-tables (check-tables-thm.met 𝓤 H 𝓜 𝓖 𝓡)))

@@ -2,8 +2,8 @@
 use borrow.Author.Needs.{needs}
 use Rattle.job.specs.Refusals.{bodyCheck}
 use Rattle.job.proofs.Chain.{stands, decides}
-use Rattle.job.proofs.reader.check_body_of.Statement.{statement}
-use Rattle.job.proofs.reader.check_body_of.Tie as tie
+use Rattle.job.proofs.body.check_body_of.Statement.{statement}
+use Rattle.job.proofs.body.check_body_of.Tie as tie
 
 pub check-body-of-spec : {M : Type 1} → statement M
 unfolding bodyCheck
