@@ -3,6 +3,7 @@ use Prim.Native.Nat.{ℕ, _+_, _*_, _-_}
 use mathlib.Core.List.{List}
 use Rattle.laws.specs.Bytes.{byteAt, u16At, u32At, biasedAt}
 use Rattle.job.specs.declared.layout.Job.{Job}
+use Rattle.job.specs.declared.records.Level.{Level}
 use Rattle.job.specs.Layout.{jobOf}
 
 pub record Model : Type 0 where
@@ -84,3 +85,7 @@ view j s = record {
 -- the job that a file holds
 abbrev pub modelOf : List ℕ → Model
 modelOf s = view (jobOf s) s
+
+-- a level's record
+abbrev pub levelOf : Model → ℕ → Level
+levelOf m k = record { initial = m .levelInitial k; least = m .levelLeast k; most = m .levelMost k }

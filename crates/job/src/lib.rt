@@ -9,7 +9,9 @@ pub mod against;
 pub mod index;
 pub mod layout;
 pub mod ranges;
+pub mod reader;
 pub mod records;
+pub mod tables;
 pub mod verdict;
 
 use layout::Job;
@@ -26,10 +28,9 @@ pub fn check_form(s: &[u8]) -> Verdict
     if number(header) != 0 {
         return header;
     }
-    let job = Job::read(s);
-    let records = ranges::check_records(s, job);
+    let records = tables::check_file(s);
     if number(records) != 0 {
         return records;
     }
-    against::check_steps(s, job)
+    against::check_steps(s, Job::read(s))
 }

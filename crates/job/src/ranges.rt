@@ -8,6 +8,7 @@ ghost use Rattle.job.specs.Refusals.{tableCheck, recordCheck};
 ghost use Rattle.job.specs.Verdict.{_then_};
 use crate::layout::Job;
 use crate::layout::Table;
+use crate::reader::level_at;
 use crate::records::*;
 use crate::verdict::Verdict;
 use crate::verdict::number;
@@ -27,14 +28,12 @@ fn level_in_range(n: usize) -> bool
 fn level_ok(s: &[u8], job: Job, k: u16) -> bool
     ensures { λ r. ⌜ r ≡ levelOk (view job (now (s .entry))) k ⌝ }
 {
-    let initial = level_initial(s, job, k);
-    let least = level_least(s, job, k);
-    let most = level_most(s, job, k);
-    level_in_range(initial)
-        & level_in_range(least)
-        & level_in_range(most)
-        & (least <= initial)
-        & (initial <= most)
+    let level = level_at(s, job, k);
+    level_in_range(level.initial)
+        & level_in_range(level.least)
+        & level_in_range(level.most)
+        & (level.least <= level.initial)
+        & (level.initial <= level.most)
 }
 
 fn step_ok(s: &[u8], job: Job, k: u16) -> bool

@@ -2,7 +2,7 @@
 // bytes past the end as 0, so no reader asks anything of its caller.
 ghost use mathlib.Core.Path.{_≡_};
 ghost use Prim.Native.Nat.{_<_};
-ghost use Rattle.job.specs.Model.{view};
+ghost use Rattle.job.specs.Model.{view, levelOf};
 use crate::layout::CONDITION;
 use crate::layout::EFFECT;
 use crate::layout::FACT;
@@ -35,6 +35,26 @@ pub fn level_most(s: &[u8], job: Job, k: u16) -> usize
     ensures { λ r. ⌜ (r ≡ view job (now (s .entry)) .levelMost k) × (r < 4294967296) ⌝ }
 {
     laws::biased_at(s, job.at.levels as usize + WIDTHS[LEVEL] * k as usize + 8)
+}
+
+// A level's record: its three numbers, each plus 2147483648.
+pub struct Level {
+    pub initial: usize,
+    pub least: usize,
+    pub most: usize,
+}
+
+pub fn level_of(s: &[u8], job: Job, k: u16) -> Level
+    ensures { λ r. ⌜ r ≡ levelOf (view job (now (s .entry))) k ⌝ }
+{
+    let initial = level_initial(s, job, k);
+    let least = level_least(s, job, k);
+    let most = level_most(s, job, k);
+    Level {
+        initial,
+        least,
+        most,
+    }
 }
 
 pub fn step_start(s: &[u8], job: Job, k: u16) -> usize

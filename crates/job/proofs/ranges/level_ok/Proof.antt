@@ -1,4 +1,4 @@
--- The fields that are read are those that `levelOk` tests.
+-- The record that is read is the one that `levelOk` tests.
 use Rattle.job.specs.Ranges.{levelOk}
 use borrow.Author.Needs.{needs}
 use Rattle.job.proofs.ranges.level_ok.Statement.{statement}
@@ -13,6 +13,4 @@ level-ok-spec =
     (λ c κs. search needs)
     (λ c κs. search needs)
     (λ c κs. search needs)
-    (λ c κs. search needs)
-    (λ c κs. search needs)
-    (λ c. rw (c .level-in-range3 .ensures, c .before .level-in-range2 .ensures, c .before .before .level-in-range .ensures, c .before .before .before .level-most .ensures .0, c .before .before .before .before .level-least .ensures .0, c .before .before .before .before .before .level-initial .ensures .0)))
+    (λ c. let d = c .before .before in rw (d .level-in-range3 .ensures, d .before .level-in-range2 .ensures, d .before .before .level-in-range .ensures, d .before .before .before .level-at .ensures)))

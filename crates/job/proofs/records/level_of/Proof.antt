@@ -1,0 +1,13 @@
+-- The three numbers are the record's.
+use borrow.Author.Needs.{needs}
+use Rattle.job.proofs.records.level_of.Statement.{statement}
+use Rattle.job.proofs.records.level_of.Tie as tie
+
+pub level-of-spec : {M : Type 1} → statement M
+level-of-spec =
+    tie.close
+    (tie.spec
+    (λ c κs. search needs)
+    (λ c κs. search needs)
+    (λ c κs. search needs)
+    (λ c. rw (c .level-most .ensures .0, c .before .level-least .ensures .0, c .before .before .level-initial .ensures .0)))
