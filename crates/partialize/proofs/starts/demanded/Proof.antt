@@ -16,9 +16,9 @@ demanded-spec =
     (λ c. search needs)
     (λ c. search needs)
     (λ c. search needs)
-    (λ c. rw (eq-eqb _ _ (c .if1 .taken)))
     (λ c. omega (arith, c .before .before .pre .0 .most (64 * c .before .before .args .i + c .before .before .args .k)))
-    (λ c. omega (arith, c .before .before .before .pre .0 .most (64 * c .before .before .before .args .i + c .before .before .before .args .k)))
-    (λ c. search needs)
-    (λ c. rw (ne-eqb _ _ (c .before .if1 .left)) (omega arith))
-    (λ c. rw (ne-eqb _ _ (c .before .if1 .left))))
+    (λ c. (rw (eq-eqb _ _ (c .if1 .taken)), omega arith))
+    (λ c. (
+      rw (ne-eqb _ _ (c .if1 .left)),
+      omega (arith, c .before .before .pre .0 .most (64 * c .before .before .args .i + c .before .before .args .k)),
+    )))
