@@ -1,7 +1,7 @@
 -- The counted rounds by the file itself: its orders have the gaps of the rules, so rounds over them are the rounds that were counted.
 use Prim.Native.Nat.{ℕ, suc, _/_, _%_, _≤_, _<_}
-use mathlib.Core.Path.{_≡_, sym, ap, _∙_}
-use mathlib.Core.Bool.{Bool, true, false}
+use mathlib.Core.Path.{_≡_, ap, _∙_}
+use mathlib.Core.Bool.{true, false}
 use native.Mathlib.Decide.{ℕ-discrete}
 use native.Mathlib.Omega.{arith}
 use Rattle.laws.specs.Fold.{largest}
@@ -14,7 +14,7 @@ use Rattle.order_file.specs.Contents.{Contents}
 use Rattle.order_file.specs.Agree.{Agree}
 use Rattle.partialize.specs.Gaps.{gapOf}
 use Rattle.partialize.specs.Windows.{limitOf}
-use Rattle.partialize.specs.Rounds.{after, unchanged, Satisfied}
+use Rattle.partialize.specs.Rounds.{after, unchanged}
 use Rattle.partialize.specs.Table.{gapBias, single}
 use Rattle.partialize.specs.File.{roundsOf, ordered, pairOf, fileOf}
 use Rattle.partialize.specs.Demands.{filedGap, settledAfter}

@@ -1,6 +1,6 @@
 // Earliest starts: rounds over a table of gaps, until the first that changes nothing.
 ghost use mathlib.Core.Path.{_≡_};
-ghost use Prim.Native.Nat.{max, _+_, _-_, _≤_, _<_};
+ghost use Prim.Native.Nat.{max, _-_, _≤_, _<_};
 ghost use lib.Dec.{eqb};
 ghost use Rattle.laws.specs.Search.{all};
 ghost use Rattle.partialize.specs.Rounds.{demand, raised, rounds, earliest, Given};
@@ -32,7 +32,7 @@ pub struct Earliest {
 // What the order from i, which starts at t, demands of k, plus the bias; 0 for no order.
 fn demanded(gaps: &[u32], i: usize, k: usize, t: u32) -> u32
     requires { ⌜ Gaps (now gaps) × (i < 64) × (k < 64) × (t < 4000000000) ⌝ }
-    ensures { λ r. ⌜ (r - gapBias ≡ demand (gapIn (now (gaps .entry))) gapBias i k t) × (r ≤ t + 200001) ⌝ }
+    ensures { λ r. ⌜ r - gapBias ≡ demand (gapIn (now (gaps .entry))) gapBias i k t ⌝ }
 {
     let gap = gaps[WIDTH * i + k];
     if gap == NONE { 0 } else { t + gap }
@@ -72,8 +72,8 @@ fn same_starts(a: &[u32; 64], b: &[u32; 64], n: usize) -> bool
 }
 
 impl Starts {
-    // The starts of the first n steps after a round, which skips the rows of steps that start as they did before the last one: what they
-    // demand was given then.
+    // The starts of the first n steps after a round. A step that starts as it did before the last round, in last, demanded the same
+    // then, so its row is skipped.
     pub fn round(self, last: Starts, n: usize, gaps: &[u32]) -> Starts
         requires { ⌜ Gaps (now gaps) × Bounded n 3999999999 (self .at) × (n ≤ 64) × Given n (gapIn (now gaps)) gapBias (startIn (last .at)) (startIn (self .at)) ⌝ }
         ensures { λ r. ⌜ Filled n (raised n (gapIn (now (gaps .entry))) gapBias (startIn (self .at))) (self .at) (r .at) ⌝ }

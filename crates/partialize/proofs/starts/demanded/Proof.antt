@@ -17,8 +17,5 @@ demanded-spec =
     (λ c. search needs)
     (λ c. search needs)
     (λ c. omega (arith, c .before .before .pre .0 .most (64 * c .before .before .args .i + c .before .before .args .k)))
-    (λ c. (rw (eq-eqb _ _ (c .if1 .taken)), omega arith))
-    (λ c. (
-      rw (ne-eqb _ _ (c .if1 .left)),
-      omega (arith, c .before .before .pre .0 .most (64 * c .before .before .args .i + c .before .before .args .k)),
-    )))
+    (λ c. rw (eq-eqb _ _ (c .if1 .taken)))
+    (λ c. rw (ne-eqb _ _ (c .if1 .left))))

@@ -31,6 +31,6 @@ raise-row-spec =
     let l = c .before .before .before .before .loop in (
       omega arith,
       filled-more _ _ _ _ _ (omega (arith, c .before .before .before .before .before .before .pre .1 .size)) (l .inv .1)
-          (unbiased _ _ _ _ _ (l .inv .1 .rest (l .k) (omega arith)) (c .before .demanded .ensures .0) (c .higher .ensures)),
+          (unbiased _ _ _ _ _ (l .inv .1 .rest (l .k) (omega arith)) (c .before .demanded .ensures) (c .higher .ensures)),
     ))
     (λ c. filled-end _ _ _ _ _ (c .before .loop .inv .1) (c .before .loop .inv .0) (c .loop-test .left)))
