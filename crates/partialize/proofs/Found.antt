@@ -1,5 +1,5 @@
 -- What the code finds holds what is filed, and what it then does with the buffer is what is to be written.
-use Prim.Native.Nat.{ℕ, _+_, _*_, _≤_, _<_}
+use Prim.Native.Nat.{ℕ, _+_, _*_, _/_, _%_, _≤_, _<_}
 use mathlib.Core.Path.{_≡_, refl, sym, ap, _∙_}
 use mathlib.Core.List.{List}
 use native.Mathlib.Omega.{arith}
@@ -19,10 +19,16 @@ use Rattle.partialize.specs.Windows.{limitOf, latestOf}
 use Rattle.partialize.specs.Rounds.{rounds, earliest}
 use Rattle.partialize.specs.Table.{gapBias, gapIn, startIn, Filled, TableOf, LinksOf}
 use Rattle.partialize.specs.File.{fileOf}
-use Rattle.partialize.specs.Held.{entered, heldIn, over, Holds}
+use Rattle.partialize.specs.Held.{entered, heldIn, over, NoneFrom, Holds}
 use Rattle.partialize.specs.Demands.{Written}
 use Rattle.partialize.proofs.Same.{rounds-same, earliest-same}
 use Rattle.partialize.proofs.Filed.{held-file}
+
+-- a table of n steps has no order from a later one
+pub none-from : (n : ℕ) (gap : ℕ → ℕ → ℕ) (gaps : List ℕ) → TableOf n gap gaps → NoneFrom n gaps
+none-from n gap gaps t q h =
+    let e : q ≡ 64 * (q / 64) + q % 64 = omega arith in
+    ap (λ p. getD gaps p 0) e ∙ t .rest (q / 64) (q % 64) (omega arith) (λ l _. omega arith)
 
 module _
     (m : Model) (x : ℕ → ℕ) (w : WellFormed m) (found : ℕ) (limits latest early gaps linked : List ℕ)

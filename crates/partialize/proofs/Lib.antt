@@ -20,4 +20,5 @@ pub mod Found
 pub mod Put
 pub mod Whole
 pub mod Starred
+pub mod Counted
 pub mod Promised

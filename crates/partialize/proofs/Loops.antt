@@ -1,5 +1,5 @@
--- What the loops over starts keep: the largest so far, filled so far, reached so far.
-use Prim.Native.Nat.{ℕ, _+_, _*_, _≤_, _<_, max}
+-- What the loops over starts keep: filled so far, raised by the rows so far, reached so far.
+use Prim.Native.Nat.{ℕ, _+_, _*_, _-_, _≤_, _<_, max}
 use mathlib.Core.Path.{_≡_, refl, sym, ap, ap₂, _∙_}
 use mathlib.Core.Bool.{Bool, true, false}
 use mathlib.Core.List.{List}
@@ -7,28 +7,14 @@ use native.Mathlib.Nat.{not-suc-le-zero}
 use native.Mathlib.Numerals.{add-one}
 use native.Mathlib.Decide.{ℕ-discrete}
 use native.Mathlib.Omega.{arith}
-use lib.ListN.{length, set, length-set}
+use lib.ListN.{length, set, replicate, length-set, getD-replicate}
 use lib.Seq.{getD-set-same, getD-set-other}
 use lib.Dec.{eqb}
 use Rattle.laws.specs.Search.{all, lowest}
-use Rattle.laws.specs.Fold.{largest}
 use Rattle.laws.proofs.Search.{all-cong, lowest-start, lowest-more, lowest-found, lowest-end}
 use Rattle.partialize.specs.Table.{gapBias, gapIn, startIn, Gaps, Bounded, Filled}
-use Rattle.partialize.specs.Rounds.{raised, after, unchanged, rounds, earliest}
-use Rattle.partialize.proofs.Rounds.{raised-cong, after-most}
-
--- A loop that keeps the largest value, or a number a where that is larger.
-module _ (a : ℕ) (f : ℕ → ℕ) where
-  pub max-start : a ≡ max a (largest 0 f)
-  unfolding largest
-  max-start = omega arith
-
-  pub max-more : (i : ℕ) {best d next : ℕ} → best ≡ max a (largest i f) → d ≡ f i → next ≡ max best d → next ≡ max a (largest (i + 1) f)
-  unfolding largest
-  max-more i e q w = rw add-one (omega arith)
-
-  pub max-end : (n i : ℕ) {best : ℕ} → best ≡ max a (largest i f) → i ≤ n → n ≤ i → best ≡ max a (largest n f)
-  max-end n i e h g = let q : i ≡ n = omega arith in e ∙ ap (λ k. max a (largest k f)) q
+use Rattle.partialize.specs.Rounds.{demand, raised, after, unchanged, rounds, earliest, Given}
+use Rattle.partialize.proofs.Rounds.{demand-most, raised-zero, raised-more, raised-ge, raised-demand, raised-le, raised-cong, after-most}
 
 -- A loop that stores f i at each i has filled the starts below i.
 module _ (f : ℕ → ℕ) (before : List ℕ) where
@@ -49,6 +35,82 @@ module _ (f : ℕ → ℕ) (before : List ℕ) where
 
   pub filled-end : (n i : ℕ) (starts : List ℕ) → Filled i f before starts → i ≤ n → n ≤ i → Filled n f before starts
   filled-end n i starts w h g = let q : i ≡ n = omega arith in rw q at w
+
+-- the higher of a start and a demand, both with the bias, and without it
+pub unbiased : (a b d e r : ℕ) → a ≡ b → d - gapBias ≡ e → r ≡ max (a + gapBias) d → r - gapBias ≡ max b e
+unbiased a b d e r p q w = omega arith
+
+-- A loop over the rows of the table has raised the starts by the orders from the first i steps.
+module _ (n : ℕ) (gap : ℕ → ℕ → ℕ) (bias : ℕ) (before : List ℕ) where
+  pub rows-start : Filled n (raised 0 gap bias (startIn before)) before before
+  rows-start = record { size = refl; below = λ k h. sym (raised-zero n gap bias (startIn before) k); rest = λ k h. refl }
+
+  module _ (i : ℕ) (at : List ℕ) (w : Filled n (raised i gap bias (startIn before)) before at) where
+    pub rows-more :
+        (next row : List ℕ) → next ≡ row → Filled n (λ k. max (startIn at k) (demand gap bias i k (startIn before i))) at row
+        → Filled n (raised (i + 1) gap bias (startIn before)) before next
+    rows-more next row e v =
+        rw e
+        record {
+          size = v .size ∙ w .size;
+          below = λ k h. omega (arith, v .below k h, w .below k h, raised-more i gap bias (startIn before) k);
+          rest = λ k h. v .rest k h ∙ w .rest k h;
+        }
+
+    -- a row whose demands are met raises nothing
+    pub rows-same :
+        (next : List ℕ) → next ≡ at → (last : ℕ → ℕ) → Given n gap bias last (startIn before) → i < n → last i ≡ startIn before i
+        → Filled n (raised (i + 1) gap bias (startIn before)) before next
+    rows-same next r last g l e =
+        rw r
+        record {
+          size = w .size;
+          below = λ k h.
+              omega (
+                arith,
+                w .below k h,
+                raised-more i gap bias (startIn before) k,
+                raised-ge i gap bias (startIn before) k,
+                g .given i k l h e,
+              );
+          rest = w .rest;
+        }
+
+    pub rows-end : i ≤ n → n ≤ i → Filled n (raised n gap bias (startIn before)) before at
+    rows-end h g = let q : i ≡ n = omega arith in rw q at w
+
+-- no row raises by more than the largest gap
+pub rows-bounded :
+    (n : ℕ) (gaps before : List ℕ) (i : ℕ) (at : List ℕ) → Gaps gaps → Bounded n 3999999999 before → i ≤ n
+    → Filled n (raised i (gapIn gaps) gapBias (startIn before)) before at
+    → Bounded n 4000100000 at
+rows-bounded n gaps before i at g b l w =
+    record {
+      size = w .size ∙ b .size;
+      most = λ k h.
+          omega (
+            arith,
+            w .below k h,
+            raised-le i (gapIn gaps) gapBias (startIn before) k 4000100000 (omega (arith, b .most k h)) (λ j m.
+                omega (arith, b .most j (omega arith), demand-most (gapIn gaps) gapBias 100001 j k (startIn before j) (g .most (64 * j + k)))),
+          );
+    }
+
+-- The rows that a round may skip: none in the first, and what a round has given stays.
+pub given-start :
+    (n : ℕ) (gap : ℕ → ℕ → ℕ) (bias : ℕ) (limits : List ℕ) → Bounded n 1000000 limits → n ≤ 64
+    → Given n gap bias (startIn (replicate 64 4294967295)) (startIn limits)
+given-start n gap bias limits b m =
+    record { given = λ i k l h e. absurd (omega (arith, b .most i l, getD-replicate {A = ℕ} 64 i 4294967295 0 (omega arith))) }
+
+pub given-more :
+    (n : ℕ) (gap : ℕ → ℕ → ℕ) (bias : ℕ) (starts next : List ℕ) → Filled n (raised n gap bias (startIn starts)) starts next
+    → Given n gap bias (startIn starts) (startIn next)
+given-more n gap bias starts next v =
+    record {
+      given = λ i k l h e.
+          omega (arith, ap (demand gap bias i k) e, raised-demand n gap bias (startIn starts) k i l, v .below k h);
+    }
 
 -- A loop of rounds has, after r of them, the starts of the definition, and each of them changed some start.
 pub record Reached (n : ℕ) (gap : ℕ → ℕ → ℕ) (bias : ℕ) (before : List ℕ) (r : ℕ) (starts : List ℕ) : Type 0 where

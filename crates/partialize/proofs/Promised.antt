@@ -39,6 +39,7 @@ use Rattle.partialize.proofs.Sound.{obeying-valid}
 use Rattle.partialize.proofs.End.{same-end}
 use Rattle.partialize.proofs.Satisfied.{satisfies-obeys, planned-satisfies, earliest-first, earliest-planned, earliest-satisfies}
 use Rattle.partialize.proofs.Within.{file-within}
+use Rattle.partialize.proofs.Counted.{some-counted, last-counted, earlier-counted}
 
 -- contents that agree are satisfied alike
 module _ (c d : Contents) (a : Agree c d) (y : ℕ → ℕ) where
@@ -124,6 +125,9 @@ module _ (s : List ℕ) (p : Sound s (planned (modelOf s))) where
             omega (arith, earliest-filed m x w v k l, earliest-planned m x w v k l, getD-tabulate (m .start) (m .steps) k 0 l);
         plannedSatisfies = satisfies-file m x w v x (planned-satisfies m x w v);
         fewRounds = rounds-filed m x w v;
+        someRound = some-counted m x w v (contentsOf (encode (fileOf m x))) (read-back m x w v);
+        lastUnchanged = last-counted m x w v (contentsOf (encode (fileOf m x))) (read-back m x w v);
+        earlierChanges = earlier-counted m x w v (contentsOf (encode (fileOf m x))) (read-back m x w v);
       }
 
 module _ (s before : List ℕ) (v : Verdict) (j : JobPromise s v) where

@@ -1,9 +1,10 @@
 -- Bytes put one part behind the other: two parts, three, the header's numbers, one more record of a table.
-use Prim.Native.Nat.{ℕ, suc, _+_, _*_, _≤_, _<_}
+use Prim.Native.Nat.{ℕ, zero, suc, _+_, _*_, _≤_, _<_}
 use mathlib.Core.Path.{_≡_, refl, sym, ap, _∙_}
-use mathlib.Core.Bool.{true, not}
+use mathlib.Core.Bool.{Bool, true, false, cond, not}
 use mathlib.Core.List.{List, [], _∷_, _++_}
 use native.Mathlib.Nat.{add-zero}
+use native.Mathlib.Decide.{decLe}
 use native.Mathlib.Omega.{arith}
 use borrow.Author.Tests.{eq-eqb, ne-eqb}
 use lib.ListN.{length, set, getD, length-append}
@@ -16,7 +17,7 @@ use Rattle.laws.proofs.Nth.{count-more, count-same, nth-is}
 use Rattle.order_file.specs.Layout.{windowsAt, ordersAt, linksAt}
 use Rattle.order_file.proofs.Stands.{length-parts}
 use Rattle.partialize.specs.Table.{startIn}
-use Rattle.partialize.specs.Held.{entered, headerIn, windowIn, entryBytes, orderIn, linkIn}
+use Rattle.partialize.specs.Held.{entered, headerIn, windowIn, entryBytes, orderIn, linkIn, NoneFrom}
 
 -- the second part begins where the first ends
 pub put-behind : (l a b : List ℕ) (at next : ℕ) → at + length a ≡ next → sets l at (a ++ b) ≡ sets (sets l at a) next b
@@ -96,6 +97,22 @@ module _ (linked before : List ℕ) (from : ℕ) where
   unfolding linkIn
   links-more i at e q w = put-more (linkIn linked) 2 length-link before from i at e q w
 
+-- indexes that do not pass at the end of a count add nothing
+count-rest : (p : ℕ → Bool) (m n : ℕ) → m ≤ n → ((q : ℕ) → m ≤ q → p q ≡ false) → count m p ≡ count n p
+unfolding count
+count-rest p m zero h e = let q : m ≡ 0 = omega arith in ap (λ k. count k p) q
+count-rest p m (suc n) h e =
+    elim (decLe m n) [
+      | yes l ↦
+          let z : count n p + cond (p n) 1 0 ≡ count n p + 0 = ap (λ b. count n p + cond b 1 0) (e n l) in
+          omega (arith, count-rest p m n l e)
+      | no l ↦ let q : m ≡ suc n = omega arith in ap (λ k. count k p) q
+    ]
+
+-- all orders of a table without one from step n on are among its first rows
+pub entered-rest : (gaps : List ℕ) (n q : ℕ) → NoneFrom n gaps → 64 * n ≤ q → q ≤ 4096 → count q (entered gaps) ≡ count 4096 (entered gaps)
+entered-rest gaps n q z h m = count-rest (entered gaps) q 4096 m (λ j l. ap not (eq-eqb _ _ (z j (omega arith))))
+
 -- A loop over the table of gaps has put the orders among the first q entries, and puts the next one at a place.
 pub record OrdersPut (gaps before : List ℕ) (from q at : ℕ) (bytes : List ℕ) : Type 0 where
   pub entries : q ≤ 4096
@@ -146,8 +163,7 @@ module _ (gaps before : List ℕ) (from : ℕ) where
         }
 
   pub orders-end :
-      (q at : ℕ) (bytes : List ℕ) → OrdersPut gaps before from q at bytes → 4096 ≤ q
+      (n q at : ℕ) (bytes : List ℕ) → OrdersPut gaps before from q at bytes → NoneFrom n gaps → 64 * n ≤ q
       → bytes ≡ sets before from (concatenate (count 4096 (entered gaps)) (orderIn gaps))
-  orders-end q at bytes w h =
-      let e : q ≡ 4096 = omega (arith, w .entries) in
-      w .put ∙ ap (λ k. sets before from (concatenate (count k (entered gaps)) (orderIn gaps))) e
+  orders-end n q at bytes w z h =
+      w .put ∙ ap (λ o. sets before from (concatenate o (orderIn gaps))) (entered-rest gaps n q z h (w .entries))

@@ -18,7 +18,7 @@ use Rattle.partialize.specs.Table.{gapIn, Gaps, single, Raised, TableOf}
 use Rattle.partialize.proofs.Chosen.{eqb-same}
 
 -- what one order says of the entry at a and b
-single-at : (i k gap : ℕ) → single i k gap i k ≡ gap
+pub single-at : (i k gap : ℕ) → single i k gap i k ≡ gap
 single-at i k gap = ap (λ t. cond t gap 0) (ap₂ _&&_ (eqb-same i) (eqb-same k))
 
 single-off : (i k gap a b : ℕ) → (i ≡ a → k ≡ b → ⊥) → single i k gap a b ≡ 0
@@ -195,7 +195,7 @@ module _ (n : ℕ) (order : ℕ → ℕ → ℕ → ℕ) (before : List ℕ) whe
 
 -- every pair of steps in turn
 module _ (n : ℕ) (gap : ℕ → ℕ → ℕ) (a b : ℕ) where
-  single-le : (i k : ℕ) → single i k (gap i k) a b ≤ gap a b
+  pub single-le : (i k : ℕ) → single i k (gap i k) a b ≤ gap a b
   single-le i k =
       elim (ℕ-discrete i a) [
         | yes p ↦

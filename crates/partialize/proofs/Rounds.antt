@@ -5,6 +5,7 @@ use mathlib.Core.Bool.{Bool, true, false, cond}
 use mathlib.Core.Logic.{⊎-elim}
 use native.Mathlib.Nat.{not-suc-le-zero, mul-suc}
 use native.Mathlib.Decide.{decLt, decLe}
+use native.Mathlib.Numerals.{add-one}
 use native.Mathlib.Omega.{arith}
 use borrow.Author.Tests.{eqb-true, eq-eqb}
 use lib.Dec.{eqb}
@@ -33,13 +34,21 @@ at-most : (b : Bool) (g bias most t : ℕ) → g ≤ bias + most → cond b 0 (t
 at-most true g bias most t h = omega arith
 at-most false g bias most t h = omega arith
 
-demand-most : (gap : ℕ → ℕ → ℕ) (bias most i k t : ℕ) → gap i k ≤ bias + most → demand gap bias i k t ≤ t + most
+pub demand-most : (gap : ℕ → ℕ → ℕ) (bias most i k t : ℕ) → gap i k ≤ bias + most → demand gap bias i k t ≤ t + most
 unfolding demand
 demand-most gap bias most i k t h = at-most (eqb (gap i k) 0) (gap i k) bias most t h
 
 -- A round keeps each start or raises it, to no more than a bound of the start and of every demand on it.
 
 module _ (n : ℕ) (gap : ℕ → ℕ → ℕ) (bias : ℕ) (x : ℕ → ℕ) (k : ℕ) where
+  pub raised-zero : raised 0 gap bias x k ≡ x k
+  unfolding raised largest
+  raised-zero = omega arith
+
+  pub raised-more : raised (n + 1) gap bias x k ≡ max (raised n gap bias x k) (demand gap bias n k (x n))
+  unfolding raised largest
+  raised-more = rw add-one (omega arith)
+
   pub raised-ge : x k ≤ raised n gap bias x k
   unfolding raised
   raised-ge = omega arith

@@ -23,7 +23,7 @@ module _ (n : ℕ) (gap gap' : ℕ → ℕ → ℕ) (bias : ℕ) (x x' : ℕ →
   after-same zero k l = starts k l
   after-same (suc r) k l = raised-same (after n gap bias x r) (after n gap' bias x' r) (after-same r) k l
 
-  unchanged-same : (r : ℕ) → unchanged n gap bias (after n gap bias x r) ≡ unchanged n gap' bias (after n gap' bias x' r)
+  pub unchanged-same : (r : ℕ) → unchanged n gap bias (after n gap bias x r) ≡ unchanged n gap' bias (after n gap' bias x' r)
   unfolding unchanged
   unchanged-same r =
       all-cong _ _ n

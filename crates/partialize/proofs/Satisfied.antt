@@ -1,7 +1,7 @@
 -- A schedule satisfies the file exactly if it obeys the orders and limits; the earliest starts obey, and no start that does lies below
 -- them. A pair of steps i and k stands in the table at 64 * i + k, and every pair there with a gap is filed under its number.
 use Prim.Native.Nat.{ℕ, _+_, _*_, _-_, _/_, _%_, _≤_, _<_}
-use mathlib.Core.Path.{_≡_, ap, ap₂}
+use mathlib.Core.Path.{_≡_, ap, ap₂, _∙_}
 use mathlib.Core.Bool.{true, _&&_, not}
 use native.Mathlib.Decide.{ℕ-discrete}
 use native.Mathlib.Omega.{arith}
@@ -47,6 +47,22 @@ module _ (m : Model) (x : ℕ → ℕ) where
   place-second : (i k : ℕ) → k < 64 → (64 * i + k) % 64 ≡ k
   place-second i k h = omega arith
 
+  -- every pair with a gap is filed
+  pub pair-filed :
+      WellFormed m → (i k : ℕ) → i < m .steps → k < m .steps → (gapOf m x i k ≡ 0 → ⊥)
+      → (o : ℕ) × (o < count 4096 (ordered m x)) × (pairOf m x o / 64 ≡ i) × (pairOf m x o % 64 ≡ k)
+  pair-filed w i k h g n =
+      let q : ℕ = 64 * i + k in
+      let b : k < 64 = omega (arith, w .stepCount) in
+      let t : ordered m x q ≡ true = ordered-in i k q (place-first i k b) (place-second i k b) h g n in
+      let l : q < 4096 = omega (arith, w .stepCount) in
+      let e : pairOf m x (count q (ordered m x)) ≡ q = nth-is (ordered m x) 4096 q l t in (
+        count q (ordered m x),
+        count-below (ordered m x) 4096 q l t,
+        ap (λ p. p / 64) e ∙ place-first i k b,
+        ap (λ p. p % 64) e ∙ place-second i k b,
+      )
+
   module _ (w : WellFormed m) (y : ℕ → ℕ) where
     pub satisfies-obeys : Satisfies (fileOf m x) y → Obeys m x y
     unfolding fileOf
@@ -55,12 +71,8 @@ module _ (m : Model) (x : ℕ → ℕ) where
           fromLimit = s .fromLimit;
           byLatest = s .byLatest;
           keeps = λ i k h g n.
-              let q : ℕ = 64 * i + k in
-              let b : k < 64 = omega (arith, w .stepCount) in
-              let t : ordered m x q ≡ true = ordered-in i k q (place-first i k b) (place-second i k b) h g n in
-              let l : q < 4096 = omega (arith, w .stepCount) in
-              let e : pairOf m x (count q (ordered m x)) ≡ q = nth-is (ordered m x) 4096 q l t in
-              rw (e, place-first i k b, place-second i k b) at (s .keeps (count q (ordered m x)) (count-below (ordered m x) 4096 q l t));
+              let f = pair-filed w i k h g n in
+              rw (f .2, f .3) at (s .keeps (f .0) (f .1));
         }
 
     pub obeys-satisfies : Obeys m x y → Satisfies (fileOf m x) y

@@ -21,10 +21,10 @@ use Rattle.order_file.specs.Within.{Within}
 use Rattle.partialize.specs.Links.{initialState, conditionLink, goalLink, linkAt}
 use Rattle.partialize.specs.Gaps.{strictly, supportOrder, supportGap, opposingOrder, opposingGap, beforeOrder, afterOrder, conditionGap, levelOrder, levelGap, serialGap, gapOf}
 use Rattle.partialize.specs.Windows.{noLatest, limitOf, allowed, latestOf}
-use Rattle.partialize.specs.Rounds.{demand, after, earliest, rounds}
+use Rattle.partialize.specs.Rounds.{after, earliest, rounds}
 use Rattle.partialize.specs.Table.{gapBias}
 use Rattle.partialize.specs.File.{roundsOf, earliestOf, ordered, pairOf, fileOf}
-use Rattle.partialize.proofs.Rounds.{raised-le, after-above, rounds-le}
+use Rattle.partialize.proofs.Rounds.{demand-most, raised-le, after-above, rounds-le}
 use Rattle.partialize.proofs.Links.{Linked, initially, produced, condition-linked, goal-linked}
 use Rattle.partialize.proofs.Limits.{limit-fixed, limit-free, latest-fixed, latest-free}
 use Rattle.partialize.proofs.Planned.{planned-obeys}
@@ -141,14 +141,6 @@ order-count m x =
     )
 
 -- no round raises by more than 100,001
-demand-most : (gap : ℕ → ℕ → ℕ) (i k t : ℕ) → gap i k ≤ 200001 → demand gap gapBias i k t ≤ t + 100001
-unfolding demand
-demand-most gap i k t h =
-    ⊎-elim
-    (λ (e : eqb (gap i k) 0 ≡ true). rw e (omega arith))
-    (λ (e : eqb (gap i k) 0 ≡ false). rw e (omega arith))
-    (either (eqb (gap i k) 0))
-
 module _ (m : Model) (x : ℕ → ℕ) (w : WellFormed m) (s : Valid m x) where
   limit-most : (k : ℕ) → k < m .steps → limitOf m k ≤ 1000000
   limit-most k h =
@@ -163,7 +155,7 @@ module _ (m : Model) (x : ℕ → ℕ) (w : WellFormed m) (s : Valid m x) where
   after-most (suc r) k h =
       raised-le (m .steps) (gapOf m x) gapBias (after (m .steps) (gapOf m x) gapBias (limitOf m) r) k (1000000 + 100001 * suc r)
       (omega (arith, after-most r k h))
-      (λ i l. omega (arith, demand-most (gapOf m x) i k (after (m .steps) (gapOf m x) gapBias (limitOf m) r i) (gap-most m x w s i k l), after-most r i l))
+      (λ i l. omega (arith, demand-most (gapOf m x) gapBias 100001 i k (after (m .steps) (gapOf m x) gapBias (limitOf m) r i) (gap-most m x w s i k l), after-most r i l))
 
   earliest-most : (k : ℕ) → k < m .steps → earliestOf m x k ≤ noLatest
   unfolding earliest

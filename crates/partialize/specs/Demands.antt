@@ -1,11 +1,12 @@
 -- What loosening promises of the file that it wrote, one field a clause of the user's demands.
-use Prim.Native.Nat.{ℕ, _≤_, _<_}
+use Prim.Native.Nat.{ℕ, suc, _≤_, _<_}
 use mathlib.Core.Path.{_≡_}
-use mathlib.Core.Bool.{true, cond}
+use mathlib.Core.Bool.{Bool, true, false, cond}
 use mathlib.Core.List.{List}
 use mathlib.Core.Logic.{_⊎_}
 use lib.ListN.{length, take}
 use lib.Dec.{leb}
+use Rattle.laws.specs.Fold.{largest}
 use Rattle.job.specs.Model.{modelOf}
 use Rattle.schedule.specs.Ticks.{planned}
 use Rattle.schedule.specs.Valid.{Valid}
@@ -20,6 +21,8 @@ use Rattle.order_file.specs.Satisfies.{SatisfiesFile}
 use Rattle.partialize.specs.declared.answer.Answer.{Answer}
 use Rattle.partialize.specs.declared.answer.Answer.the-variants.{Filed, BufferTooShort}
 use Rattle.partialize.specs.Answer.{number, lengthOf}
+use Rattle.partialize.specs.Rounds.{after, unchanged}
+use Rattle.partialize.specs.Table.{gapBias, single}
 use Rattle.partialize.specs.Held.{over}
 use Rattle.partialize.specs.Partialization.{looseOf, answerTo, bufferAfter}
 
@@ -27,6 +30,14 @@ use Rattle.partialize.specs.Partialization.{looseOf, answerTo, bufferAft
 pub record Exact (s file : List ℕ) : Type 0 where
   pub readable : wellFormed file ≡ true
   pub contents : Agree (contentsOf file) (looseOf s)
+
+-- the gap of the filed order from i to k plus the bias, 0 where none is filed
+unfoldable pub filedGap : Contents → ℕ → ℕ → ℕ
+filedGap c i k = largest (c .orders) (λ o. single (c .first o) (c .second o) (c .gap o) i k)
+
+-- whether one more round changes nothing, after r rounds over the filed orders that begin with the filed limits
+unfoldable pub settledAfter : Contents → ℕ → Bool
+settledAfter c r = unchanged (c .steps) (filedGap c) gapBias (after (c .steps) (filedGap c) gapBias (c .limit) r)
 
 -- demand 3: whatever starts satisfy the file are a sound timing with the planned schedule's end
 pub record Loose (s file : List ℕ) : Type 0 where
@@ -43,8 +54,13 @@ pub record Loose (s file : List ℕ) : Type 0 where
   pub atMostPlanned : (k : ℕ) → k < modelOf s .steps → contentsOf file .earliest k ≤ modelOf s .start k
   -- which satisfy the file too
   pub plannedSatisfies : SatisfiesFile file (planned (modelOf s))
-  -- the rounds number at most the steps
+  -- the rounds number at most the steps, and none only where there is no step
   pub fewRounds : contentsOf file .rounds ≤ modelOf s .steps
+  pub someRound : 0 < modelOf s .steps → 0 < contentsOf file .rounds
+  -- the last of them changes nothing
+  pub lastUnchanged : (r : ℕ) → suc r ≡ contentsOf file .rounds → settledAfter (contentsOf file) r ≡ true
+  -- and every earlier one changes some start
+  pub earlierChanges : (r : ℕ) → suc r < contentsOf file .rounds → settledAfter (contentsOf file) r ≡ false
 
 -- the answer and the buffer where contents c are to be filed: the file's length and the file, or 15 and no change
 pub record Written (c : Contents) (before after : List ℕ) (r : Answer) : Type 0 where

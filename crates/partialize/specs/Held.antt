@@ -1,5 +1,5 @@
 -- The contents of an order file as lists hold them: starts by step, gaps by pair of steps, links by number.
-use Prim.Native.Nat.{ℕ, _+_, _/_, _%_, _≤_, _<_}
+use Prim.Native.Nat.{ℕ, _+_, _*_, _/_, _%_, _≤_, _<_}
 use mathlib.Core.Path.{_≡_}
 use mathlib.Core.Bool.{Bool, not}
 use mathlib.Core.List.{List, _++_}
@@ -20,6 +20,10 @@ use Rattle.partialize.specs.File.{roundsOf, earliestOf}
 -- whether an entry of the table of gaps is an order
 abbrev pub entered : List ℕ → ℕ → Bool
 entered gaps q = not (eqb (getD gaps q 0) 0)
+
+-- a table without an order from step n or a later one
+abbrev pub NoneFrom : ℕ → List ℕ → Type 0
+NoneFrom n gaps = (q : ℕ) → 64 * n ≤ q → getD gaps q 0 ≡ 0
 
 -- the contents that so many steps, links and rounds and the lists of them hold
 unfoldable pub heldIn : ℕ → ℕ → ℕ → List ℕ → List ℕ → List ℕ → List ℕ → List ℕ → Contents
@@ -69,6 +73,7 @@ pub record Roomy (steps orders links : ℕ) (limits latest earliest gaps linked 
   pub latestCount : steps ≤ length latest
   pub earliestCount : steps ≤ length earliest
   pub gapCount : length gaps ≡ 4096
+  pub gapRows : NoneFrom steps gaps
   pub linkedCount : links ≤ length linked
   pub fileFits : fileLength steps orders links ≤ length out
 

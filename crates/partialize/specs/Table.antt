@@ -6,8 +6,10 @@ use mathlib.Core.Bool.{_&&_, cond}
 use mathlib.Core.List.{List}
 use lib.ListN.{length, getD}
 use lib.Dec.{ltb, eqb}
+use Rattle.laws.specs.Fold.{least}
 use Rattle.job.specs.Model.{Model}
 use Rattle.partialize.specs.Links.{initialState, linkAt}
+use Rattle.partialize.specs.Windows.{noLatest, allowed}
 
 -- what is added to every gap
 abbrev pub gapBias : ℕ
@@ -56,6 +58,10 @@ pub record TableOf (n : ℕ) (gap : ℕ → ℕ → ℕ) (gaps : List ℕ) : Typ
 -- a list of all links
 pub record LinksOf (m : Model) (x : ℕ → ℕ) (links : List ℕ) : Type 0 where
   pub each : (k : ℕ) → k < m .conditions + m .goals → getD links k 0 ≡ linkAt m x k
+
+-- the latest starts by the first g goals
+pub record LatestBy (m : Model) (x : ℕ → ℕ) (g : ℕ) (starts : List ℕ) : Type 0 where
+  pub each : (k : ℕ) → k < m .steps → startIn starts k ≡ cond (eqb (m .fixed k) 1) (m .start k) (least g noLatest (allowed m x k))
 
 -- a list in which the link of each condition is the initial state or an effect of the job
 abbrev pub Named : Model → List ℕ → Type 0

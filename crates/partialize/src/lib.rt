@@ -9,6 +9,7 @@ ghost use Rattle.schedule.specs.Valid.{Valid};
 ghost use Rattle.partialize.specs.Gaps.{gapOf};
 ghost use Rattle.partialize.specs.Table.{Gaps, TableOf, LinksOf};
 ghost use Rattle.partialize.specs.File.{fileOf};
+ghost use Rattle.partialize.specs.Held.{NoneFrom};
 ghost use Rattle.partialize.specs.Demands.{Written, Promise};
 
 pub mod answer;
@@ -25,7 +26,7 @@ use starts::NONE;
 
 // Files what the links and the gaps of a valid schedule say, if the buffer is long enough for it.
 fn file_found(s: &[u8], job: Job, links: &[u16], gaps: &[u32], out: &mut [u8]) -> Answer
-    requires { ⌜ WellFormed (view job (now s)) × Gaps (now gaps) × (length (now links) ≡ 544) ⌝ }
+    requires { ⌜ WellFormed (view job (now s)) × Gaps (now gaps) × (length (now links) ≡ 544) × NoneFrom (job .count .steps) (now gaps) ⌝ }
     ensures { λ r. ⌜ ((x : ℕ → ℕ) → LinksOf (view job (now (s .entry))) x (now (links .entry)) → TableOf (job .count .steps) (gapOf (view job (now (s .entry))) x) (now (gaps .entry)) → Written (fileOf (view job (now (s .entry))) x) (now (out .entry)) (now (out .exit)) r) ⌝ }
 {
     let n = job.count.steps as usize;
@@ -33,7 +34,7 @@ fn file_found(s: &[u8], job: Job, links: &[u16], gaps: &[u32], out: &mut [u8]) -
     let limits = window::limits(s, job);
     let latest = window::latest_starts(s, job, links);
     let found = starts::earliest_starts(limits, n, gaps);
-    let orders = write::count_orders(gaps);
+    let orders = write::count_orders(gaps, n);
     let length = 24 + 12 * n + 8 * orders + 2 * count;
     if out.len() < length {
         return Answer::BufferTooShort;

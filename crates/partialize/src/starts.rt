@@ -1,9 +1,9 @@
 // Earliest starts: rounds over a table of gaps, until the first that changes nothing.
 ghost use mathlib.Core.Path.{_≡_};
-ghost use Prim.Native.Nat.{max, _≤_, _<_};
+ghost use Prim.Native.Nat.{max, _-_, _≤_, _<_};
 ghost use lib.Dec.{eqb};
 ghost use Rattle.laws.specs.Search.{all};
-ghost use Rattle.partialize.specs.Rounds.{demand, raised, rounds, earliest};
+ghost use Rattle.partialize.specs.Rounds.{demand, raised, rounds, earliest, Given};
 ghost use Rattle.partialize.specs.Table.{gapBias, gapIn, startIn, Gaps, Bounded, Filled};
 
 // A table entry for no order.
@@ -14,6 +14,9 @@ pub const WIDTH: usize = 64;
 
 // What is added to every gap in the table.
 pub const BIAS: u32 = 100000;
+
+// A start that no step has.
+const NEVER: u32 = 4294967295;
 
 // A start for each step.
 pub struct Starts {
@@ -26,16 +29,13 @@ pub struct Earliest {
     pub rounds: usize,
 }
 
-// What the order from i, which starts at t, demands of k.
+// What the order from i, which starts at t, demands of k, plus the bias; 0 for no order.
 fn demanded(gaps: &[u32], i: usize, k: usize, t: u32) -> u32
     requires { ⌜ Gaps (now gaps) × (i < 64) × (k < 64) × (t < 4000000000) ⌝ }
-    ensures { λ r. ⌜ r ≡ demand (gapIn (now (gaps .entry))) gapBias i k t ⌝ }
+    ensures { λ r. ⌜ r - gapBias ≡ demand (gapIn (now (gaps .entry))) gapBias i k t ⌝ }
 {
     let gap = gaps[WIDTH * i + k];
-    if gap == NONE {
-        return 0;
-    }
-    if t + gap < BIAS { 0 } else { t + gap - BIAS }
+    if gap == NONE { 0 } else { t + gap }
 }
 
 fn higher(a: u32, b: u32) -> u32
@@ -44,18 +44,16 @@ fn higher(a: u32, b: u32) -> u32
     if a < b { b } else { a }
 }
 
-// The start of step k after a round: the largest that its orders demand, or its own.
-fn raised_start(x: &[u32; 64], n: usize, gaps: &[u32], k: usize) -> u32
-    requires { ⌜ Gaps (now gaps) × Bounded n 3999999999 (now x) × (n ≤ 64) × (k < n) ⌝ }
-    ensures { λ r. ⌜ r ≡ raised n (gapIn (now (gaps .entry))) gapBias (startIn (now (x .entry))) k ⌝ }
+// Raises the first n starts to what the orders from i, which starts at t, demand.
+fn raise_row(at: &mut [u32; 64], n: usize, gaps: &[u32], i: usize, t: u32)
+    requires { ⌜ Gaps (now gaps) × Bounded n 4000100000 (now at) × (n ≤ 64) × (i < 64) × (t < 4000000000) ⌝ }
+    ensures { λ _. ⌜ Filled n (λ k. max (startIn (now (at .entry)) k) (demand (gapIn (now (gaps .entry))) gapBias i k t)) (now (at .entry)) (now (at .exit)) ⌝ }
 {
-    let mut start = x[k];
-    let mut i = 0;
-    while i < n {
-        start = higher(start, demanded(gaps, i, k, x[i]));
-        i += 1;
+    let mut k = 0;
+    while k < n {
+        at[k] = higher(at[k] + BIAS, demanded(gaps, i, k, t)) - BIAS;
+        k += 1;
     }
-    start
 }
 
 // Whether the first n starts of two lists are the same.
@@ -74,17 +72,21 @@ fn same_starts(a: &[u32; 64], b: &[u32; 64], n: usize) -> bool
 }
 
 impl Starts {
-    // The starts of the first n steps after a round.
-    pub fn round(self, n: usize, gaps: &[u32]) -> Starts
-        requires { ⌜ Gaps (now gaps) × Bounded n 3999999999 (self .at) × (n ≤ 64) ⌝ }
+    // The starts of the first n steps after a round. A step that starts as it did before the last round, in last, demanded the same
+    // then, so its row is skipped.
+    pub fn round(self, last: Starts, n: usize, gaps: &[u32]) -> Starts
+        requires { ⌜ Gaps (now gaps) × Bounded n 3999999999 (self .at) × (n ≤ 64) × Given n (gapIn (now gaps)) gapBias (startIn (last .at)) (startIn (self .at)) ⌝ }
         ensures { λ r. ⌜ Filled n (raised n (gapIn (now (gaps .entry))) gapBias (startIn (self .at))) (self .at) (r .at) ⌝ }
     {
         let before = self.at;
+        let seen = last.at;
         let mut at = self.at;
-        let mut k = 0;
-        while k < n {
-            at[k] = raised_start(&before, n, gaps, k);
-            k += 1;
+        let mut i = 0;
+        while i < n {
+            if seen[i] != before[i] {
+                raise_row(&mut at, n, gaps, i, before[i]);
+            }
+            i += 1;
         }
         Starts { at }
     }
@@ -97,9 +99,10 @@ pub fn earliest_starts(limits: Starts, n: usize, gaps: &[u32]) -> Earliest
     ensures { λ r. ⌜ Filled n (earliest n (gapIn (now (gaps .entry))) gapBias (startIn (limits .at))) (limits .at) (r .starts .at) ⌝ }
 {
     let mut starts = limits;
+    let mut last = Starts { at: [NEVER; 64] };
     let mut rounds = 0;
     while rounds < n {
-        let next = starts.round(n, gaps);
+        let next = starts.round(last, n, gaps);
         rounds += 1;
         if same_starts(&next.at, &starts.at, n) {
             return Earliest {
@@ -107,6 +110,7 @@ pub fn earliest_starts(limits: Starts, n: usize, gaps: &[u32]) -> Earliest
                 rounds,
             };
         }
+        last = starts;
         starts = next;
     }
     Earliest { starts, rounds }

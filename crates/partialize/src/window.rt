@@ -1,13 +1,13 @@
 // The earliest limit and the latest start of each step.
 ghost use mathlib.Core.Path.{_≡_};
 ghost use Prim.Native.Nat.{ℕ, _+_, _-_, _≤_, _<_, min};
+ghost use mathlib.Core.Bool.{cond};
 ghost use lib.ListN.{length};
-ghost use Rattle.laws.specs.Fold.{least};
+ghost use lib.Dec.{eqb};
 ghost use Rattle.job.specs.Model.{view};
 ghost use Rattle.job.specs.WellFormed.{WellFormed};
-ghost use Rattle.partialize.specs.Windows as spec;
 ghost use Rattle.partialize.specs.Windows.{noLatest, limitOf, latestOf};
-ghost use Rattle.partialize.specs.Table.{startIn, LinksOf, Bounded};
+ghost use Rattle.partialize.specs.Table.{startIn, LinksOf, Bounded, LatestBy};
 use crate::starts::Starts;
 use crate::support::INITIAL;
 use job::layout::Job;
@@ -61,42 +61,46 @@ fn lower(a: u32, b: u32) -> u32
     if b < a { b } else { a }
 }
 
-// The latest start of step k that goal g allows.
-fn allowed(s: &[u8], job: Job, links: &[u16], k: u16, g: u16) -> u32
-    requires { ⌜ (job .count .conditions + job .count .goals ≤ length (now links)) × (g < job .count .goals) ⌝ }
-    ensures { λ r. ⌜ ((x : ℕ → ℕ) → LinksOf (view job (now (s .entry))) x (now (links .entry)) → r ≡ spec.allowed (view job (now (s .entry))) x k g) ⌝ }
+// The latest start of step k before any goal is looked at.
+fn own_latest(s: &[u8], job: Job, k: u16) -> u32
+    ensures { λ r. ⌜ r ≡ cond (eqb (view job (now (s .entry)) .fixed k) 1) (view job (now (s .entry)) .start k) noLatest ⌝ }
 {
-    let deadline = goal_deadline(s, job, g);
-    let link = links[job.count.conditions as usize + g as usize];
-    if (deadline != NO_DEADLINE) & (link != INITIAL) & (effect_step(s, job, link) == k) {
-        since(deadline, effect_at(s, job, link)) as u32
+    if step_fixed(s, job, k) == 1 {
+        step_start(s, job, k) as u32
     } else {
         NO_LATEST
     }
 }
 
-fn least_allowed(s: &[u8], job: Job, links: &[u16], k: u16) -> u32
-    requires { ⌜ job .count .conditions + job .count .goals ≤ length (now links) ⌝ }
-    ensures { λ r. ⌜ ((x : ℕ → ℕ) → LinksOf (view job (now (s .entry))) x (now (links .entry)) → r ≡ least (job .count .goals) noLatest (spec.allowed (view job (now (s .entry))) x k)) ⌝ }
+fn own_latest_starts(s: &[u8], job: Job) -> Starts
+    requires { ⌜ WellFormed (view job (now s)) ⌝ }
+    ensures { λ r. ⌜ (length (r .at) ≡ 64) × ((x : ℕ → ℕ) → LatestBy (view job (now (s .entry))) x 0 (r .at)) ⌝ }
 {
-    let n = job.count.goals;
-    let mut latest = NO_LATEST;
-    let mut g = 0;
-    while g < n {
-        latest = lower(latest, allowed(s, job, links, k, g));
-        g += 1;
+    let n = job.count.steps;
+    let mut at = [0; 64];
+    let mut k = 0;
+    while k < n {
+        at[k as usize] = own_latest(s, job, k);
+        k += 1;
     }
-    latest
+    Starts { at }
 }
 
-fn latest(s: &[u8], job: Job, links: &[u16], k: u16) -> u32
-    requires { ⌜ job .count .conditions + job .count .goals ≤ length (now links) ⌝ }
-    ensures { λ r. ⌜ ((x : ℕ → ℕ) → LinksOf (view job (now (s .entry))) x (now (links .entry)) → r ≡ latestOf (view job (now (s .entry))) x k) ⌝ }
+// Lowers the latest start of the step whose effect supports goal g to what the deadline allows; a fixed step keeps its own.
+fn lower_latest(at: &mut [u32; 64], s: &[u8], job: Job, links: &[u16], g: u16)
+    requires { ⌜ WellFormed (view job (now s)) × (job .count .conditions + job .count .goals ≤ length (now links)) × (g < job .count .goals) × (length (now at) ≡ 64) ⌝ }
+    ensures { λ _. ⌜ (length (now (at .exit)) ≡ 64) × ((x : ℕ → ℕ) → LinksOf (view job (now (s .entry))) x (now (links .entry)) → LatestBy (view job (now (s .entry))) x g (now (at .entry)) → LatestBy (view job (now (s .entry))) x (g + 1) (now (at .exit))) ⌝ }
 {
-    if step_fixed(s, job, k) == 1 {
-        step_start(s, job, k) as u32
-    } else {
-        least_allowed(s, job, links, k)
+    let deadline = goal_deadline(s, job, g);
+    let link = links[job.count.conditions as usize + g as usize];
+    let k = effect_step(s, job, link);
+    if (deadline != NO_DEADLINE)
+        & (link != INITIAL)
+        & (k < job.count.steps)
+        & (step_fixed(s, job, k) != 1)
+    {
+        let allowed = since(deadline, effect_at(s, job, link)) as u32;
+        at[k as usize] = lower(at[k as usize], allowed);
     }
 }
 
@@ -106,12 +110,13 @@ pub fn latest_starts(s: &[u8], job: Job, links: &[u16]) -> Starts
     ensures { λ r. ⌜ ((x : ℕ → ℕ) → LinksOf (view job (now (s .entry))) x (now (links .entry)) → (k : ℕ) → k < job .count .steps → startIn (r .at) k ≡ latestOf (view job (now (s .entry))) x k) ⌝ }
     ensures { λ r. ⌜ length (r .at) ≡ 64 ⌝ }
 {
-    let n = job.count.steps;
-    let mut at = [0; 64];
-    let mut k = 0;
-    while k < n {
-        at[k as usize] = latest(s, job, links, k);
-        k += 1;
+    let n = job.count.goals;
+    let own = own_latest_starts(s, job);
+    let mut at = own.at;
+    let mut g = 0;
+    while g < n {
+        lower_latest(&mut at, s, job, links, g);
+        g += 1;
     }
     Starts { at }
 }

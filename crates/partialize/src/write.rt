@@ -9,7 +9,7 @@ ghost use Rattle.laws.specs.Listed.{concatenate};
 ghost use Rattle.laws.specs.Nth.{count};
 ghost use Rattle.order_file.specs.Layout.{windowsAt};
 ghost use Rattle.order_file.specs.Encode.{encode};
-ghost use Rattle.partialize.specs.Held.{entered, heldIn, headerIn, windowIn, entryBytes, orderIn, linkIn, over, Roomy};
+ghost use Rattle.partialize.specs.Held.{entered, heldIn, headerIn, windowIn, entryBytes, orderIn, linkIn, over, NoneFrom, Roomy};
 use crate::starts::NONE;
 use crate::starts::WIDTH;
 use laws::put_u16;
@@ -24,23 +24,21 @@ const ORDER: usize = 8;
 
 const LINK: usize = 2;
 
-// The entries of the table of gaps.
-const PAIRS: usize = 4096;
-
 // How many values four bytes have.
 const VALUES: usize = 4294967296;
 
 // What takes the bias off a gap of the table, counted round below 0.
 const UNBIASED: usize = 4294867296;
 
-// How many orders the table holds.
-pub fn count_orders(gaps: &[u32]) -> usize
-    requires { ⌜ length (now gaps) ≡ 4096 ⌝ }
+// How many orders the table of the first steps holds.
+pub fn count_orders(gaps: &[u32], steps: usize) -> usize
+    requires { ⌜ (length (now gaps) ≡ 4096) × (steps ≤ 64) × NoneFrom steps (now gaps) ⌝ }
     ensures { λ r. ⌜ (r ≡ count 4096 (entered (now (gaps .entry)))) × (r ≤ 4096) ⌝ }
 {
+    let end = WIDTH * steps;
     let mut orders = 0;
     let mut q = 0;
-    while q < PAIRS {
+    while q < end {
         if gaps[q] != NONE {
             orders += 1;
         }
@@ -102,14 +100,15 @@ fn write_order(out: &mut [u8], at: usize, q: usize, gap: usize)
     put_u32(out, at + 4, (gap + UNBIASED) % VALUES);
 }
 
-// Puts every order that the table holds, ascending.
-fn write_orders(out: &mut [u8], from: usize, gaps: &[u32])
-    requires { ⌜ (from < 1000000) × (length (now gaps) ≡ 4096) ⌝ }
+// Puts every order that the table of the first steps holds, ascending.
+fn write_orders(out: &mut [u8], from: usize, gaps: &[u32], steps: usize)
+    requires { ⌜ (from < 1000000) × (length (now gaps) ≡ 4096) × (steps ≤ 64) × NoneFrom steps (now gaps) ⌝ }
     ensures { λ _. ⌜ now (out .exit) ≡ sets (now (out .entry)) from (concatenate (count 4096 (entered (now (gaps .entry)))) (orderIn (now (gaps .entry)))) ⌝ }
 {
+    let end = WIDTH * steps;
     let mut at = from;
     let mut q = 0;
-    while q < PAIRS {
+    while q < end {
         if gaps[q] != NONE {
             write_order(out, at, q, gaps[q] as usize);
             at += ORDER;
@@ -149,6 +148,6 @@ pub fn write_file(
     let orders_at = HEADER + WINDOW * steps;
     write_header(out, steps, orders, links, rounds);
     write_windows(out, steps, limits, latest, earliest);
-    write_orders(out, orders_at, gaps);
+    write_orders(out, orders_at, gaps, steps);
     write_links(out, orders_at + ORDER * orders, links, linked);
 }

@@ -5,6 +5,7 @@ use native.Mathlib.Decide.{decLt}
 use denote.Ref.{now}
 use lib.ListN.{getD, replicate, length-replicate, getD-replicate, List·getD-eq-default}
 use Rattle.schedule.specs.Ticks.{scheduleOf}
+use Rattle.partialize.proofs.Found.{none-from}
 use borrow.Author.Needs.{needs}
 use native.Mathlib.Omega.{arith}
 use Rattle.partialize.proofs.file_schedule.Statement.{statement}
@@ -29,6 +30,6 @@ file-schedule-spec =
     (λ c κs. let b = c .before .before .before .before .before .before .before .before in let f = c .before .before .before .find-links .ensures in (b .pre .0, b .pre .1, record { each = f .below }, omega (arith, f .size, length-replicate {A = ℕ} 544 0, b .pre .0 .conditionCount, b .pre .0 .goalCount), refl, zeros))
     (λ c. search needs)
     (λ c. search needs)
-    (λ c κs. search needs)
+    (λ c κs. (search needs, search needs, search needs, none-from _ _ _ (c .before .before .before .before .fill-gaps .ensures)))
     (λ c. search needs)
     (λ c. let b = c .before .before .before .before .before .before .before .before .before .before .before .before .before .before .before .before in let f = c .before .before .before .before .before .before .before .before .before .before .before .find-links .ensures in c .before .before .file-found .ensures (scheduleOf (now (b .args .starts))) (record { each = f .below }) (c .before .before .before .before .before .before .before .fill-gaps .ensures)))

@@ -1,11 +1,10 @@
--- The list is filled one by one.
+-- One goal after the other lowers what it bounds.
 use Prim.Native.Nat.{ℕ, _≤_, _-_}
 use mathlib.Core.Path.{_≡_}
-use lib.ListN.{length, length-set, length-replicate}
+use lib.ListN.{length}
 use Rattle.job.specs.Model.{view}
-use Rattle.partialize.specs.Windows.{latestOf}
-use Rattle.partialize.specs.Table.{Filled, LinksOf}
-use Rattle.partialize.proofs.Loops.{filled-start, filled-more, filled-end}
+use Rattle.partialize.specs.Table.{LinksOf, LatestBy}
+use Rattle.partialize.proofs.Limits.{latest-all}
 use borrow.Author.Needs.{needs}
 use native.Mathlib.Omega.{arith}
 use Rattle.partialize.proofs.window.latest_starts.Statement.{statement}
@@ -15,14 +14,16 @@ pub latest-starts-spec : {M : Type 1} → statement M
 latest-starts-spec =
     tie.close
     (tie.spec
-    (λ s job links n at₀ k₀ at k. (k ≤ n) × (length at ≡ 64) × ((x : ℕ → ℕ) → LinksOf (view job s) x links → Filled k (latestOf (view job s) x) at₀ at))
-    (λ s job links n at₀ k₀ at k. n - k)
-    (λ c. (omega arith, length-replicate {A = ℕ} 64 0, λ x l. filled-start _ _))
-    (λ c κs. c .before .before .before .before .pre .1)
-    (λ c. search needs)
-    (λ c. search needs)
-    (λ c. omega (arith, c .before .before .before .before .before .pre .0 .stepCount))
+    (λ s job links n at₀ g₀ at g. (g ≤ n) × (length at ≡ 64) × ((x : ℕ → ℕ) → LinksOf (view job s) x links → LatestBy (view job s) x g at))
+    (λ s job links n at₀ g₀ at g. n - g)
+    (λ c κs. search needs)
+    (λ c. let o = c .before .own-latest-starts .ensures in (omega arith, o .0, λ x l. o .1 x))
+    (λ c κs. let p = c .before .before .before .before .before .before .before .pre in (p .0, p .1, c .before .loop-test .taken, c .before .before .loop .inv .1))
     (λ c. omega arith)
     (λ c. omega arith)
-    (λ c. (omega arith, simp length-set (c .before .before .loop .inv .1), λ x l. filled-more _ _ _ _ _ (omega (arith, c .before .before .loop .inv .2 x l .size, c .before .before .before .before .before .pre .0 .stepCount)) (c .before .before .loop .inv .2 x l) (c .latest .ensures x l)))
-    (λ c. (λ x l. filled-end _ _ _ _ _ (c .before .loop .inv .2 x l) (c .before .loop .inv .0) (c .loop-test .left) .below, c .before .loop .inv .1)))
+    (λ c.
+    let o = c .lower-latest .ensures in
+    (omega arith, o .0, λ x l. o .1 x l (c .before .before .before .loop .inv .2 x l)))
+    (λ c.
+    let v = c .before .loop .inv in
+    (λ x l. latest-all _ x (c .before .loop .g) (c .before .loop .at) (v .2 x l) (v .0) (c .loop-test .left), v .1)))

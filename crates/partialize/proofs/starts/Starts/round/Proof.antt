@@ -1,9 +1,10 @@
--- The starts are filled one by one, from the starts before the round.
+-- The rows that may demand more raise the starts one after the other, by the starts before the round.
 use Prim.Native.Nat.{_≤_, _-_}
+use mathlib.Core.Logic.{⊎-elim}
 use native.Mathlib.Omega.{arith}
 use Rattle.partialize.specs.Rounds.{raised}
 use Rattle.partialize.specs.Table.{gapBias, gapIn, startIn, Filled}
-use Rattle.partialize.proofs.Loops.{filled-start, filled-more, filled-end}
+use Rattle.partialize.proofs.Loops.{rows-start, rows-more, rows-same, rows-end, rows-bounded}
 use Rattle.partialize.proofs.starts.Starts.round.Statement.{statement}
 use Rattle.partialize.proofs.starts.Starts.round.Tie as tie
 
@@ -11,16 +12,33 @@ pub round-spec : {M : Type 1} → statement M
 round-spec =
     tie.close
     (tie.spec
-    (λ n gaps before at₀ k₀ at k. (k ≤ n) × Filled k (raised n (gapIn gaps) gapBias (startIn before)) before at)
-    (λ n gaps before at₀ k₀ at k. n - k)
-    (λ c. (omega arith, filled-start _ _))
-    (λ c κs. (c .before .before .before .before .before .before .pre .0, c .before .before .before .before .before .before .pre .1, c .before .before .before .before .before .before .pre .2, c .before .loop-test .taken))
+    (λ n gaps before seen at₀ i₀ at i. (i ≤ n) × Filled n (raised i (gapIn gaps) gapBias (startIn before)) before at)
+    (λ n gaps before seen at₀ i₀ at i. n - i)
+    (λ c. (omega arith, rows-start _ _ _ _))
     (λ c. omega arith)
     (λ c. omega arith)
     (λ c. omega arith)
     (λ c. omega arith)
-    (λ c. (
+    (λ c. omega arith)
+    (λ c. omega arith)
+    (λ c κs.
+    let p = c .before .before .before .before .before .before .before .before .pre in
+    let l = c .before .before .before .loop in (
+      p .0,
+      rows-bounded _ _ _ _ _ (p .0) (p .1) (l .inv .0) (l .inv .1),
+      p .2,
       omega arith,
-      filled-more _ _ _ _ _ (omega arith) (c .before .before .before .loop .inv .1) (c .raised-start .ensures),
+      omega (arith, p .1 .most (l .i) (c .before .before .loop-test .taken)),
     ))
-    (λ c. filled-end _ _ _ _ _ (c .before .loop .inv .1) (c .before .loop .inv .0) (c .loop-test .left)))
+    (λ c. omega arith)
+    (λ c. omega arith)
+    (λ c.
+    let p = c .before .before .before .before .before .before .before .pre in
+    let v = c .before .before .loop .inv in (
+      omega arith,
+      ⊎-elim
+          (λ w. rows-more _ _ _ _ _ _ (v .1) _ _ (w .3) (w .2 .ensures))
+          (λ w. rows-same _ _ _ _ _ _ (v .1) _ (w .1) _ (p .3) (c .before .loop-test .taken) (w .0 .left))
+          (c .if1 .came),
+    ))
+    (λ c. rows-end _ _ _ _ _ _ (c .before .loop .inv .1) (c .before .loop .inv .0) (c .loop-test .left)))

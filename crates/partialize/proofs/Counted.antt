@@ -1,0 +1,75 @@
+-- The counted rounds by the file itself: its orders have the gaps of the rules, so rounds over them are the rounds that were counted.
+use Prim.Native.Nat.{ℕ, suc, _/_, _%_, _≤_, _<_}
+use mathlib.Core.Path.{_≡_, ap, _∙_}
+use mathlib.Core.Bool.{true, false}
+use native.Mathlib.Decide.{ℕ-discrete}
+use native.Mathlib.Omega.{arith}
+use Rattle.laws.specs.Fold.{largest}
+use Rattle.laws.specs.Nth.{count}
+use Rattle.laws.proofs.Fold.{largest-ge, largest-le, largest-cong}
+use Rattle.job.specs.Model.{Model}
+use Rattle.job.specs.WellFormed.{WellFormed}
+use Rattle.schedule.specs.Valid.{Valid}
+use Rattle.order_file.specs.Contents.{Contents}
+use Rattle.order_file.specs.Agree.{Agree}
+use Rattle.partialize.specs.Gaps.{gapOf}
+use Rattle.partialize.specs.Windows.{limitOf}
+use Rattle.partialize.specs.Rounds.{after, unchanged}
+use Rattle.partialize.specs.Table.{gapBias, single}
+use Rattle.partialize.specs.File.{roundsOf, ordered, pairOf, fileOf}
+use Rattle.partialize.specs.Demands.{filedGap, settledAfter}
+use Rattle.partialize.proofs.Rounds.{rounds-some, last-unchanged, earlier-changes}
+use Rattle.partialize.proofs.Same.{unchanged-same}
+use Rattle.partialize.proofs.Raised.{single-at, single-le}
+use Rattle.partialize.proofs.Planned.{planned-obeys}
+use Rattle.partialize.proofs.Satisfied.{pair-filed, obeys-satisfied}
+
+module _ (m : Model) (x : ℕ → ℕ) (w : WellFormed m) where
+  -- the largest gap filed between two steps is the rules' gap
+  gap-filed : (i k : ℕ) → i < m .steps → k < m .steps → filedGap (fileOf m x) i k ≡ gapOf m x i k
+  unfolding filedGap fileOf
+  gap-filed i k h g =
+      let f : ℕ → ℕ = λ o. single (pairOf m x o / 64) (pairOf m x o % 64) (gapOf m x (pairOf m x o / 64) (pairOf m x o % 64)) i k in
+      let n : ℕ = count 4096 (ordered m x) in
+      let most : largest n f ≤ gapOf m x i k =
+      largest-le f n (gapOf m x i k) (λ o _. single-le n (gapOf m x) i k (pairOf m x o / 64) (pairOf m x o % 64))
+      in
+      elim (ℕ-discrete (gapOf m x i k) 0) [
+        | yes z ↦ omega arith
+        | no z ↦
+            let p = pair-filed m x w i k h g z in
+            let e : f (p .0) ≡ gapOf m x i k = rw (p .2, p .3) (single-at i k (gapOf m x i k)) in
+            omega (arith, largest-ge f n (p .0) (p .1))
+      ]
+
+gap-agrees : (c d : Contents) → Agree c d → (i k : ℕ) → filedGap c i k ≡ filedGap d i k
+unfolding filedGap
+gap-agrees c d a i k =
+    ap (λ n. largest n (λ o. single (c .first o) (c .second o) (c .gap o) i k)) (a .orders)
+    ∙ largest-cong (λ o. single (c .first o) (c .second o) (c .gap o) i k) (λ o. single (d .first o) (d .second o) (d .gap o) i k) (d .orders)
+    (λ o h. cc (a .first o h, a .second o h, a .gap o h))
+
+-- contents that agree with what is filed of a valid schedule
+module _ (m : Model) (x : ℕ → ℕ) (w : WellFormed m) (v : Valid m x) (c : Contents) (a : Agree c (fileOf m x)) where
+  settled : (r : ℕ) → settledAfter c r ≡ unchanged (m .steps) (gapOf m x) gapBias (after (m .steps) (gapOf m x) gapBias (limitOf m) r)
+  unfolding settledAfter fileOf
+  settled r =
+      ap (λ n. unchanged n (filedGap c) gapBias (after n (filedGap c) gapBias (c .limit) r)) (a .steps)
+      ∙ unchanged-same (m .steps) (filedGap c) (gapOf m x) gapBias (c .limit) (limitOf m)
+      (λ i k h g. gap-agrees c (fileOf m x) a i k ∙ gap-filed m x w i k h g)
+      (a .limit) r
+
+  counted : c .rounds ≡ roundsOf m x
+  unfolding fileOf
+  counted = a .rounds
+
+  pub some-counted : 0 < m .steps → 0 < c .rounds
+  some-counted h = omega (arith, counted, rounds-some (m .steps) (gapOf m x) gapBias (limitOf m) h)
+
+  pub last-counted : (r : ℕ) → suc r ≡ c .rounds → settledAfter c r ≡ true
+  last-counted r e =
+      settled r
+      ∙ last-unchanged (m .steps) (gapOf m x) gapBias (limitOf m) x (obeys-satisfied m x x (planned-obeys m x w v)) r (e ∙ counted)
+
+  pub earlier-counted : (r : ℕ) → suc r < c .rounds → settledAfter c r ≡ false
+  earlier-counted r h = settled r ∙ earlier-changes (m .steps) (gapOf m x) gapBias (limitOf m) r (omega (arith, counted))
