@@ -1,0 +1,3 @@
+-- The laws of filling a list.
+mod Filling
+mod Carried
