@@ -1,10 +1,12 @@
 -- The numbers that the readers of order files put into a lent list, and the list afterwards.
 use Prim.Native.Nat.{ℕ, _-_}
+use mathlib.Core.Bool.{cond}
 use mathlib.Core.List.{List, [], _∷_, _++_}
+use lib.Dec.{eqb}
 use lib.IntN.{ℤ, pos, negsuc}
 use lib.ListN.{length, take, drop}
 use Rattle.order_file.specs.declared.HeaderRead.{HeaderRead}
-use Rattle.order_file.specs.declared.HeaderRead.the-variants as header
+use Rattle.order_file.specs.Answers.{headerNumber, headerValues}
 use Rattle.order_file.specs.declared.RecordRead.{RecordRead}
 use Rattle.order_file.specs.declared.RecordRead.the-variants as recorded
 
@@ -17,13 +19,11 @@ abbrev pub bits : ℤ → ℕ
 bits (pos n) = n
 bits (negsuc n) = 4294967295 - n
 
--- a header's numbers, in the order of the file; none after a refusal
+-- a header's numbers; none after a refusal
 abbrev pub headerList : HeaderRead → List ℕ
-headerList (header.Header edition steps orders links rounds windows ordersFrom linksFrom) =
-    edition ∷ steps ∷ orders ∷ links ∷ rounds ∷ windows ∷ ordersFrom ∷ linksFrom ∷ []
-headerList header.Broken = []
+headerList a = cond (eqb (headerNumber a) 0) (headerValues a) []
 
--- a record's numbers, in the order of the file; none after a refusal
+-- a record's numbers; none after a refusal
 abbrev pub recordList : RecordRead → List ℕ
 recordList (recorded.Window limit latest earliest) = limit ∷ latest ∷ earliest ∷ []
 recordList (recorded.Order first second gap) = first ∷ second ∷ bits gap ∷ []

@@ -5,7 +5,7 @@ ghost use Rattle.exports.specs.Listed as spec;
 use order_file::HeaderRead;
 use order_file::RecordRead;
 
-// A number past the list's end is not put.
+// Puts a number at an entry, if the list has that entry.
 fn put(list: &mut [u32], at: usize, n: u32)
     ensures { λ _. ⌜ now (list .exit) ≡ set (now (list .entry)) at n ⌝ }
 {
@@ -14,6 +14,7 @@ fn put(list: &mut [u32], at: usize, n: u32)
     }
 }
 
+// Puts numbers at the front of a list, as many as it has room for.
 fn fill(list: &mut [u32], numbers: &[u32])
     ensures { λ _. ⌜ now (list .exit) ≡ spec.filled (now (list .entry)) (now (numbers .entry)) ⌝ }
 {
@@ -24,7 +25,7 @@ fn fill(list: &mut [u32], numbers: &[u32])
     }
 }
 
-// An i32 as an u32 of the same bits.
+// The bits of an i32: a cast of a number below zero is not defined.
 fn bits(n: i32) -> u32
     ensures { λ r. ⌜ r ≡ spec.bits n ⌝ }
 {
@@ -36,6 +37,7 @@ fn bits(n: i32) -> u32
     }
 }
 
+// Puts a header's numbers into a list; a refusal changes no entry.
 pub fn list_header(list: &mut [u32], read: HeaderRead)
     ensures { λ _. ⌜ now (list .exit) ≡ spec.filled (now (list .entry)) (spec.headerList read) ⌝ }
 {
@@ -66,6 +68,7 @@ pub fn list_header(list: &mut [u32], read: HeaderRead)
     }
 }
 
+// Puts a record's numbers into a list; a refusal changes no entry.
 pub fn list_record(list: &mut [u32], read: RecordRead)
     ensures { λ _. ⌜ now (list .exit) ≡ spec.filled (now (list .entry)) (spec.recordList read) ⌝ }
 {
