@@ -1,0 +1,32 @@
+use mathlib.Core.Path.{refl, ap, _∙_}
+use borrow.Author.Needs.{needs}
+use denote.Ref.{now}
+use Rattle.order_file.specs.Answers.{RecordPromise, recordNumber, recordPlace}
+use Rattle.exports.specs.Packed.{packed}
+use Rattle.exports.specs.Listed.{filled, recordList}
+use Rattle.exports.proofs.Carried.{carried, repacked}
+use Rattle.exports.proofs.jobs_order_record.Statement.{statement}
+use Rattle.exports.proofs.jobs_order_record.Tie as tie
+
+returns : tie.Need-returns
+returns c =
+    let l = c .before .before .before .before .before in
+    let d = l .before .before in
+    let b = d .before .before .before .args in
+    let p = d .read-record .ensures in (
+      carried (RecordPromise (now (b .file)) (b .table) (b .number)) (λ a. packed 0 (recordNumber a) (recordPlace a)) (p .answer) p
+          (repacked {a = 0} (c .packed .ensures) refl (c .before .before .record-number .ensures) (c .before .record-place .ensures)),
+      l .list-record .ensures ∙ ap (λ a. filled (now (b .list)) (recordList a)) (p .answer),
+    )
+
+pub jobs-order-record-spec : {M : Type 1} → statement M
+jobs-order-record-spec =
+    tie.close
+    (tie.spec
+    (λ c κs. search needs)
+    (λ c κs. search needs)
+    (λ c κs. search needs)
+    (λ c κs. search needs)
+    (λ c κs. search needs)
+    (λ c. search needs)
+    returns)

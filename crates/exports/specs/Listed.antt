@@ -1,0 +1,31 @@
+-- The numbers that the readers of order files put into a lent list, and the list afterwards.
+use Prim.Native.Nat.{ℕ, _-_}
+use mathlib.Core.Bool.{cond}
+use mathlib.Core.List.{List, [], _∷_, _++_}
+use lib.Dec.{eqb}
+use lib.IntN.{ℤ, pos, negsuc}
+use lib.ListN.{length, take, drop}
+use Rattle.order_file.specs.declared.HeaderRead.{HeaderRead}
+use Rattle.order_file.specs.Answers.{headerNumber, headerValues}
+use Rattle.order_file.specs.declared.RecordRead.{RecordRead}
+use Rattle.order_file.specs.declared.RecordRead.the-variants as recorded
+
+-- the numbers cut to the list's length, followed by the rest of the list
+unfoldable pub filled : List ℕ → List ℕ → List ℕ
+filled list numbers = take (length list) numbers ++ drop (length numbers) list
+
+-- the 32 bits of an i32, read without a sign
+abbrev pub bits : ℤ → ℕ
+bits (pos n) = n
+bits (negsuc n) = 4294967295 - n
+
+-- a header's numbers; none after a refusal
+abbrev pub headerList : HeaderRead → List ℕ
+headerList a = cond (eqb (headerNumber a) 0) (headerValues a) []
+
+-- a record's numbers; none after a refusal
+abbrev pub recordList : RecordRead → List ℕ
+recordList (recorded.Window limit latest earliest) = limit ∷ latest ∷ earliest ∷ []
+recordList (recorded.Order first second gap) = first ∷ second ∷ bits gap ∷ []
+recordList (recorded.Link link) = link ∷ []
+recordList recorded.Broken = []
