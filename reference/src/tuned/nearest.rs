@@ -51,7 +51,7 @@ impl Nearest {
         if form.serial {
             self.serial(form);
         }
-        self.forget_own();
+        self.forget_own(form.steps.count);
     }
 
     fn raise(&mut self, first: usize, second: usize, distance: i32) {
@@ -69,8 +69,8 @@ impl Nearest {
     }
 
     /// Only different steps are ordered.
-    fn forget_own(&mut self) {
-        for step in 0..STEPS {
+    fn forget_own(&mut self, steps: usize) {
+        for step in 0..steps {
             self.rows[step][step] = 0;
             self.after[step] &= !(1 << step);
         }
@@ -180,4 +180,13 @@ impl Soonest {
         self.ticks[point.step()] = point.tick();
         self.steps |= point.step_bit();
     }
+}
+
+/// The steps in a set of one bit a step, ascending.
+pub fn bits(mut set: u64) -> impl Iterator<Item = usize> {
+    std::iter::from_fn(move || {
+        let lowest = set.trailing_zeros() as usize;
+        set &= set.wrapping_sub(1);
+        (lowest < STEPS).then_some(lowest)
+    })
 }

@@ -5,7 +5,11 @@
 //! there is no order nothing can be demanded.
 
 use super::form::{Steps, STEPS};
-use super::nearest::{Nearest, FAR};
+use super::nearest::{bits, Nearest, FAR};
+
+/// Up to so many orders from a step, going from one to the next costs less than going over all
+/// steps at once.
+const FEW: u32 = 12;
 
 pub struct Earliest {
     pub times: [i32; STEPS],
@@ -18,9 +22,9 @@ pub fn earliest(steps: &Steps, nearest: &Nearest) -> Earliest {
     while raised != 0 && steps.count > 0 {
         let before = times;
         raise(&mut times, &before, nearest, raised);
-        raised = (0..STEPS).fold(0, |raised, step| {
-            raised | u64::from(times[step] != before[step]) << step
-        });
+        raised = (0..steps.count)
+            .filter(|&step| times[step] != before[step])
+            .fold(0, |raised, step| raised | 1 << step);
         rounds += 1;
     }
     for (time, start) in times.iter_mut().zip(&steps.starts) {
@@ -40,12 +44,17 @@ pub fn limit(steps: &Steps, step: usize) -> i32 {
 
 /// One round. Only what the round before raised can demand anything new.
 fn raise(times: &mut [i32; STEPS], before: &[i32; STEPS], nearest: &Nearest, raised: u64) {
-    for first in 0..STEPS {
-        if raised >> first & 1 == 0 || nearest.after[first] == 0 {
-            continue;
-        }
-        for (time, nearness) in times.iter_mut().zip(&nearest.rows[first]) {
-            *time = (*time).max(before[first] + nearness - FAR + 1);
+    for first in bits(raised) {
+        let (after, row) = (nearest.after[first], &nearest.rows[first]);
+        let demanded = |nearness: i32| before[first] + nearness - FAR + 1;
+        if after.count_ones() < FEW {
+            for second in bits(after) {
+                times[second] = times[second].max(demanded(row[second]));
+            }
+        } else {
+            for (time, &nearness) in times.iter_mut().zip(row) {
+                *time = (*time).max(demanded(nearness));
+            }
         }
     }
 }

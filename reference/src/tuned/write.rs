@@ -1,7 +1,7 @@
 //! The order file, written into a buffer of its length.
 
 use super::form::{Form, STEPS};
-use super::nearest::{Nearest, FAR};
+use super::nearest::{bits, Nearest, FAR};
 use super::rounds::{earliest, limit};
 use super::sound::Links;
 use crate::bytes::u32_at;
@@ -17,8 +17,8 @@ struct Layout {
 }
 
 fn layout(form: &Form, nearest: &Nearest) -> Layout {
-    let orders: u32 = nearest.after.iter().map(|steps| steps.count_ones()).sum();
-    let orders = orders as usize;
+    let after = &nearest.after[..form.steps.count];
+    let orders = after.iter().map(|steps| steps.count_ones() as usize).sum();
     let links = form.conditions.len() + form.goals.len();
     let orders_at = HEADER + form.steps.count * WINDOW;
     let links_at = orders_at + orders * ORDER;
@@ -93,19 +93,11 @@ fn latest_starts(form: &Form, links: &Links) -> [u32; STEPS] {
 fn write_orders(form: &Form, nearest: &Nearest, orders: &mut [u8]) {
     let starts = &form.steps.starts;
     let mut orders = orders.as_chunks_mut::<ORDER>().0.iter_mut();
-    for (first, row) in nearest.rows.iter().enumerate() {
+    for (first, row) in nearest.rows[..form.steps.count].iter().enumerate() {
         for (second, order) in bits(nearest.after[first]).zip(&mut orders) {
             let gap = row[second] - FAR + 1 + starts[second] - starts[first];
             let steps = first as u64 | (second as u64) << 16;
             *order = (steps | u64::from(gap as u32) << 32).to_le_bytes();
         }
     }
-}
-
-fn bits(mut set: u64) -> impl Iterator<Item = usize> {
-    std::iter::from_fn(move || {
-        let lowest = set.trailing_zeros() as usize;
-        set &= set.wrapping_sub(1);
-        (lowest < STEPS).then_some(lowest)
-    })
 }
