@@ -61,7 +61,7 @@ pub fn bench_job(spread: Spread, steps: usize) -> Job {
         effects: share(4),
         uses: share(5),
         goals: share(6),
-        last_start: 1_000_000,
+        last_start: 900_000,
         longest: 10_000,
         fixed_percent: 5,
     };

@@ -46,7 +46,7 @@ impl Form<'_> {
         self.steps.starts[condition.step()] + to as i32
     }
 
-    /// The tick of the effect that a link names, if it names one.
+    /// The effect that a link names, if it names one.
     pub fn linked(&self, link: u16) -> Option<Effect> {
         let effect = self.effects.get(usize::from(link))?;
         let (step, at) = (usize::from(u16_at(effect, 0)), u32_at(effect, 4) as i32);

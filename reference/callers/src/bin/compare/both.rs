@@ -25,14 +25,14 @@ pub struct Both {
 impl Both {
     pub fn check(&mut self, job: &[u8]) -> Result<(), String> {
         let expected = packed(0, &check_job(job));
-        let inputs = || format!("job {job:?}");
+        let inputs = || format!("jobs_check, job {job:?}");
         self.agree(Entry::Check, callers::check(job), expected, inputs)
     }
 
     pub fn check_schedule(&mut self, job: &[u8], starts: &[u32]) -> Result<(), String> {
         let expected = packed(0, &check_timing(job, starts));
         let answer = callers::check_schedule(job, starts);
-        let inputs = || format!("job {job:?} starts {starts:?}");
+        let inputs = || format!("jobs_check_schedule, job {job:?} starts {starts:?}");
         self.agree(Entry::CheckSchedule, answer, expected, inputs)
     }
 
@@ -49,7 +49,7 @@ impl Both {
         let expected = loosen(job, &mut expected_buffer[lent.clone()]);
         let answer = callers::partialize(job, &mut buffer[lent]);
         let verdict = (expected.number, expected.place);
-        let inputs = || format!("job {job:?} buffer of {length}");
+        let inputs = || format!("jobs_partialize, job {job:?} buffer of {length}");
         self.agree(
             Entry::Partialize,
             answer,
@@ -64,7 +64,7 @@ impl Both {
         let expected = read_header(file);
         let mut list = filled_list(length);
         let answer = callers::order_header(file, &mut list[MARGIN..MARGIN + length]);
-        let inputs = || format!("file {file:?} list of {length}");
+        let inputs = || format!("jobs_order_header, file {file:?} list of {length}");
         self.agree(Entry::Header, answer, packed(0, &expected), inputs)?;
         let numbers = expected.map_or(vec![], |header| header.to_vec());
         same("list", &list, &list_with(&numbers, length), inputs)
@@ -81,7 +81,8 @@ impl Both {
         let mut list = filled_list(length);
         let lent = &mut list[MARGIN..MARGIN + length];
         let answer = callers::order_record(file, table, number, lent);
-        let inputs = || format!("file {file:?} table {table} number {number} list of {length}");
+        let record = (table, number);
+        let inputs = || format!("jobs_order_record, file {file:?} {record:?} list of {length}");
         self.agree(Entry::Record, answer, packed(0, &expected), inputs)?;
         let numbers = expected.map_or(vec![], numbers_of);
         same("list", &list, &list_with(&numbers, length), inputs)
@@ -90,7 +91,7 @@ impl Both {
     pub fn alike(&mut self, a: &[u8], b: &[u8]) -> Result<(), String> {
         let expected = alike(a, b);
         let yes = expected.unwrap_or(false);
-        let inputs = || format!("files {a:?} and {b:?}");
+        let inputs = || format!("jobs_alike, files {a:?} and {b:?}");
         let packed = packed(usize::from(yes), &expected);
         self.agree(Entry::Alike, callers::alike(a, b), packed, inputs)?;
         if yes {
