@@ -5,7 +5,8 @@ mod linear;
 mod measure;
 
 use std::hint::black_box;
-use std::panic::catch_unwind;
+use std::panic::{catch_unwind, set_hook, take_hook};
+use std::process::ExitCode;
 
 use callers::Packed;
 use measure::{in_turn, Nanoseconds};
@@ -18,11 +19,24 @@ use reference::tuned;
 /// Longer than any order file.
 const BUFFER: usize = 8 * MOST_ORDERS + 4_096;
 
-fn main() {
+fn main() -> ExitCode {
     if checks_overflow() {
         eprintln!("measure with --profile speed: this build checks every sum for overflow");
-        return;
+        return ExitCode::FAILURE;
     }
+    print_all();
+    ExitCode::SUCCESS
+}
+
+/// A build that tests every sum would make the tuned loosening look slow.
+fn checks_overflow() -> bool {
+    set_hook(Box::new(|_| {}));
+    let checks = catch_unwind(|| black_box(i32::MAX) + black_box(1)).is_err();
+    let _ = take_hook();
+    checks
+}
+
+fn print_all() {
     println!("nanoseconds a call, medians; the buffers are cleared before each batch\n");
     println!("{:20}{:>30}{:>30}", "", "loosening", "job check");
     let columns = format!("{:>10}{:>10}{:>10}", "library", "tuned", "ratio");
@@ -45,10 +59,6 @@ fn main() {
 
 /// Loosening, then the job check.
 type Row = [Nanoseconds; 2];
-
-fn checks_overflow() -> bool {
-    catch_unwind(|| black_box(i32::MAX) + black_box(1)).is_err()
-}
 
 fn measure_and_print(spread: Spread) -> [Row; 2] {
     [8, 64].map(|steps| {
@@ -93,7 +103,7 @@ fn print_row(name: &str, row: Row) {
     let columns = row.map(|Nanoseconds { library, tuned }| {
         format!("{library:>10.0}{tuned:>10.0}{:>10.2}", library / tuned)
     });
-    println!("{name:20}{}{}", columns[0], columns[1]);
+    println!("{name:20}{}{}", columns[0], columns[1].trim_end());
 }
 
 fn print_growth(name: &str, at_8: &Row, at_64: &Row) {
@@ -102,5 +112,5 @@ fn print_growth(name: &str, at_8: &Row, at_64: &Row) {
         let tuned = at_64[call].tuned / at_8[call].tuned;
         format!("{library:>10.1}{tuned:>10.1}{:>10}", "")
     });
-    println!("{name:20}{}{}", columns[0], columns[1]);
+    println!("{name:20}{}{}", columns[0], columns[1].trim_end());
 }
