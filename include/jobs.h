@@ -1,9 +1,9 @@
 /* The static library `exports` for C and C++ callers: job files checked and loosened, order files
  * read and compared.
  *
- * Every function presumes nothing of the bytes it is given. Each slice is a pointer and a length; the
- * pointer must be aligned and not null even where the length is 0. What a function writes into
- * must not overlap what it reads. Nothing is kept after the return, and nothing is allocated.
+ * No function presumes anything of the bytes it is given. Each slice is a pointer and a length;
+ * the pointer must be aligned and not null even where the length is 0. What a function writes
+ * into must not overlap what it reads. Nothing is kept after the return, nothing is allocated.
  *
  * All functions return one number, which the functions below take apart:
  *
@@ -96,10 +96,10 @@ uint64_t jobs_alike(const uint8_t *a, size_t a_len, const uint8_t *b, size_t b_l
  * the rest of a longer one stays. Refuses with 16. */
 uint64_t jobs_order_header(const uint8_t *file, size_t len, uint32_t *list, size_t count);
 
-/* Puts the numbers of one record of an order file into the list, as above. A window has its earliest
- * limit, latest start (or JOBS_NO_LATEST) and earliest time; an order has its first step, its second
- * step and its gap, to be read as an int32_t; a link has an effect's number or JOBS_INITIAL_STATE.
- * Refuses with 16. */
+/* Puts the numbers of one record of an order file into the list, as above. A window has its
+ * earliest limit, latest start (or JOBS_NO_LATEST) and earliest time; an order has its first step,
+ * its second step and its gap, to be read as an int32_t; a link has an effect's number or
+ * JOBS_INITIAL_STATE. Refuses with 16. */
 uint64_t jobs_order_record(const uint8_t *file, size_t len, uint32_t table, uint32_t number,
                            uint32_t *list, size_t count);
 

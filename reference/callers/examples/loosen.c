@@ -1,6 +1,7 @@
 /* Prints what loosening says of a job file. From the root of the repository:
  *
- *     cc -std=c11 -Iinclude reference/callers/examples/loosen.c target/staticlib/libexports.a -o target/loosen
+ *     cc -std=c11 -Iinclude -o target/loosen \
+ *         reference/callers/examples/loosen.c target/staticlib/libexports.a
  *     target/loosen samples/deck-resigned.job
  */
 #include <stdio.h>

@@ -103,7 +103,7 @@ fn print_row(name: &str, row: Row) {
     let columns = row.map(|Nanoseconds { library, tuned }| {
         format!("{library:>10.0}{tuned:>10.0}{:>10.2}", library / tuned)
     });
-    println!("{name:20}{}{}", columns[0], columns[1].trim_end());
+    println!("{name:20}{}{}", columns[0], columns[1]);
 }
 
 fn print_growth(name: &str, at_8: &Row, at_64: &Row) {
