@@ -16,4 +16,5 @@ pub mod samples;
 pub mod show;
 pub mod stored;
 pub mod timing;
+pub mod tuned;
 pub mod well_formed;

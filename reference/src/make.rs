@@ -1,5 +1,6 @@
 //! Made jobs, made timings and made order files: the same for the same seed.
 
+pub mod bench_jobs;
 pub mod damage;
 pub mod edges;
 pub mod highest;

@@ -1,0 +1,110 @@
+/* The static library `exports` for C and C++ callers: job files checked and loosened, order files
+ * read and compared.
+ *
+ * No function presumes anything of the bytes it is given. Each slice is a pointer and a length;
+ * the pointer must be aligned and not null even where the length is 0. What a function writes
+ * into must not overlap what it reads. Nothing is kept after the return, nothing is allocated.
+ *
+ * All functions return one number, which the functions below take apart:
+ *
+ *     answer * 2^32 + number * 2^16 + place
+ *
+ * The number is 0 if the input is accepted, and then the place is JOBS_NOWHERE. Otherwise the
+ * input is refused: the number says why, the place is the lowest record concerned (or JOBS_NOWHERE
+ * where none is named), the answer is 0, and no lent byte or number has changed.
+ *
+ * The numbers in checking order, with what the place names:
+ *
+ *      1  the job file is shorter than 48 bytes
+ *      2  its edition is not 1
+ *      3  its serial mark exceeds 1, or its tenth number is not 0
+ *      4  a count exceeds its highest
+ *      5  an offset or the file's length disagrees with the tables
+ *      6  a record breaks its ranges, or names a step, fact or level not counted
+ *         (the record in its table; tables in the order of the file)
+ *      7  a step sets a fact both ways at one tick, uses one level twice at one tick, or opposes
+ *         its own condition from its first tick to before its last (step)
+ *      8  the list of starts does not have one entry a step
+ *      9  a fixed step has another start (step)
+ *     10  two steps' opposing effects share a tick (effect)
+ *     11  a condition fails (condition)
+ *     12  a level passes a bound (level)
+ *     13  a goal fails or comes after its deadline (goal)
+ *     14  steps of a serial job overlap (step)
+ *     15  the buffer is shorter than the order file
+ *     16  an order file breaks its layout or its ranges, or the record named is not there
+ *         (0; of two files 0 or 1, the file)
+ */
+#ifndef JOBS_H
+#define JOBS_H
+
+#include <stddef.h>
+#include <stdint.h>
+
+#ifdef __cplusplus
+extern "C" {
+#endif
+
+/* The place where no record is named, and the place of an acceptance. */
+#define JOBS_NOWHERE 65535u
+
+/* No order file is longer: a header, 64 windows, 4,032 orders, 544 links. */
+#define JOBS_LONGEST_ORDER_FILE (24u + 64u * 12u + 4032u * 8u + 544u * 2u)
+
+/* In an order file: the latest start that is none, and the link to the initial state. */
+#define JOBS_NO_LATEST 4294967295u
+#define JOBS_INITIAL_STATE 65535u
+
+/* The tables of an order file. */
+#define JOBS_WINDOWS 0u
+#define JOBS_ORDERS 1u
+#define JOBS_LINKS 2u
+
+/* The length from jobs_partialize; 1 if jobs_alike says yes; else 0. */
+static inline uint32_t jobs_answer(uint64_t returned)
+{
+    return (uint32_t)(returned >> 32);
+}
+
+/* 0 if accepted, else the refusal's number. */
+static inline uint32_t jobs_number(uint64_t returned)
+{
+    return (uint32_t)(returned >> 16) & 65535u;
+}
+
+static inline uint32_t jobs_place(uint64_t returned)
+{
+    return (uint32_t)returned & 65535u;
+}
+
+/* Whether a job is sound at its written starts. Refuses with 1 to 7 and 10 to 14. */
+uint64_t jobs_check(const uint8_t *job, size_t len);
+
+/* Whether a job is sound with these starts in place of the written ones. Refuses with 1 to 14. */
+uint64_t jobs_check_schedule(const uint8_t *job, size_t len, const uint32_t *starts, size_t count);
+
+/* Loosens a job into an order file at the front of `out`, and answers the file's length; bytes past
+ * it stay. Refuses with 1 to 7 and 10 to 15. */
+uint64_t jobs_partialize(const uint8_t *job, size_t len, uint8_t *out, size_t out_len);
+
+/* Answers 1 if two order files have equal steps, limits, latest starts and orders, else 0.
+ * Refuses with 16. */
+uint64_t jobs_alike(const uint8_t *a, size_t a_len, const uint8_t *b, size_t b_len);
+
+/* Puts the eight numbers of an order file's header into the list: edition, steps, orders, links,
+ * rounds, offset of the windows, of the orders, of the links. A shorter list gets the first ones;
+ * the rest of a longer one stays. Refuses with 16. */
+uint64_t jobs_order_header(const uint8_t *file, size_t len, uint32_t *list, size_t count);
+
+/* Puts the numbers of one record of an order file into the list, as above. A window has its
+ * earliest limit, latest start (or JOBS_NO_LATEST) and earliest time; an order has its first step,
+ * its second step and its gap, to be read as an int32_t; a link has an effect's number or
+ * JOBS_INITIAL_STATE. Refuses with 16. */
+uint64_t jobs_order_record(const uint8_t *file, size_t len, uint32_t table, uint32_t number,
+                           uint32_t *list, size_t count);
+
+#ifdef __cplusplus
+}
+#endif
+
+#endif

@@ -1,0 +1,50 @@
+//! Prints what loosening says of a job file:
+//! `cargo run --example loosen -- ../samples/deck-resigned.job`
+
+use std::process::ExitCode;
+use std::{env, fs};
+
+use callers::{order_header, order_record, partialize, Answer};
+
+/// The header, 64 windows, 4,032 orders and 544 links: no order file is longer.
+const LONGEST: usize = 24 + 64 * 12 + 4_032 * 8 + 544 * 2;
+
+fn main() -> ExitCode {
+    let Some(job) = env::args().nth(1).and_then(|path| fs::read(path).ok()) else {
+        eprintln!("which job file?");
+        return ExitCode::FAILURE;
+    };
+    let mut buffer = [0; LONGEST];
+    match partialize(&job, &mut buffer).answer() {
+        Answer::Accepted(length) => print_file(&buffer[..length as usize]),
+        Answer::Refused { number, place } => match place {
+            Some(place) => println!("refused {number} place {place}"),
+            None => println!("refused {number}"),
+        },
+    }
+    ExitCode::SUCCESS
+}
+
+fn print_file(file: &[u8]) {
+    let mut header = [0; 8];
+    order_header(file, &mut header);
+    let [_, steps, orders, _, rounds, ..] = header;
+    println!("steps {steps} rounds {rounds}");
+    for step in 0..steps {
+        let [limit, latest, earliest] = record(file, 0, step);
+        match latest {
+            u32::MAX => println!("step {step} limit {limit} earliest {earliest} latest none"),
+            _ => println!("step {step} limit {limit} earliest {earliest} latest {latest}"),
+        }
+    }
+    for number in 0..orders {
+        let [first, second, gap] = record(file, 1, number);
+        println!("order {first} {second} {}", gap as i32);
+    }
+}
+
+fn record(file: &[u8], table: u32, number: u32) -> [u32; 3] {
+    let mut list = [0; 3];
+    order_record(file, table, number, &mut list);
+    list
+}

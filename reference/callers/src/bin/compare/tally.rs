@@ -1,0 +1,78 @@
+//! How often each entry point gave each number.
+
+use std::fmt::Write;
+
+const NUMBERS: usize = 17;
+
+#[derive(Clone, Copy)]
+pub enum Entry {
+    Check,
+    CheckSchedule,
+    Partialize,
+    Header,
+    Record,
+    Alike,
+}
+
+/// The name of each entry point, and which numbers it gives: one bit a number.
+const ENTRIES: [(&str, u32); 6] = [
+    ("jobs_check", 0b0_0111_1100_1111_1111),
+    ("jobs_check_schedule", 0b0_0111_1111_1111_1111),
+    ("jobs_partialize", 0b0_1111_1100_1111_1111),
+    ("jobs_order_header", 0b1_0000_0000_0000_0001),
+    ("jobs_order_record", 0b1_0000_0000_0000_0001),
+    ("jobs_alike", 0b1_0000_0000_0000_0001),
+];
+
+#[derive(Default)]
+pub struct Tally {
+    counts: [[u64; NUMBERS]; ENTRIES.len()],
+    alike: u64,
+}
+
+impl Tally {
+    pub fn count(&mut self, entry: Entry, number: u16) {
+        self.counts[entry as usize][usize::from(number)] += 1;
+    }
+
+    pub fn count_alike(&mut self) {
+        self.alike += 1;
+    }
+
+    pub fn calls(&self) -> u64 {
+        self.counts.iter().flatten().sum()
+    }
+
+    pub fn plus(mut self, other: Tally) -> Tally {
+        let counts = self.counts.iter_mut().flatten();
+        for (count, more) in counts.zip(other.counts.iter().flatten()) {
+            *count += more;
+        }
+        self.alike += other.alike;
+        self
+    }
+
+    pub fn report(&self) -> String {
+        let mut text = format!("{} calls agree, {} files alike\n", self.calls(), self.alike);
+        for ((name, _), counts) in ENTRIES.iter().zip(&self.counts) {
+            write!(text, "{name}").expect("a string takes it");
+            let occurred = counts.iter().enumerate().filter(|(_, &count)| count > 0);
+            for (number, count) in occurred {
+                write!(text, "  {number}: {count}").expect("a string takes it");
+            }
+            text.push('\n');
+        }
+        text
+    }
+
+    /// What must occur, but never did.
+    pub fn missing(&self) -> Option<String> {
+        for ((name, given), counts) in ENTRIES.iter().zip(&self.counts) {
+            let never = |&number: &usize| given >> number & 1 == 1 && counts[number] == 0;
+            if let Some(number) = (0..NUMBERS).find(never) {
+                return Some(format!("{name} never gave {number}"));
+            }
+        }
+        (self.alike == 0).then(|| "no two files were alike".to_string())
+    }
+}

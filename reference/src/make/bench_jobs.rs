@@ -1,0 +1,69 @@
+//! Sound jobs for measuring speed: every table grows with the steps, up to its highest count.
+
+use crate::job::{Job, HIGHEST};
+use crate::make::sound::{sound_job, Shape};
+use crate::random::Random;
+
+/// How the records of a job meet each other.
+#[derive(Clone, Copy, Debug, PartialEq, Eq)]
+pub enum Spread {
+    /// Two effects a fact, so few records meet.
+    ManyFacts,
+    EightFacts,
+    /// All records on one fact and one level, so all meet.
+    OneFact,
+    /// Eight facts, and every two steps ordered.
+    Serial,
+}
+
+pub const SPREADS: [Spread; 4] = [
+    Spread::ManyFacts,
+    Spread::EightFacts,
+    Spread::OneFact,
+    Spread::Serial,
+];
+
+impl Spread {
+    pub fn name(self) -> &'static str {
+        match self {
+            Spread::ManyFacts => "many facts",
+            Spread::EightFacts => "eight facts",
+            Spread::OneFact => "one fact",
+            Spread::Serial => "serial",
+        }
+    }
+
+    fn facts(self, steps: usize) -> usize {
+        match self {
+            Spread::ManyFacts => steps * HIGHEST[0] / HIGHEST[2],
+            Spread::EightFacts | Spread::Serial => 8,
+            Spread::OneFact => 1,
+        }
+    }
+
+    fn levels(self, steps: usize) -> usize {
+        match self {
+            Spread::OneFact => 1,
+            _ => steps * HIGHEST[1] / HIGHEST[2],
+        }
+    }
+}
+
+/// A job with this many steps, 4 to 64, and the other tables as full as those of 64 steps are.
+pub fn bench_job(spread: Spread, steps: usize) -> Job {
+    let share = |table: usize| steps * HIGHEST[table] / HIGHEST[2];
+    let shape = Shape {
+        serial: spread == Spread::Serial,
+        facts: spread.facts(steps),
+        levels: spread.levels(steps),
+        steps,
+        conditions: share(3),
+        effects: share(4),
+        uses: share(5),
+        goals: share(6),
+        last_start: 900_000,
+        longest: 10_000,
+        fixed_percent: 5,
+    };
+    sound_job(&mut Random::seeded(steps as u64), &shape)
+}

@@ -1,0 +1,158 @@
+//! Refusals 1 to 6. What passes is read from the file's own bytes wherever it is wanted.
+
+use crate::bytes::{i32_at, u16_at, u32_at};
+use crate::job::{
+    counts_in, layout, offsets_in, EDITION, EDITION_AT, HEADER, HIGHEST, NO_DEADLINE, SERIAL_AT,
+    TABLES, WIDTHS, ZERO_AT,
+};
+use crate::refusal::{refuse_at, refuse_if, Refusal, Verdict};
+
+pub const STEPS: usize = HIGHEST[2];
+
+/// The tables of a job whose records are all in range.
+pub struct Form<'a> {
+    pub serial: bool,
+    pub facts: &'a [u8],
+    pub levels: &'a [[u8; WIDTHS[1]]],
+    pub steps: Steps,
+    pub conditions: &'a [[u8; WIDTHS[3]]],
+    pub effects: &'a [[u8; WIDTHS[4]]],
+    pub uses: &'a [[u8; WIDTHS[5]]],
+    pub goals: &'a [[u8; WIDTHS[6]]],
+}
+
+pub struct Steps {
+    pub count: usize,
+    pub starts: [i32; STEPS],
+    pub lengths: [i32; STEPS],
+    /// One bit a step.
+    pub fixed: u64,
+}
+
+impl Form<'_> {
+    pub fn read(file: &[u8]) -> Result<Form<'_>, Refusal> {
+        let [facts, levels, steps, conditions, effects, uses, goals] = tables(file)?;
+        refuse_at(6, facts.iter().position(|&initial| initial > 1))?;
+        let levels = levels.as_chunks().0;
+        refuse_at(6, levels.iter().position(level_breaks))?;
+        let form = Form {
+            serial: u16_at(file, SERIAL_AT) == 1,
+            facts,
+            levels,
+            steps: Steps::read(steps)?,
+            conditions: conditions.as_chunks().0,
+            effects: effects.as_chunks().0,
+            uses: uses.as_chunks().0,
+            goals: goals.as_chunks().0,
+        };
+        form.check_records()?;
+        Ok(form)
+    }
+
+    fn check_records(&self) -> Verdict {
+        let (facts, levels) = (self.facts.len(), self.levels.len());
+        let condition = |c: &_| self.condition_breaks(c, facts);
+        refuse_at(6, self.conditions.iter().position(condition))?;
+        let effect = |e: &[u8; 10]| self.point_breaks(e, facts) || u16_at(e, 8) > 1;
+        refuse_at(6, self.effects.iter().position(effect))?;
+        let used = |u: &[u8; 12]| self.point_breaks(u, levels) || amount_breaks(i32_at(u, 8));
+        refuse_at(6, self.uses.iter().position(used))?;
+        let goal = |g: &_| goal_breaks(g, facts);
+        refuse_at(6, self.goals.iter().position(goal))
+    }
+
+    fn condition_breaks(&self, condition: &[u8; 14], facts: usize) -> bool {
+        let (from, to) = (u32_at(condition, 4), u32_at(condition, 8));
+        let (step, fact) = names(condition);
+        !(fact < facts && from <= to && self.steps.has(step, to) && u16_at(condition, 12) <= 1)
+    }
+
+    /// What effects and uses have in common: step, fact or level, point.
+    fn point_breaks(&self, record: &[u8], counted: usize) -> bool {
+        let (step, name) = names(record);
+        !(name < counted && self.steps.has(step, u32_at(record, 4)))
+    }
+}
+
+/// Refusals 1 to 5, and the bytes of each table.
+fn tables(file: &[u8]) -> Result<[&[u8]; TABLES], Refusal> {
+    refuse_if(1, file.len() < HEADER)?;
+    refuse_if(2, u16_at(file, EDITION_AT) != EDITION)?;
+    refuse_if(3, u16_at(file, SERIAL_AT) > 1 || u16_at(file, ZERO_AT) != 0)?;
+    let counts = counts_in(file);
+    refuse_if(4, (0..TABLES).any(|table| counts[table] > HIGHEST[table]))?;
+    let (offsets, end) = layout(counts);
+    let written = offsets_in(file).map(|offset| offset as usize);
+    refuse_if(5, file.len() != end || written != offsets)?;
+    Ok(std::array::from_fn(|table| {
+        &file[offsets[table]..][..counts[table] * WIDTHS[table]]
+    }))
+}
+
+/// The step, and the fact or level.
+fn names(record: &[u8]) -> (usize, usize) {
+    (
+        usize::from(u16_at(record, 0)),
+        usize::from(u16_at(record, 2)),
+    )
+}
+
+fn level_breaks(level: &[u8; 12]) -> bool {
+    let (initial, least, most) = (i32_at(level, 0), i32_at(level, 4), i32_at(level, 8));
+    least < -1_000_000_000 || initial < least || most < initial || 1_000_000_000 < most
+}
+
+fn amount_breaks(amount: i32) -> bool {
+    amount == 0 || !(-1_000_000..=1_000_000).contains(&amount)
+}
+
+fn goal_breaks(goal: &[u8; 8], facts: usize) -> bool {
+    let deadline = u32_at(goal, 4);
+    usize::from(u16_at(goal, 0)) >= facts
+        || u16_at(goal, 2) > 1
+        || (deadline > 1_100_000 && deadline != NO_DEADLINE)
+}
+
+impl Steps {
+    fn read(table: &[u8]) -> Result<Steps, Refusal> {
+        let records = table.as_chunks::<10>().0;
+        let mut steps = Steps {
+            count: records.len(),
+            starts: [0; STEPS],
+            lengths: [0; STEPS],
+            fixed: 0,
+        };
+        for (number, step) in records.iter().enumerate() {
+            let (start, length, fixed) = (u32_at(step, 0), u32_at(step, 4), u16_at(step, 8));
+            let breaks = start > 1_000_000 || length > 100_000 || fixed > 1;
+            refuse_at(6, breaks.then_some(number))?;
+            steps.starts[number] = start as i32;
+            steps.lengths[number] = length as i32;
+            steps.fixed |= u64::from(fixed) << number;
+        }
+        Ok(steps)
+    }
+
+    /// Whether there is such a step, and such a point of it.
+    fn has(&self, step: usize, at: u32) -> bool {
+        step < self.count && at <= self.lengths[step] as u32
+    }
+
+    pub fn end(&self, step: usize) -> i32 {
+        self.starts[step] + self.lengths[step]
+    }
+
+    pub fn is_fixed(&self, step: usize) -> bool {
+        self.fixed >> step & 1 == 1
+    }
+
+    /// The steps by their starts, then by their ends, then by their numbers.
+    pub fn in_time(&self) -> [usize; STEPS] {
+        let mut keys: [u64; STEPS] = std::array::from_fn(|step| {
+            let (start, length) = (self.starts[step] as u64, self.lengths[step] as u64);
+            start << 32 | length << 8 | step as u64
+        });
+        keys[..self.count].sort_unstable();
+        keys.map(|key| (key & 63) as usize)
+    }
+}

@@ -1,0 +1,233 @@
+//! Refusals 7 and 10 to 14, and the links, which the walk along each fact meets anyway.
+
+use super::form::{Form, Steps, STEPS};
+use super::points::{Point, Points};
+use crate::bytes::{i32_at, u16_at, u32_at};
+use crate::order_file::{INITIAL_STATE, MOST_LINKS};
+use crate::refusal::{refuse_at, Verdict};
+
+/// One link a condition, then one a goal.
+pub type Links = [u16; MOST_LINKS];
+
+pub const UNLINKED: Links = [INITIAL_STATE; MOST_LINKS];
+
+/// Refuses a job that is not sound, else finds its links.
+pub fn link(form: &Form, points: &Points, links: &mut Links) -> Verdict {
+    let mut found = Found::default();
+    // What supports each fact in the end.
+    let mut ends = [INITIAL_STATE; 256];
+    for (fact, &initial) in form.facts.iter().enumerate() {
+        let effects = points.effects.group(fact);
+        found.meetings(effects);
+        let mut walk = Walk::new(initial, effects);
+        for &condition in points.conditions.group(fact) {
+            walk.pass_effects_before(condition.tick());
+            links[condition.number()] = walk.link;
+            found.condition(&mut walk, condition, form.last_tick(condition));
+        }
+        walk.pass_effects_before(i32::MAX);
+        ends[fact] = walk.link;
+    }
+    for level in 0..form.levels.len() {
+        found.level(form, level, points.uses.group(level));
+    }
+    found.refuse()?;
+    for (number, goal) in form.goals.iter().enumerate() {
+        let link = ends[usize::from(u16_at(goal, 0))];
+        refuse_at(13, goal_fails(form, goal, link).then_some(number))?;
+        links[form.conditions.len() + number] = link;
+    }
+    refuse_at(14, overlapping_step(form))
+}
+
+impl Form<'_> {
+    pub fn last_tick(&self, condition: Point) -> i32 {
+        let to = u32_at(&self.conditions[condition.number()], 8);
+        self.steps.starts[condition.step()] + to as i32
+    }
+
+    /// The effect that a link names, if it names one.
+    pub fn linked(&self, link: u16) -> Option<Effect> {
+        let effect = self.effects.get(usize::from(link))?;
+        let (step, at) = (usize::from(u16_at(effect, 0)), u32_at(effect, 4) as i32);
+        Some(Effect {
+            step,
+            at,
+            tick: self.steps.starts[step] + at,
+            value: u16_at(effect, 8),
+        })
+    }
+}
+
+pub struct Effect {
+    pub step: usize,
+    pub at: i32,
+    pub tick: i32,
+    value: u16,
+}
+
+// ---------------------------------------------------------------------------------------------
+// Along a fact
+
+/// A place in a fact's time: the value seen there and what supports it.
+struct Walk<'a> {
+    effects: &'a [Point],
+    passed: usize,
+    value: usize,
+    link: u16,
+    /// The next effect that opposes each value; it never goes back.
+    opposing: [usize; 2],
+}
+
+impl Walk<'_> {
+    fn new(initial: u8, effects: &[Point]) -> Walk<'_> {
+        Walk {
+            effects,
+            passed: 0,
+            value: usize::from(initial),
+            link: INITIAL_STATE,
+            opposing: [0; 2],
+        }
+    }
+
+    /// The first effect of a run that gives one value is what supports it.
+    fn pass_effects_before(&mut self, tick: i32) {
+        while let Some(effect) = self.effects.get(self.passed).filter(|e| e.tick() < tick) {
+            if effect.value() != self.value {
+                self.value = effect.value();
+                self.link = effect.number() as u16;
+            }
+            self.passed += 1;
+        }
+    }
+
+    /// What is still to come, from the first effect that opposes the value on.
+    fn opposing_on(&mut self, value: usize) -> &[Point] {
+        let mut next = self.opposing[value].max(self.passed);
+        while self.effects.get(next).is_some_and(|e| e.value() == value) {
+            next += 1;
+        }
+        self.opposing[value] = next;
+        &self.effects[next..]
+    }
+}
+
+// ---------------------------------------------------------------------------------------------
+// What is found, before it is known which number comes first
+
+#[derive(Default)]
+struct Found {
+    /// Refusal 7: one bit a step.
+    against_itself: u64,
+    /// Refusals 10 to 12: the lowest place.
+    meeting: Option<usize>,
+    condition: Option<usize>,
+    level: Option<usize>,
+}
+
+impl Found {
+    fn refuse(&self) -> Verdict {
+        let step = self.against_itself.trailing_zeros() as usize;
+        refuse_at(7, (step < STEPS).then_some(step))?;
+        refuse_at(10, self.meeting)?;
+        refuse_at(11, self.condition)?;
+        refuse_at(12, self.level)
+    }
+
+    /// Effects of one fact at one tick that oppose each other, of one step or of two.
+    fn meetings(&mut self, effects: &[Point]) {
+        let oppose =
+            |two: &[Point]| two[0].tick() == two[1].tick() && two[0].value() != two[1].value();
+        if effects.windows(2).any(oppose) {
+            for at_one_tick in effects.chunk_by(|a, b| a.tick() == b.tick()) {
+                self.meetings_at_one_tick(at_one_tick);
+            }
+        }
+    }
+
+    fn meetings_at_one_tick(&mut self, effects: &[Point]) {
+        let mut setting = [0; 2];
+        for effect in effects {
+            setting[effect.value()] |= effect.step_bit();
+        }
+        self.against_itself |= setting[0] & setting[1];
+        let meets = |e: &&Point| setting[1 - e.value()] & !e.step_bit() != 0;
+        if let Some(effect) = effects.iter().find(meets) {
+            lower(&mut self.meeting, effect.number());
+        }
+    }
+
+    /// The walk stands at the condition's first tick.
+    fn condition(&mut self, walk: &mut Walk, condition: Point, last: i32) {
+        let wanted = condition.value();
+        if walk.value != wanted {
+            lower(&mut self.condition, condition.number());
+        }
+        for effect in walk.opposing_on(wanted) {
+            if effect.tick() > last {
+                break;
+            }
+            if effect.value() == wanted {
+                continue;
+            }
+            if effect.step() != condition.step() {
+                lower(&mut self.condition, condition.number());
+            } else if effect.tick() < last {
+                self.against_itself |= condition.step_bit();
+            }
+        }
+    }
+
+    /// Falls do not wait for the tick's rises, nor rises for its falls.
+    fn level(&mut self, form: &Form, number: usize, uses: &[Point]) {
+        let level = &form.levels[number];
+        let (mut amount, least, most) = (i32_at(level, 0), i32_at(level, 4), i32_at(level, 8));
+        for at_one_tick in uses.chunk_by(|a, b| a.tick() == b.tick()) {
+            let (mut falls, mut rises, mut users) = (0, 0, 0);
+            for used in at_one_tick {
+                let change = i32_at(&form.uses[used.number()], 8);
+                falls += change.min(0);
+                rises += change.max(0);
+                self.against_itself |= users & used.step_bit();
+                users |= used.step_bit();
+            }
+            if amount + falls < least || amount + rises > most {
+                lower(&mut self.level, number);
+            }
+            amount += falls + rises;
+        }
+    }
+}
+
+fn lower(lowest: &mut Option<usize>, number: usize) {
+    *lowest = Some(lowest.map_or(number, |before| before.min(number)));
+}
+
+// ---------------------------------------------------------------------------------------------
+// Goals and serial steps
+
+/// A goal holds from the tick after its link on, so the link must not come after the deadline.
+fn goal_fails(form: &Form, goal: &[u8; 8], link: u16) -> bool {
+    let (fact, value, deadline) = (u16_at(goal, 0), u16_at(goal, 2), u32_at(goal, 4));
+    match form.linked(link) {
+        Some(effect) => effect.value != value || effect.tick as u32 > deadline,
+        None => u16::from(form.facts[usize::from(fact)]) != value,
+    }
+}
+
+/// Neighbours in time tell whether any two overlap.
+fn overlapping_step(form: &Form) -> Option<usize> {
+    let steps = &form.steps;
+    if !form.serial {
+        return None;
+    }
+    let in_time = &steps.in_time()[..steps.count];
+    if !in_time.windows(2).any(|two| overlap(steps, two[0], two[1])) {
+        return None;
+    }
+    (0..steps.count).find(|&a| (0..steps.count).any(|b| a != b && overlap(steps, a, b)))
+}
+
+fn overlap(steps: &Steps, a: usize, b: usize) -> bool {
+    steps.end(a) > steps.starts[b] && steps.end(b) > steps.starts[a]
+}

@@ -1,0 +1,128 @@
+//! The tuned check and loosening answer as the literal ones do, byte for byte.
+
+use std::collections::BTreeSet;
+
+use reference::job::Job;
+use reference::loosen::{loosen, order_file_of};
+use reference::made::made_case;
+use reference::make::bench_jobs::{bench_job, SPREADS};
+use reference::make::edges::edges;
+use reference::make::highest::{chain_of_all_steps, every_pair_ordered_both_ways, highest_job};
+use reference::make::own_conflicts::own_conflicts;
+use reference::make::sound::{sound_job, Shape};
+use reference::make::telling::telling_jobs;
+use reference::make::{damage, near_miss::near_miss};
+use reference::random::Random;
+use reference::refusal::number_and_place;
+use reference::timing::check_job;
+use reference::tuned;
+
+/// Both answers to one job, in buffers of the file's length, one byte less, and some more. Gives
+/// the number of the job check.
+fn compare(job: &[u8]) -> u16 {
+    let checked = number_and_place(&check_job(job));
+    assert_eq!(tuned::check(job), checked);
+    let length = order_file_of(job).map_or(20, |file| file.to_file().len());
+    for length in [0, length - 1, length, length + 9] {
+        let (mut expected, mut buffer) = (vec![165; length], vec![165; length]);
+        let answer = loosen(job, &mut expected);
+        let tuned = tuned::partialize(job, &mut buffer);
+        assert_eq!(tuned, (answer.number, answer.place, answer.length));
+        assert_eq!(buffer, expected);
+    }
+    checked.0
+}
+
+fn compare_all<'a>(jobs: impl IntoIterator<Item = &'a Job>) {
+    for job in jobs {
+        compare(&job.to_file());
+    }
+}
+
+#[test]
+fn on_jobs_that_tell_and_jobs_at_the_edges() {
+    compare_all(telling_jobs().iter().map(|(_, job)| job));
+    compare_all(&edges());
+    compare_all(&own_conflicts());
+}
+
+#[test]
+fn on_damaged_jobs() {
+    let file = damage::full_job().to_file();
+    for file in [
+        damage::too_short(&file),
+        damage::layouts(&file),
+        damage::each_byte(&file),
+        damage::pairs_of_refusals(),
+    ]
+    .concat()
+    {
+        compare(&file);
+    }
+    compare_all(&damage::ranges(&damage::full_job()));
+    compare_all(&damage::two_broken_records());
+    compare_all(&damage::counts_at_highest());
+    compare_all(&damage::counts_one_above());
+}
+
+#[test]
+fn on_made_jobs_with_every_refusal() {
+    let mut random = Random::seeded(7);
+    let mut numbers = BTreeSet::new();
+    for _ in 0..1_500 {
+        for command in ['w', 'c', 'l'] {
+            let case = made_case(&mut random, command);
+            numbers.insert(compare(&case.fields[0]));
+        }
+    }
+    for number in 10..=14 {
+        numbers.insert(compare(&near_miss(&mut random, number).to_file()));
+    }
+    let of_the_job_check = (0..=7).chain(10..=14);
+    assert_eq!(numbers, of_the_job_check.collect());
+}
+
+/// Enough points on a fact and a level for rows instead of pairs.
+#[test]
+fn on_jobs_crowded_into_few_ticks() {
+    let mut random = Random::seeded(11);
+    for number in 0..60 {
+        let shape = Shape {
+            serial: false,
+            facts: 1 + number % 2,
+            levels: 1,
+            steps: 12,
+            conditions: 60,
+            effects: 90,
+            uses: 60,
+            goals: 3,
+            last_start: 40,
+            longest: 20,
+            fixed_percent: 5,
+        };
+        let mut job = sound_job(&mut random, &shape);
+        assert_eq!(compare(&job.to_file()), 0);
+        let moved = random.below(job.steps.len());
+        job.steps[moved].start += 1;
+        compare(&job.to_file());
+    }
+}
+
+#[test]
+fn on_jobs_as_large_as_jobs_can_be() {
+    compare_all(&[every_pair_ordered_both_ways(), chain_of_all_steps()]);
+    compare_all(&[1, 8, 256].map(|facts| highest_job(3, facts)));
+}
+
+#[test]
+fn bench_jobs_are_sound_and_full() {
+    for spread in SPREADS {
+        for steps in [8, 16, 32, 64] {
+            let job = bench_job(spread, steps);
+            assert_eq!(compare(&job.to_file()), 0, "{}", spread.name());
+            let [_, _, held, conditions, effects, uses, goals] = job.counts();
+            let full = [steps, 8 * steps, 8 * steps, 4 * steps, steps / 2];
+            assert_eq!([held, conditions, effects, uses, goals], full);
+        }
+    }
+}
