@@ -12,16 +12,16 @@ use Rattle.job.specs.WellFormed.{WellFormed}
 use Rattle.schedule.specs.Valid.{Valid}
 use Rattle.order_file.specs.Contents.{Contents}
 use Rattle.order_file.specs.Agree.{Agree}
-use Rattle.partialize.specs.Gaps.{gapOf}
-use Rattle.partialize.specs.Windows.{limitOf}
-use Rattle.partialize.specs.Rounds.{after, unchanged}
+use Rattle.orders.specs.Gaps.{gapOf}
+use Rattle.orders.specs.Windows.{limitOf}
+use Rattle.orders.specs.Rounds.{after, unchanged}
 use Rattle.partialize.specs.Table.{gapBias, single}
 use Rattle.partialize.specs.File.{roundsOf, ordered, pairOf, fileOf}
 use Rattle.partialize.specs.Demands.{filedGap, settledAfter}
-use Rattle.partialize.proofs.Rounds.{rounds-some, last-unchanged, earlier-changes}
-use Rattle.partialize.proofs.Same.{unchanged-same}
+use Rattle.orders.proofs.Rounds.{rounds-some, last-unchanged, earlier-changes}
+use Rattle.orders.proofs.Same.{unchanged-same}
 use Rattle.partialize.proofs.Raised.{single-at, single-le}
-use Rattle.partialize.proofs.Planned.{planned-obeys}
+use Rattle.orders.proofs.Planned.{planned-obeys}
 use Rattle.partialize.proofs.Satisfied.{pair-filed, obeys-satisfied}
 
 module _ (m : Model) (x : ℕ → ℕ) (w : WellFormed m) where

@@ -17,8 +17,8 @@ use Rattle.job.specs.WellFormed.{WellFormed}
 use Rattle.order_file.specs.Contents.{Contents}
 use Rattle.order_file.specs.Encode.{headerBytes, windowBytes, orderBytes, linkBytes, gapBits, upToWindow, upToOrder, upToLink, encode}
 use Rattle.order_file.specs.Agree.{Agree}
-use Rattle.partialize.specs.Links.{linkAt}
-use Rattle.partialize.specs.Gaps.{gapOf}
+use Rattle.orders.specs.Links.{linkAt}
+use Rattle.orders.specs.Gaps.{gapOf}
 use Rattle.partialize.specs.File.{ordered, pairOf, fileOf}
 use Rattle.partialize.specs.Held.{entered, heldIn, Holds}
 use Rattle.partialize.proofs.Satisfied.{ordered-out, pair-ordered}

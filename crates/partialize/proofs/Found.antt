@@ -13,15 +13,15 @@ use Rattle.order_file.specs.Encode.{encode}
 use Rattle.order_file.specs.Layout.{fileLength}
 use Rattle.order_file.proofs.Encode.{length-encode}
 use Rattle.partialize.specs.declared.answer.Answer.the-variants.{Filed, BufferTooShort}
-use Rattle.partialize.specs.Links.{conditionLink, goalLink, linkAt}
-use Rattle.partialize.specs.Gaps.{gapOf}
-use Rattle.partialize.specs.Windows.{limitOf, latestOf}
-use Rattle.partialize.specs.Rounds.{rounds, earliest}
+use Rattle.orders.specs.Links.{conditionLink, goalLink, linkAt}
+use Rattle.orders.specs.Gaps.{gapOf}
+use Rattle.orders.specs.Windows.{limitOf, latestOf}
+use Rattle.orders.specs.Rounds.{rounds, earliest}
 use Rattle.partialize.specs.Table.{gapBias, gapIn, startIn, Filled, TableOf, LinksOf}
 use Rattle.partialize.specs.File.{fileOf}
 use Rattle.partialize.specs.Held.{entered, heldIn, over, NoneFrom, Holds}
 use Rattle.partialize.specs.Demands.{Written}
-use Rattle.partialize.proofs.Same.{rounds-same, earliest-same}
+use Rattle.orders.proofs.Same.{rounds-same, earliest-same}
 use Rattle.partialize.proofs.Filed.{held-file}
 
 -- a table of n steps has no order from a later one

@@ -9,10 +9,10 @@ use lib.ListN.{getD}
 use Rattle.job.specs.Model.{Model}
 use Rattle.job.specs.WellFormed.{WellFormed}
 use Rattle.schedule.specs.Valid.{Valid}
-use Rattle.partialize.specs.Links.{initialState, conditionLink, goalLink, linkAt}
-use Rattle.partialize.specs.Gaps.{strictly, supportOrder}
+use Rattle.orders.specs.Links.{initialState, conditionLink, goalLink, linkAt}
+use Rattle.orders.specs.Gaps.{strictly, supportOrder}
 use Rattle.partialize.specs.Table.{single, LinksOf, Named}
-use Rattle.partialize.proofs.Links.{Linked, initially, produced, condition-linked}
+use Rattle.orders.proofs.Links.{Linked, initially, produced, condition-linked}
 
 module _ (m : Model) (x : ℕ → ℕ) (links : List ℕ) (w : LinksOf m x links) where
   pub condition-link : (c : ℕ) → c < m .conditions → getD links c 0 ≡ conditionLink m x c

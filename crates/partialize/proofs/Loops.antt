@@ -13,8 +13,8 @@ use lib.Dec.{eqb}
 use Rattle.laws.specs.Search.{all, lowest}
 use Rattle.laws.proofs.Search.{all-cong, lowest-start, lowest-more, lowest-found, lowest-end}
 use Rattle.partialize.specs.Table.{gapBias, gapIn, startIn, Gaps, Bounded, Filled}
-use Rattle.partialize.specs.Rounds.{demand, raised, after, unchanged, rounds, earliest, Given}
-use Rattle.partialize.proofs.Rounds.{demand-most, raised-zero, raised-more, raised-ge, raised-demand, raised-le, raised-cong, after-most}
+use Rattle.orders.specs.Rounds.{demand, raised, after, unchanged, rounds, earliest, Given}
+use Rattle.orders.proofs.Rounds.{demand-most, raised-zero, raised-more, raised-ge, raised-demand, raised-le, raised-cong, after-most}
 
 -- A loop that stores f i at each i has filled the starts below i.
 module _ (f : ℕ → ℕ) (before : List ℕ) where

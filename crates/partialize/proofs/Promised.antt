@@ -30,13 +30,13 @@ use Rattle.order_file.proofs.WellFormed.{encode-well-formed}
 use Rattle.partialize.specs.declared.answer.Answer.{Answer}
 use Rattle.partialize.specs.declared.answer.Answer.the-variants.{Filed, Refused, BufferTooShort}
 use Rattle.partialize.specs.Answer.{number, lengthOf}
-use Rattle.partialize.specs.Obeys.{Obeys}
+use Rattle.orders.specs.Obeys.{Obeys}
 use Rattle.partialize.specs.File.{earliestOf, fileOf}
 use Rattle.partialize.specs.Held.{over}
 use Rattle.partialize.specs.Partialization.{looseOf, fileBytes, accepts, fits, answerTo, bufferAfter}
 use Rattle.partialize.specs.Demands.{Exact, Loose, Written, Promise}
-use Rattle.partialize.proofs.Sound.{obeying-valid}
-use Rattle.partialize.proofs.End.{same-end}
+use Rattle.orders.proofs.Sound.{obeying-valid}
+use Rattle.orders.proofs.End.{same-end}
 use Rattle.partialize.proofs.Satisfied.{satisfies-obeys, planned-satisfies, earliest-first, earliest-planned, earliest-satisfies}
 use Rattle.partialize.proofs.Within.{file-within}
 use Rattle.partialize.proofs.Counted.{some-counted, last-counted, earlier-counted}

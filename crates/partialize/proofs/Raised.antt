@@ -13,7 +13,7 @@ use lib.ListN.{length, getD, set, length-set}
 use lib.Seq.{getD-set-same, getD-set-other}
 use Rattle.laws.specs.Fold.{largest}
 use Rattle.laws.proofs.Fold.{largest-ge, largest-le}
-use Rattle.schedule.proofs.Steps.{counted-le}
+use Rattle.orders.proofs.Near.{counted-le}
 use Rattle.partialize.specs.Table.{gapIn, Gaps, single, Raised, TableOf}
 use Rattle.partialize.proofs.Chosen.{eqb-same}
 

@@ -13,14 +13,14 @@ use Rattle.job.specs.Model.{Model}
 use Rattle.job.specs.WellFormed.{WellFormed}
 use Rattle.schedule.specs.Valid.{Valid}
 use Rattle.order_file.specs.Satisfies.{Satisfies}
-use Rattle.partialize.specs.Gaps.{gapOf}
-use Rattle.partialize.specs.Windows.{limitOf}
-use Rattle.partialize.specs.Obeys.{Obeys}
-use Rattle.partialize.specs.Rounds.{demand, Satisfied}
+use Rattle.orders.specs.Gaps.{gapOf}
+use Rattle.orders.specs.Windows.{limitOf}
+use Rattle.orders.specs.Obeys.{Obeys}
+use Rattle.orders.specs.Rounds.{demand, Satisfied}
 use Rattle.partialize.specs.Table.{gapBias}
 use Rattle.partialize.specs.File.{earliestOf, ordered, pairOf, fileOf}
-use Rattle.partialize.proofs.Rounds.{earliest-satisfied, earliest-least}
-use Rattle.partialize.proofs.Planned.{planned-obeys}
+use Rattle.orders.proofs.Rounds.{earliest-satisfied, earliest-least}
+use Rattle.orders.proofs.Planned.{planned-obeys}
 
 module _ (m : Model) (x : ℕ → ℕ) where
   ordered-in : (i k q : ℕ) → q / 64 ≡ i → q % 64 ≡ k → i < m .steps → k < m .steps → (gapOf m x i k ≡ 0 → ⊥) → ordered m x q ≡ true

@@ -27,10 +27,10 @@ use Rattle.schedule.specs.Ticks.{planned}
 use Rattle.schedule.specs.Seen.{setAt, lastSet, seen, afterAll}
 use Rattle.schedule.specs.Levels.{risesBefore, fallsBefore}
 use Rattle.schedule.specs.Checks.{meets, conflicts, breaks, conditionFails, passes, levelFails, undoes, late, goalFails, overlaps, crowded, ruleCheck, timingCheck, jobCheck}
-use Rattle.partialize.specs.Links.{producer, earliestProduced, supporter, linkOf, conditionLink, goalLink, linkAt}
-use Rattle.partialize.specs.Gaps.{supportOrder, supportGap, opposingOrder, opposingGap, beforeOrder, afterOrder, conditionGap, levelOrder, levelGap, serialGap, gapOf}
-use Rattle.partialize.specs.Windows.{limitOf, allowed, latestOf}
-use Rattle.partialize.specs.Rounds.{demand, raised, after, unchanged, rounds, earliest}
+use Rattle.orders.specs.Links.{producer, earliestProduced, supporter, linkOf, conditionLink, goalLink, linkAt}
+use Rattle.orders.specs.Gaps.{supportOrder, supportGap, opposingOrder, opposingGap, beforeOrder, afterOrder, conditionGap, levelOrder, levelGap, serialGap, gapOf}
+use Rattle.orders.specs.Windows.{limitOf, allowed, latestOf}
+use Rattle.orders.specs.Rounds.{demand, raised, after, unchanged, rounds, earliest}
 use Rattle.partialize.specs.File.{ordered, fileOf}
 use Rattle.partialize.specs.Starred.{fact, level, step, condition, effect, usage, goal, joined, offsets, tablesOf, jobBytes, Order, order, Answer, refused, accepted, listed, windowOf, orderOf, said, answer, answerTo, Case, small, nothing, levelled, serially, starred}
 

@@ -18,16 +18,16 @@ use Rattle.job.specs.WellFormed.{WellFormed}
 use Rattle.schedule.specs.Ticks.{finish, opposes}
 use Rattle.schedule.specs.Valid.{Valid}
 use Rattle.order_file.specs.Within.{Within}
-use Rattle.partialize.specs.Links.{initialState, conditionLink, goalLink, linkAt}
-use Rattle.partialize.specs.Gaps.{strictly, supportOrder, supportGap, opposingOrder, opposingGap, beforeOrder, afterOrder, conditionGap, levelOrder, levelGap, serialGap, gapOf}
-use Rattle.partialize.specs.Windows.{noLatest, limitOf, allowed, latestOf}
-use Rattle.partialize.specs.Rounds.{after, earliest, rounds}
+use Rattle.orders.specs.Links.{initialState, conditionLink, goalLink, linkAt}
+use Rattle.orders.specs.Gaps.{strictly, supportOrder, supportGap, opposingOrder, opposingGap, beforeOrder, afterOrder, conditionGap, levelOrder, levelGap, serialGap, gapOf}
+use Rattle.orders.specs.Windows.{noLatest, limitOf, allowed, latestOf}
+use Rattle.orders.specs.Rounds.{after, earliest, rounds}
 use Rattle.partialize.specs.Table.{gapBias}
 use Rattle.partialize.specs.File.{roundsOf, earliestOf, ordered, pairOf, fileOf}
-use Rattle.partialize.proofs.Rounds.{demand-most, raised-le, after-above, rounds-le}
-use Rattle.partialize.proofs.Links.{Linked, initially, produced, condition-linked, goal-linked}
-use Rattle.partialize.proofs.Limits.{limit-fixed, limit-free, latest-fixed, latest-free}
-use Rattle.partialize.proofs.Planned.{planned-obeys}
+use Rattle.orders.proofs.Rounds.{demand-most, raised-le, after-above, rounds-le}
+use Rattle.orders.proofs.Links.{Linked, initially, produced, condition-linked, goal-linked}
+use Rattle.orders.proofs.Limits.{limit-fixed, limit-free, latest-fixed, latest-free}
+use Rattle.orders.proofs.Planned.{planned-obeys}
 use Rattle.partialize.proofs.Satisfied.{ordered-out, pair-ordered, earliest-planned}
 
 -- a gap from a point at most 100,000 ticks from its start, if it is chosen

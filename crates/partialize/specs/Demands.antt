@@ -21,7 +21,7 @@ use Rattle.order_file.specs.Satisfies.{SatisfiesFile}
 use Rattle.partialize.specs.declared.answer.Answer.{Answer}
 use Rattle.partialize.specs.declared.answer.Answer.the-variants.{Filed, BufferTooShort}
 use Rattle.partialize.specs.Answer.{number, lengthOf}
-use Rattle.partialize.specs.Rounds.{after, unchanged}
+use Rattle.orders.specs.Rounds.{after, unchanged}
 use Rattle.partialize.specs.Table.{gapBias, single}
 use Rattle.partialize.specs.Held.{over}
 use Rattle.partialize.specs.Partialization.{looseOf, answerTo, bufferAfter}

@@ -5,10 +5,10 @@ use lib.Dec.{ltb, eqb}
 use Rattle.laws.specs.Nth.{count, nth}
 use Rattle.job.specs.Model.{Model}
 use Rattle.order_file.specs.Contents.{Contents}
-use Rattle.partialize.specs.Links.{linkAt}
-use Rattle.partialize.specs.Gaps.{gapOf}
-use Rattle.partialize.specs.Windows.{limitOf, latestOf}
-use Rattle.partialize.specs.Rounds.{rounds, earliest}
+use Rattle.orders.specs.Links.{linkAt}
+use Rattle.orders.specs.Gaps.{gapOf}
+use Rattle.orders.specs.Windows.{limitOf, latestOf}
+use Rattle.orders.specs.Rounds.{rounds, earliest}
 use Rattle.partialize.specs.Table.{gapBias}
 
 -- "The rounds end with the first that changes nothing"

@@ -11,9 +11,9 @@ use Rattle.job.specs.Model.{Model}
 use Rattle.order_file.specs.Contents.{Contents}
 use Rattle.order_file.specs.Layout.{windowsAt, ordersAt, linksAt, fileLength}
 use Rattle.order_file.specs.Encode.{gapBits}
-use Rattle.partialize.specs.Links.{conditionLink, goalLink}
-use Rattle.partialize.specs.Gaps.{gapOf}
-use Rattle.partialize.specs.Windows.{limitOf, latestOf}
+use Rattle.orders.specs.Links.{conditionLink, goalLink}
+use Rattle.orders.specs.Gaps.{gapOf}
+use Rattle.orders.specs.Windows.{limitOf, latestOf}
 use Rattle.partialize.specs.Table.{gapIn, startIn}
 use Rattle.partialize.specs.File.{roundsOf, earliestOf}
 

@@ -8,8 +8,8 @@ use lib.ListN.{length, getD}
 use lib.Dec.{ltb, eqb}
 use Rattle.laws.specs.Fold.{least}
 use Rattle.job.specs.Model.{Model}
-use Rattle.partialize.specs.Links.{initialState, linkAt}
-use Rattle.partialize.specs.Windows.{noLatest, allowed}
+use Rattle.orders.specs.Links.{initialState, linkAt}
+use Rattle.orders.specs.Windows.{noLatest, allowed}
 
 -- what is added to every gap
 abbrev pub gapBias : ℕ

@@ -6,7 +6,7 @@ ghost use Rattle.job.specs.Model.{view};
 ghost use Rattle.job.specs.WellFormed.{WellFormed};
 ghost use Rattle.schedule.specs.Ticks.{scheduleOf};
 ghost use Rattle.schedule.specs.Valid.{Valid};
-ghost use Rattle.partialize.specs.Gaps.{gapOf};
+ghost use Rattle.orders.specs.Gaps.{gapOf};
 ghost use Rattle.partialize.specs.Table.{Gaps, TableOf, LinksOf};
 ghost use Rattle.partialize.specs.File.{fileOf};
 ghost use Rattle.partialize.specs.Held.{NoneFrom};

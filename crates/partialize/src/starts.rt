@@ -3,7 +3,7 @@ ghost use mathlib.Core.Path.{_≡_};
 ghost use Prim.Native.Nat.{max, _-_, _≤_, _<_};
 ghost use lib.Dec.{eqb};
 ghost use Rattle.laws.specs.Search.{all};
-ghost use Rattle.partialize.specs.Rounds.{demand, raised, rounds, earliest, Given};
+ghost use Rattle.orders.specs.Rounds.{demand, raised, rounds, earliest, Given};
 ghost use Rattle.partialize.specs.Table.{gapBias, gapIn, startIn, Gaps, Bounded, Filled};
 
 // A table entry for no order.

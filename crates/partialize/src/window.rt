@@ -6,7 +6,7 @@ ghost use lib.ListN.{length};
 ghost use lib.Dec.{eqb};
 ghost use Rattle.job.specs.Model.{view};
 ghost use Rattle.job.specs.WellFormed.{WellFormed};
-ghost use Rattle.partialize.specs.Windows.{noLatest, limitOf, latestOf};
+ghost use Rattle.orders.specs.Windows.{noLatest, limitOf, latestOf};
 ghost use Rattle.partialize.specs.Table.{startIn, LinksOf, Bounded, LatestBy};
 use crate::starts::Starts;
 use crate::support::INITIAL;

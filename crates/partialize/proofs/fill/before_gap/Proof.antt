@@ -2,8 +2,8 @@
 use mathlib.Core.Path.{refl, ap₂, _∙_}
 use mathlib.Core.Bool.{_&&_}
 use lib.Dec.{ltb}
-use Rattle.partialize.specs.Gaps.{strictly, beforeOrder}
-use Rattle.partialize.proofs.Near.{effect-near, from-near}
+use Rattle.orders.specs.Gaps.{strictly, beforeOrder}
+use Rattle.orders.proofs.Near.{effect-near, from-near}
 use Rattle.partialize.proofs.Chosen.{eqb-same, chosen-yes, chosen-no}
 use borrow.Author.Needs.{needs}
 use native.Mathlib.Omega.{arith}

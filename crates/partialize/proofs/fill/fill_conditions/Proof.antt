@@ -4,7 +4,7 @@ use Prim.Native.Nat.{max}
 use Rattle.laws.specs.Fold.{largest}
 use Rattle.job.specs.Model.{view}
 use Rattle.schedule.specs.Ticks.{scheduleOf}
-use Rattle.partialize.specs.Gaps.{beforeOrder, afterOrder, conditionGap}
+use Rattle.orders.specs.Gaps.{beforeOrder, afterOrder, conditionGap}
 use Rattle.partialize.specs.Table.{Raised}
 use Rattle.partialize.proofs.Raised.{raised-start, raised-more, raised-end, raised-then}
 use native.Mathlib.Omega.{arith}

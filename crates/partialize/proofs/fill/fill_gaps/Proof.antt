@@ -1,5 +1,5 @@
 -- The rules one after the other.
-use Rattle.partialize.specs.Gaps.{gapOf}
+use Rattle.orders.specs.Gaps.{gapOf}
 use Rattle.partialize.proofs.Raised.{raised-then, empty-gaps, table-of}
 use Rattle.partialize.proofs.LinkList.{valid-named}
 use borrow.Author.Needs.{needs}

@@ -2,7 +2,7 @@
 use Prim.Native.Nat.{ℕ, _≤_, _-_}
 use Rattle.laws.specs.Fold.{largest}
 use Rattle.job.specs.Model.{view}
-use Rattle.partialize.specs.Gaps.{supportOrder, supportGap}
+use Rattle.orders.specs.Gaps.{supportOrder, supportGap}
 use Rattle.partialize.specs.Table.{Gaps, Raised, LinksOf}
 use Rattle.partialize.proofs.Raised.{raised-start, raised-more, raised-end}
 use native.Mathlib.Omega.{arith}

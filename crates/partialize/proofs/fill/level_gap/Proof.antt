@@ -2,8 +2,8 @@
 use mathlib.Core.Path.{refl, ap₂, _∙_}
 use mathlib.Core.Bool.{_&&_}
 use lib.Dec.{eqb, ltb}
-use Rattle.partialize.specs.Gaps.{strictly, levelOrder}
-use Rattle.partialize.proofs.Near.{use-near}
+use Rattle.orders.specs.Gaps.{strictly, levelOrder}
+use Rattle.orders.proofs.Near.{use-near}
 use Rattle.partialize.proofs.Chosen.{eqb-same, chosen-yes, chosen-no}
 use borrow.Author.Needs.{needs}
 use native.Mathlib.Omega.{arith}

@@ -3,7 +3,7 @@ use Prim.Native.Nat.{_≤_, _-_}
 use Rattle.laws.specs.Fold.{largest}
 use Rattle.job.specs.Model.{view}
 use Rattle.schedule.specs.Ticks.{scheduleOf}
-use Rattle.partialize.specs.Gaps.{opposingOrder}
+use Rattle.orders.specs.Gaps.{opposingOrder}
 use Rattle.partialize.specs.Table.{Raised}
 use Rattle.partialize.proofs.Raised.{single-order, raised-start, raised-order, raised-end}
 use borrow.Author.Needs.{needs}

@@ -3,7 +3,7 @@ use Prim.Native.Nat.{_≤_, _-_}
 use Rattle.laws.specs.Fold.{largest}
 use Rattle.job.specs.Model.{view}
 use Rattle.schedule.specs.Ticks.{scheduleOf}
-use Rattle.partialize.specs.Gaps.{serialGap}
+use Rattle.orders.specs.Gaps.{serialGap}
 use Rattle.partialize.specs.Table.{single, Raised}
 use Rattle.partialize.proofs.Raised.{raised-start, raised-order, raised-end}
 use native.Mathlib.Omega.{arith}

@@ -1,7 +1,7 @@
 -- The link read from the list is the condition's.
 use mathlib.Core.Path.{ap₂, _∙_}
-use Rattle.partialize.specs.Gaps.{strictly}
-use Rattle.partialize.proofs.Near.{effect-near, from-near}
+use Rattle.orders.specs.Gaps.{strictly}
+use Rattle.orders.proofs.Near.{effect-near, from-near}
 use Rattle.partialize.proofs.Raised.{raised-none, raised-one}
 use Rattle.partialize.proofs.LinkList.{condition-link, support-none, support-order}
 use borrow.Author.Needs.{needs}

@@ -3,7 +3,7 @@ use mathlib.Core.Path.{refl}
 use mathlib.Core.Path.{ap}
 use Prim.Native.Nat.{_+_}
 use Rattle.partialize.proofs.Chosen.{chosen-yes, chosen-no}
-use Rattle.partialize.specs.Gaps.{serialGap}
+use Rattle.orders.specs.Gaps.{serialGap}
 use borrow.Author.Needs.{needs}
 use native.Mathlib.Omega.{arith}
 use Rattle.partialize.proofs.fill.serial_gap.Statement.{statement}

@@ -3,7 +3,7 @@ use Prim.Native.Nat.{_+_, _*_}
 use native.Mathlib.Omega.{arith}
 use borrow.Author.Needs.{needs}
 use borrow.Author.Tests.{eq-eqb, ne-eqb}
-use Rattle.partialize.specs.Rounds.{demand}
+use Rattle.orders.specs.Rounds.{demand}
 use Rattle.partialize.proofs.starts.demanded.Statement.{statement}
 use Rattle.partialize.proofs.starts.demanded.Tie as tie
 

@@ -1,7 +1,7 @@
 -- Rounds until the first that changes nothing.
 use Prim.Native.Nat.{_-_}
 use native.Mathlib.Omega.{arith}
-use Rattle.partialize.specs.Rounds.{Given}
+use Rattle.orders.specs.Rounds.{Given}
 use Rattle.partialize.specs.Table.{gapBias, gapIn, startIn}
 use Rattle.partialize.proofs.Loops.{Reached, reached-start, reached-more, reached-last, reached-end, reached-bounded, given-start, given-more}
 use Rattle.partialize.proofs.starts.earliest_starts.Statement.{statement}

@@ -2,7 +2,7 @@
 use Prim.Native.Nat.{_≤_, _-_, max}
 use native.Mathlib.Omega.{arith}
 use borrow.Author.Needs.{needs}
-use Rattle.partialize.specs.Rounds.{demand}
+use Rattle.orders.specs.Rounds.{demand}
 use Rattle.partialize.specs.Table.{gapBias, gapIn, startIn, Filled}
 use Rattle.partialize.proofs.Loops.{filled-start, filled-more, filled-end, unbiased}
 use Rattle.partialize.proofs.starts.raise_row.Statement.{statement}

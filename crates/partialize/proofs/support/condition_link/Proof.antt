@@ -1,5 +1,5 @@
 -- The link of the condition's fact and value.
-use Rattle.partialize.specs.Links.{conditionLink}
+use Rattle.orders.specs.Links.{conditionLink}
 use borrow.Author.Needs.{needs}
 use Rattle.partialize.proofs.support.condition_link.Statement.{statement}
 use Rattle.partialize.proofs.support.condition_link.Tie as tie

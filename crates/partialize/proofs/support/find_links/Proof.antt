@@ -2,7 +2,7 @@
 use Prim.Native.Nat.{_≤_, _-_}
 use Rattle.job.specs.Model.{view}
 use Rattle.schedule.specs.Ticks.{scheduleOf}
-use Rattle.partialize.specs.Links.{linkAt}
+use Rattle.orders.specs.Links.{linkAt}
 use Rattle.partialize.specs.Table.{Filled}
 use Rattle.partialize.proofs.Loops.{filled-start, filled-more, filled-end}
 use borrow.Author.Needs.{needs}

@@ -1,5 +1,5 @@
 -- The link of the goal's fact and value.
-use Rattle.partialize.specs.Links.{goalLink}
+use Rattle.orders.specs.Links.{goalLink}
 use borrow.Author.Needs.{needs}
 use Rattle.partialize.proofs.support.goal_link.Statement.{statement}
 use Rattle.partialize.proofs.support.goal_link.Tie as tie

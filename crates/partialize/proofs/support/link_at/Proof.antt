@@ -1,6 +1,6 @@
 -- Conditions come first.
 use borrow.Author.Tests.{lt-ltb, le-ltb}
-use Rattle.partialize.specs.Links.{linkAt}
+use Rattle.orders.specs.Links.{linkAt}
 use borrow.Author.Needs.{needs}
 use Rattle.partialize.proofs.support.link_at.Statement.{statement}
 use Rattle.partialize.proofs.support.link_at.Tie as tie

@@ -2,7 +2,7 @@
 use mathlib.Core.Path.{refl, ap, ap₂}
 use mathlib.Core.Bool.{_&&_}
 use lib.Dec.{eqb}
-use Rattle.partialize.specs.Links.{producer, earliestProduced, supporter, linkOf}
+use Rattle.orders.specs.Links.{producer, earliestProduced, supporter, linkOf}
 use Rattle.partialize.proofs.Chosen.{chosen-yes, chosen-no}
 use borrow.Author.Needs.{needs}
 use Rattle.partialize.proofs.support.link_of.Statement.{statement}

@@ -4,7 +4,7 @@ use mathlib.Core.Path.{_≡_}
 use lib.ListN.{length}
 use Rattle.job.specs.Model.{view}
 use Rattle.partialize.specs.Table.{LinksOf, LatestBy}
-use Rattle.partialize.proofs.Limits.{latest-all}
+use Rattle.partialize.proofs.Latest.{latest-all}
 use borrow.Author.Needs.{needs}
 use native.Mathlib.Omega.{arith}
 use Rattle.partialize.proofs.window.latest_starts.Statement.{statement}

@@ -1,7 +1,7 @@
 -- The fixed mark decides.
 use mathlib.Core.Path.{sym, _∙_}
 use borrow.Author.Tests.{eq-eqb, ne-eqb}
-use Rattle.partialize.specs.Windows.{limitOf}
+use Rattle.orders.specs.Windows.{limitOf}
 use borrow.Author.Needs.{needs}
 use Rattle.partialize.proofs.window.limit.Statement.{statement}
 use Rattle.partialize.proofs.window.limit.Tie as tie

@@ -3,10 +3,10 @@ use Prim.Native.Nat.{ℕ, _≤_, _-_}
 use mathlib.Core.Path.{_≡_}
 use lib.ListN.{length, length-set, length-replicate}
 use Rattle.job.specs.Model.{view}
-use Rattle.partialize.specs.Windows.{limitOf}
+use Rattle.orders.specs.Windows.{limitOf}
 use Rattle.partialize.specs.Table.{Filled}
 use Rattle.partialize.proofs.Loops.{filled-start, filled-more, filled-end}
-use Rattle.partialize.proofs.Near.{limit-most}
+use Rattle.orders.proofs.Near.{limit-most}
 use borrow.Author.Needs.{needs}
 use native.Mathlib.Omega.{arith}
 use Rattle.partialize.proofs.window.limits.Statement.{statement}

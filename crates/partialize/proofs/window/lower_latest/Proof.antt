@@ -5,7 +5,7 @@ use borrow.Author.Tests.{ltb-true}
 use lib.ListN.{length-set}
 use Rattle.laws.proofs.Search.{and-l, and-r}
 use Rattle.partialize.proofs.LinkList.{goal-link}
-use Rattle.partialize.proofs.Limits.{latest-same, latest-set}
+use Rattle.partialize.proofs.Latest.{latest-same, latest-set}
 use borrow.Author.Needs.{needs}
 use native.Mathlib.Omega.{arith}
 use Rattle.partialize.proofs.window.lower_latest.Statement.{statement}

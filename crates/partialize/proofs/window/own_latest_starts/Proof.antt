@@ -5,10 +5,10 @@ use mathlib.Core.Bool.{cond}
 use lib.ListN.{length, length-set, length-replicate}
 use lib.Dec.{eqb}
 use Rattle.job.specs.Model.{view}
-use Rattle.partialize.specs.Windows.{noLatest}
+use Rattle.orders.specs.Windows.{noLatest}
 use Rattle.partialize.specs.Table.{Filled}
 use Rattle.partialize.proofs.Loops.{filled-start, filled-more, filled-end}
-use Rattle.partialize.proofs.Limits.{latest-none}
+use Rattle.partialize.proofs.Latest.{latest-none}
 use borrow.Author.Needs.{needs}
 use native.Mathlib.Omega.{arith}
 use Rattle.partialize.proofs.window.own_latest_starts.Statement.{statement}

@@ -2,7 +2,7 @@
 use Prim.Native.Nat.{_≤_, _-_}
 use mathlib.Core.Logic.{⊎-elim}
 use native.Mathlib.Omega.{arith}
-use Rattle.partialize.specs.Rounds.{raised}
+use Rattle.orders.specs.Rounds.{raised}
 use Rattle.partialize.specs.Table.{gapBias, gapIn, startIn, Filled}
 use Rattle.partialize.proofs.Loops.{rows-start, rows-more, rows-same, rows-end, rows-bounded}
 use Rattle.partialize.proofs.starts.Starts.round.Statement.{statement}

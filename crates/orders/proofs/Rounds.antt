@@ -13,7 +13,7 @@ use Rattle.laws.specs.Search.{lowest}
 use Rattle.laws.specs.Fold.{largest, sum}
 use Rattle.laws.proofs.Search.{last-or-below, all-intro, all-elim, lowest-facts}
 use Rattle.laws.proofs.Fold.{largest-ge, largest-le, largest-at, largest-cong, sum-le}
-use Rattle.partialize.specs.Rounds.{demand, raised, after, unchanged, rounds, earliest, Satisfied}
+use Rattle.orders.specs.Rounds.{demand, raised, after, unchanged, rounds, earliest, Satisfied}
 
 -- A demand rises with the start of the order's first step, and by as much, once it is above 0.
 

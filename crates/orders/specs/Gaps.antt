@@ -6,7 +6,7 @@ use lib.Dec.{ltb, leb, eqb}
 use Rattle.laws.specs.Fold.{largest}
 use Rattle.job.specs.Model.{Model}
 use Rattle.schedule.specs.Ticks.{effectTick, firstTick, lastTick, useTick, finish, opposes}
-use Rattle.partialize.specs.Links.{initialState, conditionLink}
+use Rattle.orders.specs.Links.{initialState, conditionLink}
 
 -- "Point p strictly before point q" gives gap p − q + 1
 abbrev pub strictly : ℕ → ℕ → ℕ

@@ -20,7 +20,7 @@ use Rattle.schedule.specs.Ticks.{effectTick, firstTick}
 use Rattle.schedule.specs.Seen.{lastSet, seen, afterAll}
 use Rattle.schedule.specs.Valid.{Valid}
 use Rattle.schedule.proofs.Seen.{Giver, LaterGiver, lastSet-ge, lastSet-grows, seen-other, seen-why-apart, afterAll-ge}
-use Rattle.partialize.specs.Links.{initialState, producer, earliestProduced, supporter, linkOf, conditionLink, goalLink}
+use Rattle.orders.specs.Links.{initialState, producer, earliestProduced, supporter, linkOf, conditionLink, goalLink}
 
 -- why the value is seen at t: by the initial state with nothing opposing before, or by an effect after all that opposes before
 pub data Linked (m : Model) (x : ℕ → ℕ) (fact v t link : ℕ) : Type 0 where

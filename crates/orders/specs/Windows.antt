@@ -5,7 +5,7 @@ use lib.Dec.{eqb}
 use Rattle.laws.specs.Fold.{least}
 use Rattle.job.specs.Model.{Model}
 use Rattle.job.specs.Ranges.{noDeadline}
-use Rattle.partialize.specs.Links.{initialState, goalLink}
+use Rattle.orders.specs.Links.{initialState, goalLink}
 
 -- the latest start of a step that has none
 abbrev pub noLatest : ℕ

@@ -16,14 +16,14 @@ use Rattle.job.specs.Ranges.{noDeadline}
 use Rattle.job.specs.WellFormed.{WellFormed}
 use Rattle.schedule.specs.Ticks.{effectTick, firstTick, finish, opposes}
 use Rattle.schedule.specs.Valid.{Valid}
-use Rattle.partialize.specs.Links.{initialState, conditionLink, goalLink}
-use Rattle.partialize.specs.Gaps.{strictly, supportOrder, supportGap, opposingOrder, opposingGap, beforeOrder, afterOrder, conditionGap}
-use Rattle.partialize.specs.Gaps.{levelOrder, levelGap, serialGap, gapOf}
-use Rattle.partialize.specs.Windows.{noLatest, limitOf, allowed, latestOf}
-use Rattle.partialize.specs.Obeys.{Obeys}
-use Rattle.partialize.proofs.Orders.{room}
-use Rattle.partialize.proofs.Links.{Linked, initially, produced, least-at, condition-linked, goal-link-in-time}
-use Rattle.partialize.proofs.Limits.{limit-fixed, limit-free, latest-fixed, latest-free}
+use Rattle.orders.specs.Links.{initialState, conditionLink, goalLink}
+use Rattle.orders.specs.Gaps.{strictly, supportOrder, supportGap, opposingOrder, opposingGap, beforeOrder, afterOrder, conditionGap}
+use Rattle.orders.specs.Gaps.{levelOrder, levelGap, serialGap, gapOf}
+use Rattle.orders.specs.Windows.{noLatest, limitOf, allowed, latestOf}
+use Rattle.orders.specs.Obeys.{Obeys}
+use Rattle.orders.proofs.Orders.{room}
+use Rattle.orders.proofs.Links.{Linked, initially, produced, least-at, condition-linked, goal-link-in-time}
+use Rattle.orders.proofs.Limits.{limit-fixed, limit-free, latest-fixed, latest-free}
 
 -- a gap that its test chooses fits where the test's parts make it fit
 chosen-fits : (a b c : Bool) (g r : ℕ) → (a ≡ true → b ≡ true → c ≡ true → g ≤ r) → cond (a && b && c) g 0 ≤ r

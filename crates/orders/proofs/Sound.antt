@@ -18,12 +18,12 @@ use Rattle.schedule.specs.Levels.{risesBefore, fallsBefore}
 use Rattle.schedule.specs.Valid.{Valid}
 use Rattle.schedule.proofs.Seen.{Giver, seen-by-effect, seen-by-initial, afterAll-ge}
 use Rattle.schedule.proofs.Levels.{Within, rises-within, falls-within, last-use}
-use Rattle.partialize.specs.Links.{initialState, conditionLink, goalLink}
-use Rattle.partialize.specs.Windows.{noLatest, allowed, latestOf}
-use Rattle.partialize.specs.Obeys.{Obeys}
-use Rattle.partialize.proofs.Orders.{Opposer, kept-opposing, kept-support, kept-before, kept-after, kept-uses, kept-serial}
-use Rattle.partialize.proofs.Links.{Linked, initially, produced, condition-linked, goal-linked, goal-link-in-time}
-use Rattle.partialize.proofs.Limits.{limit-fixed, latest-fixed, latest-free, allowed-linked}
+use Rattle.orders.specs.Links.{initialState, conditionLink, goalLink}
+use Rattle.orders.specs.Windows.{noLatest, allowed, latestOf}
+use Rattle.orders.specs.Obeys.{Obeys}
+use Rattle.orders.proofs.Orders.{Opposer, kept-opposing, kept-support, kept-before, kept-after, kept-uses, kept-serial}
+use Rattle.orders.proofs.Links.{Linked, initially, produced, condition-linked, goal-linked, goal-link-in-time}
+use Rattle.orders.proofs.Limits.{limit-fixed, latest-fixed, latest-free, allowed-linked}
 
 module _ (m : Model) (x y : ℕ → ℕ) (w : WellFormed m) (s : Valid m x) (o : Obeys m x y) where
   -- effects

@@ -13,10 +13,10 @@ use Rattle.laws.proofs.Fold.{largest-ge}
 use Rattle.job.specs.Model.{Model}
 use Rattle.job.specs.WellFormed.{WellFormed}
 use Rattle.schedule.specs.Ticks.{effectTick, firstTick, lastTick, useTick, finish, opposes}
-use Rattle.partialize.specs.Links.{initialState, conditionLink}
-use Rattle.partialize.specs.Gaps.{strictly, supportOrder, supportGap, opposingOrder, opposingGap, beforeOrder, afterOrder, conditionGap}
-use Rattle.partialize.specs.Gaps.{levelOrder, levelGap, serialGap, gapOf}
-use Rattle.partialize.specs.Obeys.{Obeys}
+use Rattle.orders.specs.Links.{initialState, conditionLink}
+use Rattle.orders.specs.Gaps.{strictly, supportOrder, supportGap, opposingOrder, opposingGap, beforeOrder, afterOrder, conditionGap}
+use Rattle.orders.specs.Gaps.{levelOrder, levelGap, serialGap, gapOf}
+use Rattle.orders.specs.Obeys.{Obeys}
 
 -- the largest gap from step i to step k that y has room for, 0 for none
 abbrev pub room : (ℕ → ℕ) → ℕ → ℕ → ℕ

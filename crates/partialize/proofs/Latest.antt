@@ -1,4 +1,4 @@
--- What the limits of a step say: a fixed step's are its written start, and a goal's link bounds its own step; and one more goal of a loop.
+-- The latest starts, goal by goal: one more goal lowers only the step whose effect supports it.
 use Prim.Native.Nat.{ℕ, _+_, _-_, _≤_, _<_, min}
 use mathlib.Core.Path.{_≡_, refl, sym, ap, ap₂, _∙_}
 use mathlib.Core.Bool.{Bool, true, false, _&&_, not, cond}
@@ -16,36 +16,12 @@ use Rattle.laws.proofs.Fold.{least-none}
 use Rattle.laws.proofs.Search.{either, contrary, and-both}
 use Rattle.job.specs.Model.{Model}
 use Rattle.job.specs.Ranges.{noDeadline}
-use Rattle.partialize.specs.Links.{initialState, goalLink}
-use Rattle.partialize.specs.Windows.{noLatest, limitOf, allowed, latestOf}
+use Rattle.orders.specs.Links.{initialState, goalLink}
+use Rattle.orders.specs.Windows.{noLatest, limitOf, allowed, latestOf}
+use Rattle.orders.proofs.Limits.{allowed-linked}
 use Rattle.partialize.specs.Table.{startIn, LatestBy}
 
 module _ (m : Model) (x : ℕ → ℕ) where
-  pub limit-fixed : (k : ℕ) → m .fixed k ≡ 1 → limitOf m k ≡ m .start k
-  unfolding limitOf
-  limit-fixed k f = ap (λ b. cond b (m .start k) 0) (eq-eqb _ _ f)
-
-  pub limit-free : (k : ℕ) → (m .fixed k ≡ 1 → ⊥) → limitOf m k ≡ 0
-  unfolding limitOf
-  limit-free k f = ap (λ b. cond b (m .start k) 0) (ne-eqb _ _ f)
-
-  pub latest-fixed : (k : ℕ) → m .fixed k ≡ 1 → latestOf m x k ≡ m .start k
-  unfolding latestOf
-  latest-fixed k f = ap (λ b. cond b (m .start k) (least (m .goals) noLatest (allowed m x k))) (eq-eqb _ _ f)
-
-  pub latest-free : (k : ℕ) → (m .fixed k ≡ 1 → ⊥) → latestOf m x k ≡ least (m .goals) noLatest (allowed m x k)
-  unfolding latestOf
-  latest-free k f = ap (λ b. cond b (m .start k) (least (m .goals) noLatest (allowed m x k))) (ne-eqb _ _ f)
-
-  pub allowed-linked :
-      (g : ℕ) → (m .goalDeadline g ≡ noDeadline → ⊥) → (goalLink m x g ≡ initialState → ⊥)
-      → allowed m x (m .effectStep (goalLink m x g)) g ≡ m .goalDeadline g - m .effectAt (goalLink m x g)
-  unfolding allowed
-  allowed-linked g d n =
-      let k = m .effectStep (goalLink m x g) in
-      ap (λ b. cond b (m .goalDeadline g - m .effectAt (goalLink m x g)) noLatest)
-      (ap₂ _&&_ (ap₂ _&&_ (ap not (ne-eqb _ _ d)) (ap not (ne-eqb _ _ n))) (eq-eqb k k refl))
-
   -- a goal that has no deadline, or is supported by no effect of step k, allows k any start
   allowed-none :
       (k g : ℕ) → ((m .goalDeadline g ≡ noDeadline → ⊥) → (goalLink m x g ≡ initialState → ⊥) → m .effectStep (goalLink m x g) ≡ k → ⊥)
@@ -124,7 +100,7 @@ module _ (m : Model) (x : ℕ → ℕ) where
         let free : m .fixed step ≡ 1 → ⊥ = λ z. f (ef ∙ z) in
         let most : allowed m x step g ≡ deadline - m .effectAt link =
         rw (ed, el, linked-step)
-        (allowed-linked g (λ z. eqb-false deadline noDeadline (not-true _ (a .0)) (ed ∙ z)) (λ z. eqb-false link initialState (not-true _ (a .1)) (el ∙ z)))
+        (allowed-linked m x g (λ z. eqb-false deadline noDeadline (not-true _ (a .0)) (ed ∙ z)) (λ z. eqb-false link initialState (not-true _ (a .1)) (el ∙ z)))
         in
         record {
           each = λ k h.

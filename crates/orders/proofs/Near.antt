@@ -1,11 +1,16 @@
 -- Bounds in a well-formed job: no point lies further from its step's start than any gap can tell, and no limit is later than a start.
 use Prim.Native.Nat.{ℕ, _≤_, _<_}
+use mathlib.Core.Bool.{Bool, true, false, cond}
 use lib.Dec.{eqb}
 use native.Mathlib.Omega.{arith}
 use Rattle.job.specs.Model.{Model}
 use Rattle.job.specs.WellFormed.{WellFormed}
-use Rattle.schedule.proofs.Steps.{counted-le}
-use Rattle.partialize.specs.Windows.{limitOf}
+use Rattle.orders.specs.Windows.{limitOf}
+
+-- an amount that counts or not is at most the amount
+pub counted-le : (b : Bool) (a : ℕ) → cond b a 0 ≤ a
+counted-le true a = omega arith
+counted-le false a = omega arith
 
 module _ (m : Model) (w : WellFormed m) where
   pub effect-near : (e : ℕ) → e < m .effects → m .effectAt e ≤ 100000

@@ -1,0 +1,46 @@
+-- What the limits of a step say: a fixed step's are its written start, and a goal's link bounds its own step.
+use Prim.Native.Nat.{ℕ, _+_, _-_, _≤_, _<_, min}
+use mathlib.Core.Path.{_≡_, refl, sym, ap, ap₂, _∙_}
+use mathlib.Core.Bool.{Bool, true, false, _&&_, not, cond}
+use mathlib.Core.List.{List}
+use mathlib.Core.Logic.{⊎-elim}
+use native.Mathlib.Numerals.{add-one}
+use native.Mathlib.Decide.{ℕ-discrete}
+use native.Mathlib.Omega.{arith}
+use borrow.Author.Tests.{eq-eqb, ne-eqb, eqb-true, eqb-false, lt-ltb, ltb-true, not-true}
+use lib.ListN.{length, set}
+use lib.Seq.{getD-set-same, getD-set-other}
+use lib.Dec.{ltb, eqb}
+use Rattle.laws.specs.Fold.{least}
+use Rattle.laws.proofs.Fold.{least-none}
+use Rattle.laws.proofs.Search.{either, contrary, and-both}
+use Rattle.job.specs.Model.{Model}
+use Rattle.job.specs.Ranges.{noDeadline}
+use Rattle.orders.specs.Links.{initialState, goalLink}
+use Rattle.orders.specs.Windows.{noLatest, limitOf, allowed, latestOf}
+
+module _ (m : Model) (x : ℕ → ℕ) where
+  pub limit-fixed : (k : ℕ) → m .fixed k ≡ 1 → limitOf m k ≡ m .start k
+  unfolding limitOf
+  limit-fixed k f = ap (λ b. cond b (m .start k) 0) (eq-eqb _ _ f)
+
+  pub limit-free : (k : ℕ) → (m .fixed k ≡ 1 → ⊥) → limitOf m k ≡ 0
+  unfolding limitOf
+  limit-free k f = ap (λ b. cond b (m .start k) 0) (ne-eqb _ _ f)
+
+  pub latest-fixed : (k : ℕ) → m .fixed k ≡ 1 → latestOf m x k ≡ m .start k
+  unfolding latestOf
+  latest-fixed k f = ap (λ b. cond b (m .start k) (least (m .goals) noLatest (allowed m x k))) (eq-eqb _ _ f)
+
+  pub latest-free : (k : ℕ) → (m .fixed k ≡ 1 → ⊥) → latestOf m x k ≡ least (m .goals) noLatest (allowed m x k)
+  unfolding latestOf
+  latest-free k f = ap (λ b. cond b (m .start k) (least (m .goals) noLatest (allowed m x k))) (ne-eqb _ _ f)
+
+  pub allowed-linked :
+      (g : ℕ) → (m .goalDeadline g ≡ noDeadline → ⊥) → (goalLink m x g ≡ initialState → ⊥)
+      → allowed m x (m .effectStep (goalLink m x g)) g ≡ m .goalDeadline g - m .effectAt (goalLink m x g)
+  unfolding allowed
+  allowed-linked g d n =
+      let k = m .effectStep (goalLink m x g) in
+      ap (λ b. cond b (m .goalDeadline g - m .effectAt (goalLink m x g)) noLatest)
+      (ap₂ _&&_ (ap₂ _&&_ (ap not (ne-eqb _ _ d)) (ap not (ne-eqb _ _ n))) (eq-eqb k k refl))
