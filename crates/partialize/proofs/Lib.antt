@@ -6,6 +6,7 @@ pub mod Loops
 pub mod Near
 pub mod Chosen
 pub mod Raised
+pub mod Walked
 pub mod LinkList
 pub mod Orders
 pub mod Links

@@ -36,7 +36,8 @@ struct Wanted {
     from: usize,
 }
 
-fn other(value: u16) -> u16
+// The other of the two values.
+pub fn other(value: u16) -> u16
     ensures { λ r. ⌜ r ≡ spec.other value ⌝ }
 {
     if value == 0 { 1 } else { 0 }
