@@ -1,11 +1,11 @@
 -- A table is raised along a walk: what is passed over orders nothing, and what is met orders by its tick alone.
-use Prim.Native.Nat.{ℕ, zero, suc, _-_, _<_, max}
+use Prim.Native.Nat.{ℕ, zero, suc, _-_, _%_, _≤_, _<_, max}
 use mathlib.Core.Path.{_≡_, refl, sym, ap, ap₂, _∙_}
 use mathlib.Core.Bool.{Bool, true, false, not, _&&_, cond}
 use mathlib.Core.List.{List}
 use native.Mathlib.Decide.{ℕ-discrete}
 use native.Mathlib.Omega.{arith}
-use borrow.Author.Tests.{eq-eqb, ne-eqb}
+use borrow.Author.Tests.{eqb-true, eq-eqb, ne-eqb}
 use lib.Dec.{eqb, ltb}
 use lib.ListN.{getD}
 use Rattle.laws.specs.Fold.{largest}
@@ -17,7 +17,7 @@ use Rattle.schedule.specs.Ticks.{effectTick, firstTick, lastTick, useTick, oppo
 use Rattle.schedule.specs.Known.{EffectsKnown, UsesKnown}
 use Rattle.schedule.proofs.Known.{opposes-key, key-opposes, passed-over}
 use Rattle.schedule.proofs.Walks.{largest-pass}
-use Rattle.partialize.specs.Gaps.{strictly, opposingOrder, beforeOrder, afterOrder}
+use Rattle.partialize.specs.Gaps.{strictly, opposingOrder, beforeOrder, afterOrder, levelOrder}
 use Rattle.partialize.specs.Table.{single, Raised}
 use Rattle.partialize.proofs.Raised.{raised-is, raised-then}
 
@@ -139,6 +139,35 @@ module _ {m : Model} {x : ℕ → ℕ} {ticks index : List ℕ} (known : Effects
         (ap₂ max
         (single-due (m .effectStep e) (m .conditionStep c) _ _ _ refl meets i k)
         (single-due (m .conditionStep c) (m .effectStep e) _ _ _ refl meets i k))
+
+-- Rule 4: of the uses after u only those of its level order.
+module _ {m : Model} {x : ℕ → ℕ} {ticks index : List ℕ} (known : UsesKnown m x ticks index) (u v : ℕ) where
+  pub level-none : (keyOf m UsesByLevel v ≡ levelKey (m .useLevel u) → ⊥) → (i k : ℕ) → levelOrder m x i k u v ≡ 0
+  unfolding levelOrder keyOf
+  level-none other i k =
+      none-due (eqb (m .useStep u) i && eqb (m .useStep v) k) (eqb (m .useLevel u) (m .useLevel v))
+      (ltb (useTick m x u) (useTick m x v)) (strictly (m .useAt u) (m .useAt v))
+      (passed-over (λ t. ap levelKey (sym (eqb-true (m .useLevel u) (m .useLevel v) t))) other)
+
+  module _ (l : u < m .uses) (h : v < m .uses) where
+    one-level : keyOf m UsesByLevel v ≡ levelKey (m .useLevel u) → m .useLevel u ≡ m .useLevel v
+    unfolding keyOf levelKey
+    one-level q =
+        let few : m .levels ≤ 16 = known .form .levelCount in
+        let a : m .useLevel u < m .levels = known .form .useLevel u l in
+        let b : m .useLevel v < m .levels = known .form .useLevel v h in
+        let key : m .useLevel v % 512 ≡ m .useLevel u % 512 = q in
+        omega arith
+
+    pub level-due :
+        keyOf m UsesByLevel v ≡ levelKey (m .useLevel u) → {a at : ℕ} → a ≡ m .useStep u → at ≡ m .useAt u
+        → (i k : ℕ)
+        → single a (m .useStep v) (cond (ltb (getD ticks u 0) (getD ticks v 0)) (strictly at (m .useAt v)) 0) i k
+        ≡ levelOrder m x i k u v
+    unfolding levelOrder
+    level-due q p r i k =
+        rw (r, known .timed .at u l, known .timed .at v h)
+        (single-due (m .useStep u) (m .useStep v) _ _ _ p (eq-eqb (m .useLevel u) (m .useLevel v) (one-level q)) i k)
 
 -- two largest at once
 pub largest-both : (f g : ℕ → ℕ) (n : ℕ) → largest n (λ j. max (f j) (g j)) ≡ max (largest n f) (largest n g)

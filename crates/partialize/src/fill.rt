@@ -9,7 +9,7 @@ ghost use Rattle.job.specs.Model.{view};
 ghost use Rattle.job.specs.WellFormed.{WellFormed};
 ghost use Rattle.schedule.specs.Ticks as ticks;
 ghost use Rattle.schedule.specs.Ticks.{scheduleOf};
-ghost use Rattle.schedule.specs.Known.{EffectsKnown};
+ghost use Rattle.schedule.specs.Known.{EffectsKnown, UsesKnown};
 ghost use Rattle.schedule.specs.Valid.{Valid};
 ghost use Rattle.partialize.specs.Gaps as spec;
 ghost use Rattle.partialize.specs.Gaps.{supportOrder, supportGap, opposingOrder, opposingGap, beforeOrder, afterOrder, conditionGap, levelOrder, levelGap, serialGap, gapOf};
@@ -19,8 +19,11 @@ use crate::starts::NONE;
 use crate::starts::WIDTH;
 use crate::support::INITIAL;
 use crate::support::other;
+use job::index::Linking;
 use job::index::fact_key;
 use job::index::first_of;
+use job::index::index_of;
+use job::index::level_key;
 use job::index::next_of;
 use job::layout::Job;
 use job::records::condition_fact;
@@ -40,7 +43,7 @@ use schedule::ticks::finish;
 use schedule::ticks::first_tick;
 use schedule::ticks::last_tick;
 use schedule::ticks::start_of;
-use schedule::ticks::use_tick;
+use schedule::ticks::use_ticks;
 
 // The gap of "p strictly before q", plus the bias.
 fn strictly(p: usize, q: usize) -> u32
@@ -108,7 +111,15 @@ fn raise_to_effect(s: &[u8], job: Job, gaps: &mut [u32], due: bool, first: u16, 
 }
 
 // Orders effect e before what lies at `at` of step `second`, if that is due.
-fn raise_from_effect(s: &[u8], job: Job, gaps: &mut [u32], due: bool, e: u16, second: u16, at: usize)
+fn raise_from_effect(
+    s: &[u8],
+    job: Job,
+    gaps: &mut [u32],
+    due: bool,
+    e: u16,
+    second: u16,
+    at: usize,
+)
     requires { ⌜ WellFormed (view job (now s)) × Gaps (now gaps) × (e < job .count .effects) × (second < job .count .steps) × (at ≤ 100000) ⌝ }
     ensures { λ _. ⌜ Raised (job .count .steps) (single (view job (now (s .entry)) .effectStep e) second (cond due (spec.strictly (view job (now (s .entry)) .effectAt e) at) 0)) (now (gaps .entry)) (now (gaps .exit)) ⌝ }
 {
@@ -143,7 +154,14 @@ fn raise_opposing(
 }
 
 // Rule 2.
-fn fill_opposing(s: &[u8], job: Job, starts: &[u32], ticks: &[usize], index: &[u16], gaps: &mut [u32])
+fn fill_opposing(
+    s: &[u8],
+    job: Job,
+    starts: &[u32],
+    ticks: &[usize],
+    index: &[u16],
+    gaps: &mut [u32],
+)
     requires { ⌜ EffectsKnown (view job (now s)) (scheduleOf (now starts)) (now ticks) (now index) × Gaps (now gaps) ⌝ }
     ensures { λ _. ⌜ Raised (job .count .steps) (opposingGap (view job (now (s .entry))) (scheduleOf (now (starts .entry)))) (now (gaps .entry)) (now (gaps .exit)) ⌝ }
 {
@@ -184,7 +202,14 @@ fn raise_around(
 }
 
 // Rule 3.
-fn fill_conditions(s: &[u8], job: Job, starts: &[u32], ticks: &[usize], index: &[u16], gaps: &mut [u32])
+fn fill_conditions(
+    s: &[u8],
+    job: Job,
+    starts: &[u32],
+    ticks: &[usize],
+    index: &[u16],
+    gaps: &mut [u32],
+)
     requires { ⌜ EffectsKnown (view job (now s)) (scheduleOf (now starts)) (now ticks) (now index) × Gaps (now gaps) ⌝ }
     ensures { λ _. ⌜ Raised (job .count .steps) (conditionGap (view job (now (s .entry))) (scheduleOf (now (starts .entry)))) (now (gaps .entry)) (now (gaps .exit)) ⌝ }
 {
@@ -196,44 +221,49 @@ fn fill_conditions(s: &[u8], job: Job, starts: &[u32], ticks: &[usize], index: &
     }
 }
 
-// The gap from use u to use v, where they use one level and u comes first.
-fn level_gap(s: &[u8], job: Job, starts: &[u32], u: u16, v: u16) -> u32
-    requires { ⌜ WellFormed (view job (now s)) × (u < job .count .uses) × (v < job .count .uses) ⌝ }
-    ensures { λ r. ⌜ (r ≡ levelOrder (view job (now (s .entry))) (scheduleOf (now (starts .entry))) (view job (now (s .entry)) .useStep u) (view job (now (s .entry)) .useStep v) u v) × (r ≤ 200001) ⌝ }
+// Orders use v after what lies at `at` of step `first`, if that is due.
+fn raise_to_use(s: &[u8], job: Job, gaps: &mut [u32], due: bool, first: u16, at: usize, v: u16)
+    requires { ⌜ WellFormed (view job (now s)) × Gaps (now gaps) × (first < job .count .steps) × (at ≤ 100000) × (v < job .count .uses) ⌝ }
+    ensures { λ _. ⌜ Raised (job .count .steps) (single first (view job (now (s .entry)) .useStep v) (cond due (spec.strictly at (view job (now (s .entry)) .useAt v)) 0)) (now (gaps .entry)) (now (gaps .exit)) ⌝ }
 {
-    if (use_level(s, job, u) == use_level(s, job, v))
-        & (use_tick(s, job, starts, u) < use_tick(s, job, starts, v))
-    {
-        strictly(use_at(s, job, u), use_at(s, job, v))
-    } else {
-        NONE
+    if due {
+        let gap = strictly(at, use_at(s, job, v));
+        raise(gaps, first, use_step(s, job, v), gap);
     }
 }
 
 // Rule 4 for the uses after use u.
-fn raise_uses(s: &[u8], job: Job, starts: &[u32], gaps: &mut [u32], u: u16)
-    requires { ⌜ WellFormed (view job (now s)) × Gaps (now gaps) × (u < job .count .uses) ⌝ }
+fn raise_uses(
+    s: &[u8],
+    job: Job,
+    starts: &[u32],
+    ticks: &[usize],
+    index: &[u16],
+    gaps: &mut [u32],
+    u: u16,
+)
+    requires { ⌜ UsesKnown (view job (now s)) (scheduleOf (now starts)) (now ticks) (now index) × Gaps (now gaps) × (u < job .count .uses) ⌝ }
     ensures { λ _. ⌜ Raised (job .count .steps) (λ i k. largest (job .count .uses) (levelOrder (view job (now (s .entry))) (scheduleOf (now (starts .entry))) i k u)) (now (gaps .entry)) (now (gaps .exit)) ⌝ }
 {
-    let n = job.count.uses;
     let first = use_step(s, job, u);
-    let mut v = 0;
-    while v < n {
-        let gap = level_gap(s, job, starts, u, v);
-        raise(gaps, first, use_step(s, job, v), gap);
-        v += 1;
+    let at = use_at(s, job, u);
+    let tick = ticks[u as usize];
+    let mut v = first_of(index, level_key(use_level(s, job, u)));
+    while v < job.count.uses {
+        raise_to_use(s, job, gaps, tick < ticks[v as usize], first, at, v);
+        v = next_of(index, v);
     }
 }
 
 // Rule 4.
-fn fill_levels(s: &[u8], job: Job, starts: &[u32], gaps: &mut [u32])
-    requires { ⌜ WellFormed (view job (now s)) × Gaps (now gaps) ⌝ }
+fn fill_levels(s: &[u8], job: Job, starts: &[u32], ticks: &[usize], index: &[u16], gaps: &mut [u32])
+    requires { ⌜ UsesKnown (view job (now s)) (scheduleOf (now starts)) (now ticks) (now index) × Gaps (now gaps) ⌝ }
     ensures { λ _. ⌜ Raised (job .count .steps) (levelGap (view job (now (s .entry))) (scheduleOf (now (starts .entry)))) (now (gaps .entry)) (now (gaps .exit)) ⌝ }
 {
     let n = job.count.uses;
     let mut u = 0;
     while u < n {
-        raise_uses(s, job, starts, gaps, u);
+        raise_uses(s, job, starts, ticks, index, gaps, u);
         u += 1;
     }
 }
@@ -277,6 +307,9 @@ fn fill_serial(s: &[u8], job: Job, starts: &[u32], gaps: &mut [u32])
     requires { ⌜ WellFormed (view job (now s)) × Gaps (now gaps) ⌝ }
     ensures { λ _. ⌜ Raised (job .count .steps) (serialGap (view job (now (s .entry))) (scheduleOf (now (starts .entry)))) (now (gaps .entry)) (now (gaps .exit)) ⌝ }
 {
+    if job.serial != 1 {
+        return;
+    }
     let n = job.count.steps;
     let mut i = 0;
     while i < n {
@@ -301,6 +334,8 @@ pub fn fill_gaps(
     fill_support(s, job, links, gaps);
     fill_opposing(s, job, starts, ticks, index, gaps);
     fill_conditions(s, job, starts, ticks, index, gaps);
-    fill_levels(s, job, starts, gaps);
+    let uses = use_ticks(s, job, starts);
+    let by_level = index_of(s, job, Linking::UsesByLevel, job.count.uses);
+    fill_levels(s, job, starts, &uses, &by_level, gaps);
     fill_serial(s, job, starts, gaps);
 }
