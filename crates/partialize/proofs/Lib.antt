@@ -8,6 +8,7 @@ pub mod Chosen
 pub mod Raised
 pub mod Walked
 pub mod LinkList
+pub mod Supporters
 pub mod Orders
 pub mod Links
 pub mod Limits

@@ -11,7 +11,6 @@ use lib.ListN.{getD}
 use Rattle.laws.specs.Fold.{largest}
 use Rattle.job.specs.declared.index.Linking.the-variants.{EffectsByFact, UsesByLevel}
 use Rattle.job.specs.Model.{Model}
-use Rattle.job.specs.WellFormed.{WellFormed}
 use Rattle.job.specs.Indexed.{factKey, levelKey, keyOf}
 use Rattle.schedule.specs.Ticks.{effectTick, firstTick, lastTick, useTick, opposes}
 use Rattle.schedule.specs.Known.{EffectsKnown, UsesKnown}

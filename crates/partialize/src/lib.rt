@@ -68,7 +68,7 @@ fn file_schedule(s: &[u8], job: Job, starts: &[u32], out: &mut [u8]) -> Answer
     let ticks = effect_ticks(s, job, starts);
     let by_fact = index_of(s, job, Linking::EffectsByFact, job.count.effects);
     let mut links = [0u16; 544];
-    support::find_links(s, job, starts, &mut links);
+    support::find_links(s, job, starts, &ticks, &by_fact, &mut links);
     let mut gaps = [NONE; 4096];
     fill::fill_gaps(s, job, starts, &ticks, &by_fact, &links, &mut gaps);
     file_found(s, job, &links, &gaps, out)

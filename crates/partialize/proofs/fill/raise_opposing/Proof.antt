@@ -1,5 +1,5 @@
 -- A walk along the effects with the other value of the fact of e.
-use Prim.Native.Nat.{ℕ, _-_}
+use Prim.Native.Nat.{_-_}
 use mathlib.Core.Path.{ap, ap₂, _∙_}
 use native.Mathlib.Omega.{arith}
 use Rattle.laws.specs.Fold.{largest}
