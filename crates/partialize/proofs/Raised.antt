@@ -28,16 +28,6 @@ single-off i k gap a b d =
       | no e ↦ ap (λ t. cond (t && eqb k b) gap 0) (ne-eqb i a e)
     ]
 
--- an order by its gap between its own two steps
-pub single-order :
-    {a b gap : ℕ} (first second : ℕ) (r t : Bool) (g : ℕ) → a ≡ first → b ≡ second → gap ≡ cond (eqb first first && eqb second second && r && t) g 0
-    → (i k : ℕ) → single a b gap i k ≡ cond (eqb first i && eqb second k && r && t) g 0
-single-order first second r t g p q e i k = rw (p, q, e, eqb-same first, eqb-same second) (tests (eqb first i && eqb second k))
-  where
-    tests : (b : Bool) → cond b (cond (r && t) g 0) 0 ≡ cond (b && r && t) g 0
-    tests true = refl
-    tests false = refl
-
 -- an entry that is large enough stays, and raised twice it is raised by the larger gap
 keeps : (a b : ℕ) (t : Bool) → b ≤ a → a ≡ max a (cond t 0 b)
 keeps a b true h = omega arith

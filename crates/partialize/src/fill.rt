@@ -1,7 +1,7 @@
 // The table of gaps, filled rule by rule (orders, rules 1 to 5). Of several gaps for one entry the largest stays.
 ghost use mathlib.Core.Path.{_≡_};
-ghost use mathlib.Core.Bool.{_&&_, _||_, not};
-ghost use Prim.Native.Nat.{ℕ, _+_, _≤_, _<_};
+ghost use mathlib.Core.Bool.{_&&_, _||_, not, cond};
+ghost use Prim.Native.Nat.{ℕ, _+_, _≤_, _<_, max};
 ghost use lib.Dec.{eqb, leb, ltb};
 ghost use lib.ListN.{length, getD};
 ghost use Rattle.laws.specs.Fold.{largest};
@@ -9,6 +9,7 @@ ghost use Rattle.job.specs.Model.{view};
 ghost use Rattle.job.specs.WellFormed.{WellFormed};
 ghost use Rattle.schedule.specs.Ticks as ticks;
 ghost use Rattle.schedule.specs.Ticks.{scheduleOf};
+ghost use Rattle.schedule.specs.Known.{EffectsKnown, UsesKnown};
 ghost use Rattle.schedule.specs.Valid.{Valid};
 ghost use Rattle.orders.specs.Gaps as spec;
 ghost use Rattle.orders.specs.Gaps.{supportOrder, supportGap, opposingOrder, opposingGap, beforeOrder, afterOrder, conditionGap, levelOrder, levelGap, serialGap, gapOf};
@@ -17,6 +18,13 @@ use crate::starts::BIAS;
 use crate::starts::NONE;
 use crate::starts::WIDTH;
 use crate::support::INITIAL;
+use crate::support::other;
+use job::index::Linking;
+use job::index::fact_key;
+use job::index::first_of;
+use job::index::index_of;
+use job::index::level_key;
+use job::index::next_of;
 use job::layout::Job;
 use job::records::condition_fact;
 use job::records::condition_from;
@@ -31,13 +39,11 @@ use job::records::step_length;
 use job::records::use_at;
 use job::records::use_level;
 use job::records::use_step;
-use schedule::ticks::effect_tick;
 use schedule::ticks::finish;
 use schedule::ticks::first_tick;
 use schedule::ticks::last_tick;
-use schedule::ticks::opposes;
 use schedule::ticks::start_of;
-use schedule::ticks::use_tick;
+use schedule::ticks::use_ticks;
 
 // The gap of "p strictly before q", plus the bias.
 fn strictly(p: usize, q: usize) -> u32
@@ -93,164 +99,171 @@ fn fill_support(s: &[u8], job: Job, links: &[u16], gaps: &mut [u32])
     }
 }
 
-// The gap from effect e to effect f, where they oppose each other and e comes first.
-fn opposing_gap(s: &[u8], job: Job, starts: &[u32], e: u16, f: u16) -> u32
-    requires { ⌜ WellFormed (view job (now s)) × (e < job .count .effects) × (f < job .count .effects) ⌝ }
-    ensures { λ r. ⌜ (r ≡ opposingOrder (view job (now (s .entry))) (scheduleOf (now (starts .entry))) (view job (now (s .entry)) .effectStep e) (view job (now (s .entry)) .effectStep f) e f) × (r ≤ 200001) ⌝ }
+// Orders effect f after what lies at `at` of step `first`, if that is due; f's own numbers are read only then.
+fn raise_to_effect(s: &[u8], job: Job, gaps: &mut [u32], due: bool, first: u16, at: usize, f: u16)
+    requires { ⌜ WellFormed (view job (now s)) × Gaps (now gaps) × (first < job .count .steps) × (at ≤ 100000) × (f < job .count .effects) ⌝ }
+    ensures { λ _. ⌜ Raised (job .count .steps) (single first (view job (now (s .entry)) .effectStep f) (cond due (spec.strictly at (view job (now (s .entry)) .effectAt f)) 0)) (now (gaps .entry)) (now (gaps .exit)) ⌝ }
 {
-    let fact = effect_fact(s, job, f);
-    let value = effect_value(s, job, f);
-    if opposes(s, job, e, fact, value)
-        & (effect_tick(s, job, starts, e) < effect_tick(s, job, starts, f))
-    {
-        strictly(effect_at(s, job, e), effect_at(s, job, f))
-    } else {
-        NONE
+    if due {
+        let gap = strictly(at, effect_at(s, job, f));
+        raise(gaps, first, effect_step(s, job, f), gap);
+    }
+}
+
+// Orders effect e before what lies at `at` of step `second`, if that is due.
+fn raise_from_effect(
+    s: &[u8],
+    job: Job,
+    gaps: &mut [u32],
+    due: bool,
+    e: u16,
+    second: u16,
+    at: usize,
+)
+    requires { ⌜ WellFormed (view job (now s)) × Gaps (now gaps) × (e < job .count .effects) × (second < job .count .steps) × (at ≤ 100000) ⌝ }
+    ensures { λ _. ⌜ Raised (job .count .steps) (single (view job (now (s .entry)) .effectStep e) second (cond due (spec.strictly (view job (now (s .entry)) .effectAt e) at) 0)) (now (gaps .entry)) (now (gaps .exit)) ⌝ }
+{
+    if due {
+        let gap = strictly(effect_at(s, job, e), at);
+        raise(gaps, effect_step(s, job, e), second, gap);
     }
 }
 
 // Rule 2 for the opposing effects after effect e.
-fn raise_opposing(s: &[u8], job: Job, starts: &[u32], gaps: &mut [u32], e: u16)
-    requires { ⌜ WellFormed (view job (now s)) × Gaps (now gaps) × (e < job .count .effects) ⌝ }
+fn raise_opposing(
+    s: &[u8],
+    job: Job,
+    starts: &[u32],
+    ticks: &[usize],
+    index: &[u16],
+    gaps: &mut [u32],
+    e: u16,
+)
+    requires { ⌜ EffectsKnown (view job (now s)) (scheduleOf (now starts)) (now ticks) (now index) × Gaps (now gaps) × (e < job .count .effects) ⌝ }
     ensures { λ _. ⌜ Raised (job .count .steps) (λ i k. largest (job .count .effects) (opposingOrder (view job (now (s .entry))) (scheduleOf (now (starts .entry))) i k e)) (now (gaps .entry)) (now (gaps .exit)) ⌝ }
 {
-    let n = job.count.effects;
     let first = effect_step(s, job, e);
-    let mut f = 0;
-    while f < n {
-        let gap = opposing_gap(s, job, starts, e, f);
-        raise(gaps, first, effect_step(s, job, f), gap);
-        f += 1;
+    let at = effect_at(s, job, e);
+    let tick = ticks[e as usize];
+    let key = fact_key(effect_fact(s, job, e), other(effect_value(s, job, e)));
+    let mut f = first_of(index, key);
+    while f < job.count.effects {
+        raise_to_effect(s, job, gaps, tick < ticks[f as usize], first, at, f);
+        f = next_of(index, f);
     }
 }
 
 // Rule 2.
-fn fill_opposing(s: &[u8], job: Job, starts: &[u32], gaps: &mut [u32])
-    requires { ⌜ WellFormed (view job (now s)) × Gaps (now gaps) ⌝ }
+fn fill_opposing(
+    s: &[u8],
+    job: Job,
+    starts: &[u32],
+    ticks: &[usize],
+    index: &[u16],
+    gaps: &mut [u32],
+)
+    requires { ⌜ EffectsKnown (view job (now s)) (scheduleOf (now starts)) (now ticks) (now index) × Gaps (now gaps) ⌝ }
     ensures { λ _. ⌜ Raised (job .count .steps) (opposingGap (view job (now (s .entry))) (scheduleOf (now (starts .entry)))) (now (gaps .entry)) (now (gaps .exit)) ⌝ }
 {
     let n = job.count.effects;
     let mut e = 0;
     while e < n {
-        raise_opposing(s, job, starts, gaps, e);
+        raise_opposing(s, job, starts, ticks, index, gaps, e);
         e += 1;
     }
 }
 
-// The gap from effect e to the first tick of condition c, where e opposes c and comes before it.
-fn before_gap(s: &[u8], job: Job, starts: &[u32], c: u16, e: u16) -> u32
-    requires { ⌜ WellFormed (view job (now s)) × (c < job .count .conditions) × (e < job .count .effects) ⌝ }
-    ensures { λ r. ⌜ (r ≡ beforeOrder (view job (now (s .entry))) (scheduleOf (now (starts .entry))) (view job (now (s .entry)) .effectStep e) (view job (now (s .entry)) .conditionStep c) c e) × (r ≤ 200001) ⌝ }
+// Rule 3 for the opposing effects before and after condition c.
+fn raise_around(
+    s: &[u8],
+    job: Job,
+    starts: &[u32],
+    ticks: &[usize],
+    index: &[u16],
+    gaps: &mut [u32],
+    c: u16,
+)
+    requires { ⌜ EffectsKnown (view job (now s)) (scheduleOf (now starts)) (now ticks) (now index) × Gaps (now gaps) × (c < job .count .conditions) ⌝ }
+    ensures { λ _. ⌜ Raised (job .count .steps) (λ i k. largest (job .count .effects) (λ e. max (beforeOrder (view job (now (s .entry))) (scheduleOf (now (starts .entry))) i k c e) (afterOrder (view job (now (s .entry))) (scheduleOf (now (starts .entry))) i k c e))) (now (gaps .entry)) (now (gaps .exit)) ⌝ }
 {
-    let fact = condition_fact(s, job, c);
-    let value = condition_value(s, job, c);
-    if opposes(s, job, e, fact, value)
-        & (effect_tick(s, job, starts, e) < first_tick(s, job, starts, c))
-    {
-        strictly(effect_at(s, job, e), condition_from(s, job, c))
-    } else {
-        NONE
-    }
-}
-
-// The gap from the last tick of condition c to effect e, where e opposes c and comes after it.
-fn after_gap(s: &[u8], job: Job, starts: &[u32], c: u16, e: u16) -> u32
-    requires { ⌜ WellFormed (view job (now s)) × (c < job .count .conditions) × (e < job .count .effects) ⌝ }
-    ensures { λ r. ⌜ (r ≡ afterOrder (view job (now (s .entry))) (scheduleOf (now (starts .entry))) (view job (now (s .entry)) .conditionStep c) (view job (now (s .entry)) .effectStep e) c e) × (r ≤ 200001) ⌝ }
-{
-    let fact = condition_fact(s, job, c);
-    let value = condition_value(s, job, c);
-    if opposes(s, job, e, fact, value)
-        & (last_tick(s, job, starts, c) < effect_tick(s, job, starts, e))
-    {
-        strictly(condition_to(s, job, c), effect_at(s, job, e))
-    } else {
-        NONE
-    }
-}
-
-// Rule 3 for the opposing effects before condition c.
-fn raise_before(s: &[u8], job: Job, starts: &[u32], gaps: &mut [u32], c: u16)
-    requires { ⌜ WellFormed (view job (now s)) × Gaps (now gaps) × (c < job .count .conditions) ⌝ }
-    ensures { λ _. ⌜ Raised (job .count .steps) (λ i k. largest (job .count .effects) (beforeOrder (view job (now (s .entry))) (scheduleOf (now (starts .entry))) i k c)) (now (gaps .entry)) (now (gaps .exit)) ⌝ }
-{
-    let n = job.count.effects;
-    let second = condition_step(s, job, c);
-    let mut e = 0;
-    while e < n {
-        let gap = before_gap(s, job, starts, c, e);
-        raise(gaps, effect_step(s, job, e), second, gap);
-        e += 1;
-    }
-}
-
-// Rule 3 for the opposing effects after condition c.
-fn raise_after(s: &[u8], job: Job, starts: &[u32], gaps: &mut [u32], c: u16)
-    requires { ⌜ WellFormed (view job (now s)) × Gaps (now gaps) × (c < job .count .conditions) ⌝ }
-    ensures { λ _. ⌜ Raised (job .count .steps) (λ i k. largest (job .count .effects) (afterOrder (view job (now (s .entry))) (scheduleOf (now (starts .entry))) i k c)) (now (gaps .entry)) (now (gaps .exit)) ⌝ }
-{
-    let n = job.count.effects;
-    let first = condition_step(s, job, c);
-    let mut e = 0;
-    while e < n {
-        let gap = after_gap(s, job, starts, c, e);
-        raise(gaps, first, effect_step(s, job, e), gap);
-        e += 1;
+    let step = condition_step(s, job, c);
+    let from = condition_from(s, job, c);
+    let to = condition_to(s, job, c);
+    let first = first_tick(s, job, starts, c);
+    let last = last_tick(s, job, starts, c);
+    let key = fact_key(condition_fact(s, job, c), other(condition_value(s, job, c)));
+    let mut e = first_of(index, key);
+    while e < job.count.effects {
+        let tick = ticks[e as usize];
+        raise_from_effect(s, job, gaps, tick < first, e, step, from);
+        raise_to_effect(s, job, gaps, last < tick, step, to, e);
+        e = next_of(index, e);
     }
 }
 
 // Rule 3.
-fn fill_conditions(s: &[u8], job: Job, starts: &[u32], gaps: &mut [u32])
-    requires { ⌜ WellFormed (view job (now s)) × Gaps (now gaps) ⌝ }
+fn fill_conditions(
+    s: &[u8],
+    job: Job,
+    starts: &[u32],
+    ticks: &[usize],
+    index: &[u16],
+    gaps: &mut [u32],
+)
+    requires { ⌜ EffectsKnown (view job (now s)) (scheduleOf (now starts)) (now ticks) (now index) × Gaps (now gaps) ⌝ }
     ensures { λ _. ⌜ Raised (job .count .steps) (conditionGap (view job (now (s .entry))) (scheduleOf (now (starts .entry)))) (now (gaps .entry)) (now (gaps .exit)) ⌝ }
 {
     let n = job.count.conditions;
     let mut c = 0;
     while c < n {
-        raise_before(s, job, starts, gaps, c);
-        raise_after(s, job, starts, gaps, c);
+        raise_around(s, job, starts, ticks, index, gaps, c);
         c += 1;
     }
 }
 
-// The gap from use u to use v, where they use one level and u comes first.
-fn level_gap(s: &[u8], job: Job, starts: &[u32], u: u16, v: u16) -> u32
-    requires { ⌜ WellFormed (view job (now s)) × (u < job .count .uses) × (v < job .count .uses) ⌝ }
-    ensures { λ r. ⌜ (r ≡ levelOrder (view job (now (s .entry))) (scheduleOf (now (starts .entry))) (view job (now (s .entry)) .useStep u) (view job (now (s .entry)) .useStep v) u v) × (r ≤ 200001) ⌝ }
+// Orders use v after what lies at `at` of step `first`, if that is due.
+fn raise_to_use(s: &[u8], job: Job, gaps: &mut [u32], due: bool, first: u16, at: usize, v: u16)
+    requires { ⌜ WellFormed (view job (now s)) × Gaps (now gaps) × (first < job .count .steps) × (at ≤ 100000) × (v < job .count .uses) ⌝ }
+    ensures { λ _. ⌜ Raised (job .count .steps) (single first (view job (now (s .entry)) .useStep v) (cond due (spec.strictly at (view job (now (s .entry)) .useAt v)) 0)) (now (gaps .entry)) (now (gaps .exit)) ⌝ }
 {
-    if (use_level(s, job, u) == use_level(s, job, v))
-        & (use_tick(s, job, starts, u) < use_tick(s, job, starts, v))
-    {
-        strictly(use_at(s, job, u), use_at(s, job, v))
-    } else {
-        NONE
+    if due {
+        let gap = strictly(at, use_at(s, job, v));
+        raise(gaps, first, use_step(s, job, v), gap);
     }
 }
 
 // Rule 4 for the uses after use u.
-fn raise_uses(s: &[u8], job: Job, starts: &[u32], gaps: &mut [u32], u: u16)
-    requires { ⌜ WellFormed (view job (now s)) × Gaps (now gaps) × (u < job .count .uses) ⌝ }
+fn raise_uses(
+    s: &[u8],
+    job: Job,
+    starts: &[u32],
+    ticks: &[usize],
+    index: &[u16],
+    gaps: &mut [u32],
+    u: u16,
+)
+    requires { ⌜ UsesKnown (view job (now s)) (scheduleOf (now starts)) (now ticks) (now index) × Gaps (now gaps) × (u < job .count .uses) ⌝ }
     ensures { λ _. ⌜ Raised (job .count .steps) (λ i k. largest (job .count .uses) (levelOrder (view job (now (s .entry))) (scheduleOf (now (starts .entry))) i k u)) (now (gaps .entry)) (now (gaps .exit)) ⌝ }
 {
-    let n = job.count.uses;
     let first = use_step(s, job, u);
-    let mut v = 0;
-    while v < n {
-        let gap = level_gap(s, job, starts, u, v);
-        raise(gaps, first, use_step(s, job, v), gap);
-        v += 1;
+    let at = use_at(s, job, u);
+    let tick = ticks[u as usize];
+    let mut v = first_of(index, level_key(use_level(s, job, u)));
+    while v < job.count.uses {
+        raise_to_use(s, job, gaps, tick < ticks[v as usize], first, at, v);
+        v = next_of(index, v);
     }
 }
 
 // Rule 4.
-fn fill_levels(s: &[u8], job: Job, starts: &[u32], gaps: &mut [u32])
-    requires { ⌜ WellFormed (view job (now s)) × Gaps (now gaps) ⌝ }
+fn fill_levels(s: &[u8], job: Job, starts: &[u32], ticks: &[usize], index: &[u16], gaps: &mut [u32])
+    requires { ⌜ UsesKnown (view job (now s)) (scheduleOf (now starts)) (now ticks) (now index) × Gaps (now gaps) ⌝ }
     ensures { λ _. ⌜ Raised (job .count .steps) (levelGap (view job (now (s .entry))) (scheduleOf (now (starts .entry)))) (now (gaps .entry)) (now (gaps .exit)) ⌝ }
 {
     let n = job.count.uses;
     let mut u = 0;
     while u < n {
-        raise_uses(s, job, starts, gaps, u);
+        raise_uses(s, job, starts, ticks, index, gaps, u);
         u += 1;
     }
 }
@@ -294,6 +307,9 @@ fn fill_serial(s: &[u8], job: Job, starts: &[u32], gaps: &mut [u32])
     requires { ⌜ WellFormed (view job (now s)) × Gaps (now gaps) ⌝ }
     ensures { λ _. ⌜ Raised (job .count .steps) (serialGap (view job (now (s .entry))) (scheduleOf (now (starts .entry)))) (now (gaps .entry)) (now (gaps .exit)) ⌝ }
 {
+    if job.serial != 1 {
+        return;
+    }
     let n = job.count.steps;
     let mut i = 0;
     while i < n {
@@ -303,13 +319,23 @@ fn fill_serial(s: &[u8], job: Job, starts: &[u32], gaps: &mut [u32])
 }
 
 // All rules, one after the other, into an empty table.
-pub fn fill_gaps(s: &[u8], job: Job, starts: &[u32], links: &[u16], gaps: &mut [u32])
-    requires { ⌜ WellFormed (view job (now s)) × Valid (view job (now s)) (scheduleOf (now starts)) × LinksOf (view job (now s)) (scheduleOf (now starts)) (now links) × (job .count .conditions + job .count .goals ≤ length (now links)) × (length (now gaps) ≡ 4096) × ((p : ℕ) → getD (now gaps) p 0 ≡ 0) ⌝ }
+pub fn fill_gaps(
+    s: &[u8],
+    job: Job,
+    starts: &[u32],
+    ticks: &[usize],
+    index: &[u16],
+    links: &[u16],
+    gaps: &mut [u32],
+)
+    requires { ⌜ EffectsKnown (view job (now s)) (scheduleOf (now starts)) (now ticks) (now index) × Valid (view job (now s)) (scheduleOf (now starts)) × LinksOf (view job (now s)) (scheduleOf (now starts)) (now links) × (job .count .conditions + job .count .goals ≤ length (now links)) × (length (now gaps) ≡ 4096) × ((p : ℕ) → getD (now gaps) p 0 ≡ 0) ⌝ }
     ensures { λ _. ⌜ TableOf (job .count .steps) (gapOf (view job (now (s .entry))) (scheduleOf (now (starts .entry)))) (now (gaps .exit)) ⌝ }
 {
     fill_support(s, job, links, gaps);
-    fill_opposing(s, job, starts, gaps);
-    fill_conditions(s, job, starts, gaps);
-    fill_levels(s, job, starts, gaps);
+    fill_opposing(s, job, starts, ticks, index, gaps);
+    fill_conditions(s, job, starts, ticks, index, gaps);
+    let uses = use_ticks(s, job, starts);
+    let by_level = index_of(s, job, Linking::UsesByLevel, job.count.uses);
+    fill_levels(s, job, starts, &uses, &by_level, gaps);
     fill_serial(s, job, starts, gaps);
 }

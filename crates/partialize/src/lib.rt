@@ -20,8 +20,11 @@ mod window;
 mod write;
 
 use answer::Answer;
+use job::index::Linking;
+use job::index::index_of;
 use job::layout::Job;
 use job::verdict::number;
+use schedule::ticks::effect_ticks;
 use starts::NONE;
 
 // Files what the links and the gaps of a valid schedule say, if the buffer is long enough for it.
@@ -63,10 +66,12 @@ fn file_schedule(s: &[u8], job: Job, starts: &[u32], out: &mut [u8]) -> Answer
     requires { ⌜ WellFormed (view job (now s)) × Valid (view job (now s)) (scheduleOf (now starts)) ⌝ }
     ensures { λ r. ⌜ Written (fileOf (view job (now (s .entry))) (scheduleOf (now (starts .entry)))) (now (out .entry)) (now (out .exit)) r ⌝ }
 {
+    let ticks = effect_ticks(s, job, starts);
+    let by_fact = index_of(s, job, Linking::EffectsByFact, job.count.effects);
     let mut links = [0u16; 544];
-    support::find_links(s, job, starts, &mut links);
+    support::find_links(s, job, starts, &ticks, &by_fact, &mut links);
     let mut gaps = [NONE; 4096];
-    fill::fill_gaps(s, job, starts, &links, &mut gaps);
+    fill::fill_gaps(s, job, starts, &ticks, &by_fact, &links, &mut gaps);
     file_found(s, job, &links, &gaps, out)
 }
 

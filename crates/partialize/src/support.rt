@@ -1,30 +1,32 @@
 // Links: what supports each condition and each goal (orders, rule 1).
 ghost use mathlib.Core.Path.{_≡_};
 ghost use mathlib.Core.Bool.{_&&_, cond};
-ghost use Prim.Native.Nat.{_+_, _≤_, min};
-ghost use lib.Dec.{eqb};
+ghost use Prim.Native.Nat.{_+_, _≤_, _<_, min};
+ghost use lib.Dec.{eqb, leb};
 ghost use lib.ListN.{length};
 ghost use Rattle.laws.specs.Search.{lowest};
 ghost use Rattle.laws.specs.Fold.{least};
 ghost use Rattle.job.specs.Model.{view};
-ghost use Rattle.job.specs.WellFormed.{WellFormed};
 ghost use Rattle.schedule.specs.Ticks.{scheduleOf, effectTick};
+ghost use Rattle.schedule.specs.Seen.{afterAll};
+ghost use Rattle.schedule.specs.Known.{EffectsKnown};
 ghost use Rattle.orders.specs.Links as spec;
 ghost use Rattle.orders.specs.Links.{lastOpposing, linkOf, conditionLink, goalLink};
 ghost use Rattle.partialize.specs.Producers.{givesFrom};
 ghost use Rattle.orders.specs.Links.{linkAt};
 ghost use Rattle.partialize.specs.Table.{Filled};
+use job::index::fact_key;
+use job::index::first_of;
+use job::index::next_of;
 use job::layout::Job;
 use job::records::condition_fact;
 use job::records::condition_value;
 use job::records::fact_initial;
 use job::records::goal_fact;
 use job::records::goal_value;
-use schedule::ticks::effect_tick;
 use schedule::ticks::first_tick;
-use schedule::ticks::gives;
 use schedule::values::after_all;
-use schedule::values::last_set;
+use schedule::values::last_given;
 
 // The link that stands for the initial state.
 pub const INITIAL: u16 = 65535;
@@ -36,34 +38,35 @@ struct Wanted {
     from: usize,
 }
 
-fn other(value: u16) -> u16
+// The other of the two values.
+pub fn other(value: u16) -> u16
     ensures { λ r. ⌜ r ≡ spec.other value ⌝ }
 {
     if value == 0 { 1 } else { 0 }
 }
 
 // One more than the tick of the last opposing effect before tick t; 0 for none.
-fn last_opposing(s: &[u8], job: Job, starts: &[u32], fact: u16, value: u16, t: usize) -> usize
+fn last_opposing(
+    s: &[u8],
+    job: Job,
+    starts: &[u32],
+    ticks: &[usize],
+    index: &[u16],
+    fact: u16,
+    value: u16,
+    t: usize,
+) -> usize
+    requires { ⌜ EffectsKnown (view job (now s)) (scheduleOf (now starts)) (now ticks) (now index) × (fact < 256) ⌝ }
     ensures { λ r. ⌜ r ≡ lastOpposing (view job (now (s .entry))) (scheduleOf (now (starts .entry))) fact value t ⌝ }
 {
-    last_set(s, job, starts, fact, other(value), t)
+    last_given(s, job, starts, ticks, index, fact, other(value), t)
 }
 
-fn producer(s: &[u8], job: Job, starts: &[u32], want: Wanted, e: u16) -> bool
-    ensures { λ r. ⌜ r ≡ givesFrom (view job (now (s .entry))) (scheduleOf (now (starts .entry))) (want .fact) (want .value) (want .from) e ⌝ }
+// The tick of an effect that gives what is wanted, if it does so late enough; else `none`.
+fn produced_at(tick: usize, from: usize, none: usize) -> usize
+    ensures { λ r. ⌜ r ≡ cond (leb from tick) tick none ⌝ }
 {
-    gives(s, job, e, want.fact, want.value) & (want.from <= effect_tick(s, job, starts, e))
-}
-
-// The tick of a producer; `none` for any other effect.
-fn produced_at(s: &[u8], job: Job, starts: &[u32], want: Wanted, none: usize, e: u16) -> usize
-    ensures { λ r. ⌜ r ≡ cond (givesFrom (view job (now (s .entry))) (scheduleOf (now (starts .entry))) (want .fact) (want .value) (want .from) e) (effectTick (view job (now (s .entry))) (scheduleOf (now (starts .entry))) e) none ⌝ }
-{
-    if producer(s, job, starts, want, e) {
-        effect_tick(s, job, starts, e)
-    } else {
-        none
-    }
+    if from <= tick { tick } else { none }
 }
 
 fn lower(a: usize, b: usize) -> usize
@@ -73,87 +76,148 @@ fn lower(a: usize, b: usize) -> usize
 }
 
 // The tick of the earliest producer.
-fn earliest_produced(s: &[u8], job: Job, starts: &[u32], want: Wanted, none: usize) -> usize
+fn earliest_produced(
+    s: &[u8],
+    job: Job,
+    starts: &[u32],
+    ticks: &[usize],
+    index: &[u16],
+    want: Wanted,
+    none: usize,
+) -> usize
+    requires { ⌜ EffectsKnown (view job (now s)) (scheduleOf (now starts)) (now ticks) (now index) × (want .fact < 256) × (want .value ≤ 1) ⌝ }
     ensures { λ r. ⌜ r ≡ least (job .count .effects) none (λ e. cond (givesFrom (view job (now (s .entry))) (scheduleOf (now (starts .entry))) (want .fact) (want .value) (want .from) e) (effectTick (view job (now (s .entry))) (scheduleOf (now (starts .entry))) e) none) ⌝ }
 {
-    let n = job.count.effects;
     let mut earliest = none;
-    let mut e = 0;
-    while e < n {
-        earliest = lower(earliest, produced_at(s, job, starts, want, none, e));
-        e += 1;
+    let mut e = first_of(index, fact_key(want.fact, want.value));
+    while e < job.count.effects {
+        earliest = lower(earliest, produced_at(ticks[e as usize], want.from, none));
+        e = next_of(index, e);
     }
     earliest
 }
 
 // The lowest producer at the tick of the earliest.
-fn supporter(s: &[u8], job: Job, starts: &[u32], want: Wanted, earliest: usize) -> u16
+fn supporter(
+    s: &[u8],
+    job: Job,
+    starts: &[u32],
+    ticks: &[usize],
+    index: &[u16],
+    want: Wanted,
+    earliest: usize,
+) -> u16
+    requires { ⌜ EffectsKnown (view job (now s)) (scheduleOf (now starts)) (now ticks) (now index) × (want .fact < 256) × (want .value ≤ 1) ⌝ }
     ensures { λ r. ⌜ r ≡ lowest (job .count .effects) (λ e. givesFrom (view job (now (s .entry))) (scheduleOf (now (starts .entry))) (want .fact) (want .value) (want .from) e && eqb (effectTick (view job (now (s .entry))) (scheduleOf (now (starts .entry))) e) earliest) ⌝ }
 {
-    let n = job.count.effects;
-    let mut e = 0;
-    while e < n {
-        if producer(s, job, starts, want, e) & (effect_tick(s, job, starts, e) == earliest) {
+    let mut e = first_of(index, fact_key(want.fact, want.value));
+    while e < job.count.effects {
+        let tick = ticks[e as usize];
+        if (want.from <= tick) & (tick == earliest) {
             return e;
         }
-        e += 1;
+        e = next_of(index, e);
     }
     e
 }
 
 // What supports the value of a fact before tick t.
-fn link_of(s: &[u8], job: Job, starts: &[u32], fact: u16, value: u16, t: usize) -> u16
+fn link_of(
+    s: &[u8],
+    job: Job,
+    starts: &[u32],
+    ticks: &[usize],
+    index: &[u16],
+    end: usize,
+    fact: u16,
+    value: u16,
+    t: usize,
+) -> u16
+    requires { ⌜ EffectsKnown (view job (now s)) (scheduleOf (now starts)) (now ticks) (now index) × (end ≡ afterAll (view job (now s)) (scheduleOf (now starts))) × (fact < 256) × (value ≤ 1) ⌝ }
     ensures { λ r. ⌜ r ≡ linkOf (view job (now (s .entry))) (scheduleOf (now (starts .entry))) fact value t ⌝ }
 {
-    let from = last_opposing(s, job, starts, fact, value, t);
+    let from = last_opposing(s, job, starts, ticks, index, fact, value, t);
     if (from == 0) & (fact_initial(s, job, fact) == value) {
         return INITIAL;
     }
     let want = Wanted { fact, value, from };
-    let none = after_all(s, job, starts);
-    let earliest = earliest_produced(s, job, starts, want, none);
-    supporter(s, job, starts, want, earliest)
+    let earliest = earliest_produced(s, job, starts, ticks, index, want, end);
+    supporter(s, job, starts, ticks, index, want, earliest)
 }
 
-fn condition_link(s: &[u8], job: Job, starts: &[u32], c: u16) -> u16
+fn condition_link(
+    s: &[u8],
+    job: Job,
+    starts: &[u32],
+    ticks: &[usize],
+    index: &[u16],
+    end: usize,
+    c: u16,
+) -> u16
+    requires { ⌜ EffectsKnown (view job (now s)) (scheduleOf (now starts)) (now ticks) (now index) × (end ≡ afterAll (view job (now s)) (scheduleOf (now starts))) × (c < job .count .conditions) ⌝ }
     ensures { λ r. ⌜ r ≡ conditionLink (view job (now (s .entry))) (scheduleOf (now (starts .entry))) c ⌝ }
 {
     let fact = condition_fact(s, job, c);
     let value = condition_value(s, job, c);
     let first = first_tick(s, job, starts, c);
-    link_of(s, job, starts, fact, value, first)
+    link_of(s, job, starts, ticks, index, end, fact, value, first)
 }
 
-fn goal_link(s: &[u8], job: Job, starts: &[u32], g: u16) -> u16
+fn goal_link(
+    s: &[u8],
+    job: Job,
+    starts: &[u32],
+    ticks: &[usize],
+    index: &[u16],
+    end: usize,
+    g: u16,
+) -> u16
+    requires { ⌜ EffectsKnown (view job (now s)) (scheduleOf (now starts)) (now ticks) (now index) × (end ≡ afterAll (view job (now s)) (scheduleOf (now starts))) × (g < job .count .goals) ⌝ }
     ensures { λ r. ⌜ r ≡ goalLink (view job (now (s .entry))) (scheduleOf (now (starts .entry))) g ⌝ }
 {
     let fact = goal_fact(s, job, g);
     let value = goal_value(s, job, g);
-    let after = after_all(s, job, starts);
-    link_of(s, job, starts, fact, value, after)
+    link_of(s, job, starts, ticks, index, end, fact, value, end)
 }
 
 // The link of condition k, or past the conditions that of the next goal.
-fn link_at(s: &[u8], job: Job, starts: &[u32], k: u16) -> u16
+fn link_at(
+    s: &[u8],
+    job: Job,
+    starts: &[u32],
+    ticks: &[usize],
+    index: &[u16],
+    end: usize,
+    k: u16,
+) -> u16
+    requires { ⌜ EffectsKnown (view job (now s)) (scheduleOf (now starts)) (now ticks) (now index) × (end ≡ afterAll (view job (now s)) (scheduleOf (now starts))) × (k < job .count .conditions + job .count .goals) ⌝ }
     ensures { λ r. ⌜ r ≡ linkAt (view job (now (s .entry))) (scheduleOf (now (starts .entry))) k ⌝ }
 {
     let n = job.count.conditions;
     if k < n {
-        condition_link(s, job, starts, k)
+        condition_link(s, job, starts, ticks, index, end, k)
     } else {
-        goal_link(s, job, starts, k - n)
+        goal_link(s, job, starts, ticks, index, end, k - n)
     }
 }
 
 // Puts the link of each condition, then of each goal, into a list.
-pub fn find_links(s: &[u8], job: Job, starts: &[u32], links: &mut [u16])
-    requires { ⌜ WellFormed (view job (now s)) × (job .count .conditions + job .count .goals ≤ length (now links)) ⌝ }
+pub fn find_links(
+    s: &[u8],
+    job: Job,
+    starts: &[u32],
+    ticks: &[usize],
+    index: &[u16],
+    links: &mut [u16],
+)
+    requires { ⌜ EffectsKnown (view job (now s)) (scheduleOf (now starts)) (now ticks) (now index) × (job .count .conditions + job .count .goals ≤ length (now links)) ⌝ }
     ensures { λ _. ⌜ Filled (job .count .conditions + job .count .goals) (linkAt (view job (now (s .entry))) (scheduleOf (now (starts .entry)))) (now (links .entry)) (now (links .exit)) ⌝ }
 {
+    let end = after_all(s, job, starts);
     let n = job.count.conditions + job.count.goals;
     let mut k = 0;
     while k < n {
-        links[k as usize] = link_at(s, job, starts, k);
+        links[k as usize] = link_at(s, job, starts, ticks, index, end, k);
         k += 1;
     }
 }

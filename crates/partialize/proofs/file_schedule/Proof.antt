@@ -1,13 +1,13 @@
--- The links, the gaps, then the file.
+-- The ticks and the index, the links, the gaps, then the file.
 use Prim.Native.Nat.{ℕ}
 use mathlib.Core.Path.{_≡_, refl}
 use native.Mathlib.Decide.{decLt}
+use native.Mathlib.Omega.{arith}
 use denote.Ref.{now}
 use lib.ListN.{getD, replicate, length-replicate, getD-replicate, List·getD-eq-default}
 use Rattle.schedule.specs.Ticks.{scheduleOf}
 use Rattle.partialize.proofs.Found.{none-from}
 use borrow.Author.Needs.{needs}
-use native.Mathlib.Omega.{arith}
 use Rattle.partialize.proofs.file_schedule.Statement.{statement}
 use Rattle.partialize.proofs.file_schedule.Tie as tie
 
@@ -23,13 +23,19 @@ pub file-schedule-spec : {M : Type 1} → statement M
 file-schedule-spec =
     tie.close
     (tie.spec
+    (λ c κs. c .before .before .before .pre .0 .effectCount)
+    (λ c κs. c .before .before .before .before .pre .0 .effectCount)
     (λ c. search needs)
-    (λ c κs. search needs)
     (λ c. search needs)
     (λ c. search needs)
-    (λ c κs. let b = c .before .before .before .before .before .before .before .before in let f = c .before .before .before .find-links .ensures in (b .pre .0, b .pre .1, record { each = f .below }, omega (arith, f .size, length-replicate {A = ℕ} 544 0, b .pre .0 .conditionCount, b .pre .0 .goalCount), refl, zeros))
+    (λ c κs. let b = c .before .before .before .before .before .before .before .before in (record { form = b .pre .0; timed = c .before .before .before .before .effect-ticks .ensures; linked = c .before .before .before .index-of .ensures }, omega (arith, b .pre .0 .conditionCount, b .pre .0 .goalCount)))
+    (λ c. search needs)
+    (λ c. search needs)
+    (λ c. search needs)
+    (λ c. search needs)
+    (λ c κs. let b = c .before .before .before .before .before .before .before .before .before .before .before .before .before .before in let f = c .before .before .before .before .before .find-links .ensures in (record { form = b .pre .0; timed = c .before .before .before .before .before .before .before .before .before .before .effect-ticks .ensures; linked = c .before .before .before .before .before .before .before .before .before .index-of .ensures }, b .pre .1, record { each = f .below }, omega (arith, f .size, length-replicate {A = ℕ} 544 0, b .pre .0 .conditionCount, b .pre .0 .goalCount), refl, zeros))
     (λ c. search needs)
     (λ c. search needs)
     (λ c κs. (search needs, search needs, search needs, none-from _ _ _ (c .before .before .before .before .fill-gaps .ensures)))
     (λ c. search needs)
-    (λ c. let b = c .before .before .before .before .before .before .before .before .before .before .before .before .before .before .before .before in let f = c .before .before .before .before .before .before .before .before .before .before .before .find-links .ensures in c .before .before .file-found .ensures (scheduleOf (now (b .args .starts))) (record { each = f .below }) (c .before .before .before .before .before .before .before .fill-gaps .ensures)))
+    (λ c. let b = c .before .before .before .before .before .before .before .before .before .before .before .before .before .before .before .before .before .before .before .before .before .before in let f = c .before .before .before .before .before .before .before .before .before .before .before .before .before .find-links .ensures in c .before .before .file-found .ensures (scheduleOf (now (b .args .starts))) (record { each = f .below }) (c .before .before .before .before .before .before .before .fill-gaps .ensures)))

@@ -1,4 +1,5 @@
 -- The rules one after the other.
+use native.Mathlib.Omega.{arith}
 use Rattle.orders.specs.Gaps.{gapOf}
 use Rattle.partialize.proofs.Raised.{raised-then, empty-gaps, table-of}
 use Rattle.partialize.proofs.LinkList.{valid-named}
@@ -11,10 +12,14 @@ unfolding gapOf
 fill-gaps-spec =
     tie.close
     (tie.spec
-    (λ c κs. let d = c .before .before .before .before .before in (d .pre .0, valid-named _ _ _ (d .pre .2) (d .pre .0) (d .pre .1), empty-gaps _ (d .pre .4) (d .pre .5), d .pre .3))
-    (λ c κs. let d = c .before .before .before .before .before .before .before .before .before in (d .pre .0, (c .before .before .before .fill-support .ensures _ (d .pre .2)) .whole (empty-gaps _ (d .pre .4) (d .pre .5))))
-    (λ c κs. let d = c .before .before .before .before .before .before .before .before .before .before .before .before .before in (d .pre .0, c .before .before .before .fill-opposing .ensures .whole ((c .before .before .before .before .before .before .before .fill-support .ensures _ (d .pre .2)) .whole (empty-gaps _ (d .pre .4) (d .pre .5)))))
-    (λ c κs. let d = c .before .before .before .before .before .before .before .before .before .before .before .before .before .before .before .before .before in (d .pre .0, c .before .before .before .fill-conditions .ensures .whole (c .before .before .before .before .before .before .before .fill-opposing .ensures .whole ((c .before .before .before .before .before .before .before .before .before .before .before .fill-support .ensures _ (d .pre .2)) .whole (empty-gaps _ (d .pre .4) (d .pre .5))))))
-    (λ c κs. let d = c .before .before .before .before .before .before .before .before .before .before .before .before .before .before .before .before .before .before .before .before .before in (d .pre .0, c .before .before .before .fill-levels .ensures .whole (c .before .before .before .before .before .before .before .fill-conditions .ensures .whole (c .before .before .before .before .before .before .before .before .before .before .before .fill-opposing .ensures .whole ((c .before .before .before .before .before .before .before .before .before .before .before .before .before .before .before .fill-support .ensures _ (d .pre .2)) .whole (empty-gaps _ (d .pre .4) (d .pre .5)))))))
+    (λ c κs. let d = c .before .before .before .before .before .before .before in (d .pre .0 .form, valid-named _ _ _ (d .pre .2) (d .pre .0 .form) (d .pre .1), empty-gaps _ (d .pre .4) (d .pre .5), d .pre .3))
+    (λ c κs. let d = c .before .before .before .before .before .before .before .before .before .before .before in (d .pre .0, (c .before .before .before .fill-support .ensures _ (d .pre .2)) .whole (empty-gaps _ (d .pre .4) (d .pre .5))))
+    (λ c κs. let d = c .before .before .before .before .before .before .before .before .before .before .before .before .before .before .before in (d .pre .0, c .before .before .before .fill-opposing .ensures .whole ((c .before .before .before .before .before .before .before .fill-support .ensures _ (d .pre .2)) .whole (empty-gaps _ (d .pre .4) (d .pre .5)))))
+    (λ c κs. c .before .before .before .before .before .before .before .before .before .before .before .before .before .before .before .before .before .before .pre .0 .form .useCount)
+    (λ c κs. omega (arith, c .before .before .before .before .before .before .before .before .before .before .before .before .before .before .before .before .before .before .before .pre .0 .form .useCount))
     (λ c. search needs)
-    (λ c. let d = c .before .before .before .before .before .before .before .before .before .before .before .before .before .before .before .before .before .before .before .before .before .before .before .before in table-of _ _ _ _ (raised-then _ _ _ _ _ _ (raised-then _ _ _ _ _ _ (raised-then _ _ _ _ _ _ (raised-then _ _ _ _ _ _ (c .before .before .before .before .before .before .before .before .before .before .before .before .before .before .before .before .before .before .fill-support .ensures _ (d .pre .2)) (c .before .before .before .before .before .before .before .before .before .before .before .before .before .before .fill-opposing .ensures)) (c .before .before .before .before .before .before .before .before .before .before .fill-conditions .ensures)) (c .before .before .before .before .before .before .fill-levels .ensures)) (c .before .before .fill-serial .ensures)) (d .pre .4) (d .pre .5)))
+    (λ c. search needs)
+    (λ c κs. let d = c .before .before .before .before .before .before .before .before .before .before .before .before .before .before .before .before .before .before .before .before .before .before .before in (record { form = d .pre .0 .form; timed = c .before .before .before .before .use-ticks .ensures; linked = c .before .before .before .index-of .ensures }, c .before .before .before .before .before .before .before .fill-conditions .ensures .whole (c .before .before .before .before .before .before .before .before .before .before .before .fill-opposing .ensures .whole ((c .before .before .before .before .before .before .before .before .before .before .before .before .before .before .before .fill-support .ensures _ (d .pre .2)) .whole (empty-gaps _ (d .pre .4) (d .pre .5))))))
+    (λ c κs. let d = c .before .before .before .before .before .before .before .before .before .before .before .before .before .before .before .before .before .before .before .before .before .before .before .before .before .before .before in (d .pre .0 .form, c .before .before .before .fill-levels .ensures .whole (c .before .before .before .before .before .before .before .before .before .before .before .fill-conditions .ensures .whole (c .before .before .before .before .before .before .before .before .before .before .before .before .before .before .before .fill-opposing .ensures .whole ((c .before .before .before .before .before .before .before .before .before .before .before .before .before .before .before .before .before .before .before .fill-support .ensures _ (d .pre .2)) .whole (empty-gaps _ (d .pre .4) (d .pre .5)))))))
+    (λ c. search needs)
+    (λ c. let d = c .before .before .before .before .before .before .before .before .before .before .before .before .before .before .before .before .before .before .before .before .before .before .before .before .before .before .before .before .before .before in table-of _ _ _ _ (raised-then _ _ _ _ _ _ (raised-then _ _ _ _ _ _ (raised-then _ _ _ _ _ _ (raised-then _ _ _ _ _ _ (c .before .before .before .before .before .before .before .before .before .before .before .before .before .before .before .before .before .before .before .before .before .before .fill-support .ensures _ (d .pre .2)) (c .before .before .before .before .before .before .before .before .before .before .before .before .before .before .before .before .before .before .fill-opposing .ensures)) (c .before .before .before .before .before .before .before .before .before .before .before .before .before .before .fill-conditions .ensures)) (c .before .before .before .before .before .before .fill-levels .ensures)) (c .before .before .fill-serial .ensures)) (d .pre .4) (d .pre .5)))

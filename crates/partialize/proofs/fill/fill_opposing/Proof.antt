@@ -1,12 +1,12 @@
 -- Each effect in turn.
 use Prim.Native.Nat.{_≤_, _-_}
+use native.Mathlib.Omega.{arith}
 use Rattle.laws.specs.Fold.{largest}
 use Rattle.job.specs.Model.{view}
 use Rattle.schedule.specs.Ticks.{scheduleOf}
 use Rattle.orders.specs.Gaps.{opposingOrder, opposingGap}
 use Rattle.partialize.specs.Table.{Raised}
 use Rattle.partialize.proofs.Raised.{raised-start, raised-more, raised-end}
-use native.Mathlib.Omega.{arith}
 use Rattle.partialize.proofs.fill.fill_opposing.Statement.{statement}
 use Rattle.partialize.proofs.fill.fill_opposing.Tie as tie
 
@@ -15,12 +15,12 @@ unfolding opposingGap
 fill-opposing-spec =
     tie.close
     (tie.spec
-    (λ s job starts gaps₀ n e₀ gaps e. (e ≤ n) × Raised (job .count .steps) (λ a b. largest e (λ j. largest (job .count .effects) (opposingOrder (view job s) (scheduleOf starts) a b j))) gaps₀ gaps)
-    (λ s job starts gaps₀ n e₀ gaps e. n - e)
+    (λ s job starts ticks index gaps₀ n e₀ gaps e. (e ≤ n) × Raised (job .count .steps) (λ a b. largest e (λ j. largest (job .count .effects) (opposingOrder (view job s) (scheduleOf starts) a b j))) gaps₀ gaps)
+    (λ s job starts ticks index gaps₀ n e₀ gaps e. n - e)
     (λ c. (omega arith, raised-start _ _ _))
-    (λ c κs. let d = c .before .before .before .before .before .before in (d .pre .0, c .before .before .loop .inv .1 .whole (d .pre .1), c .before .loop-test .taken))
+    (λ c κs. let d = c .before .before .before .before .before .before .before .before in (d .pre .0, c .before .before .loop .inv .1 .whole (d .pre .1), c .before .loop-test .taken))
     (λ c. omega arith)
     (λ c. omega arith)
     (λ c. (omega arith, raised-more _ _ _ _ _ _ (c .before .before .before .before .before .loop .inv .1) (c .before .before .raise-opposing .ensures)))
-    (λ c. let d = c .before .before .before .before .before in omega (arith, c .before .loop .inv .1 .whole (d .pre .1) .size, d .pre .1 .size))
+    (λ c. let d = c .before .before .before .before .before .before .before in omega (arith, c .before .loop .inv .1 .whole (d .pre .1) .size, d .pre .1 .size))
     (λ c. raised-end _ _ _ _ _ _ (c .before .loop .inv .1) (c .before .loop .inv .0) (c .loop-test .left)))

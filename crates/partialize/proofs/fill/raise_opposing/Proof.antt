@@ -1,30 +1,46 @@
--- Each other effect in turn.
-use Prim.Native.Nat.{_≤_, _-_}
-use Rattle.laws.specs.Fold.{largest}
-use Rattle.job.specs.Model.{view}
-use Rattle.schedule.specs.Ticks.{scheduleOf}
-use Rattle.orders.specs.Gaps.{opposingOrder}
-use Rattle.partialize.specs.Table.{Raised}
-use Rattle.partialize.proofs.Raised.{single-order, raised-start, raised-order, raised-end}
-use borrow.Author.Needs.{needs}
+-- A walk along the effects with the other value of the fact of e.
+use Prim.Native.Nat.{_-_}
+use mathlib.Core.Path.{ap, ap₂, _∙_}
 use native.Mathlib.Omega.{arith}
+use Rattle.laws.specs.Fold.{largest}
+use Rattle.laws.proofs.Linked.{Walk}
+use Rattle.job.specs.declared.index.Linking.the-variants.{EffectsByFact}
+use Rattle.job.specs.Model.{view}
+use Rattle.job.specs.Indexed.{factKey, keyOf}
+use Rattle.schedule.specs.Ticks.{scheduleOf}
+use Rattle.schedule.proofs.Walks.{walk-first, walk-next, walk-less, walk-end}
+use Rattle.orders.specs.Gaps.{opposingOrder}
+use Rattle.orders.specs.Links.{other}
+use Rattle.partialize.specs.Table.{Raised}
+use Rattle.orders.proofs.Near.{effect-near}
+use Rattle.partialize.proofs.Raised.{raised-start}
+use Rattle.partialize.proofs.Walked.{raised-pass, raised-met, opposing-none, opposing-due}
+use borrow.Author.Needs.{needs}
 use Rattle.partialize.proofs.fill.raise_opposing.Statement.{statement}
 use Rattle.partialize.proofs.fill.raise_opposing.Tie as tie
 
 pub raise-opposing-spec : {M : Type 1} → statement M
-unfolding opposingOrder
 raise-opposing-spec =
     tie.close
     (tie.spec
-    (λ s job starts gaps₀ e n first f₀ gaps f. (f ≤ n) × Raised (job .count .steps) (λ i k. largest f (opposingOrder (view job s) (scheduleOf starts) i k e)) gaps₀ gaps)
-    (λ s job starts gaps₀ e n first f₀ gaps f. n - f)
+    (λ s job starts ticks index gaps₀ e first at tick key f₀ gaps f. Walk (job .count .effects) (keyOf (view job s) EffectsByFact) (factKey (view job s .effectFact e) (other (view job s .effectValue e))) (λ j. Raised (job .count .steps) (λ i k. largest j (opposingOrder (view job s) (scheduleOf starts) i k e)) gaps₀ gaps) f)
+    (λ s job starts ticks index gaps₀ e first at tick key f₀ gaps f. job .count .effects - f)
     (λ c κs. search needs)
-    (λ c. (omega arith, raised-start _ _ _))
-    (λ c κs. let d = c .before .before .before .before .before .before in (d .pre .0, d .pre .2, c .loop-test .taken))
     (λ c κs. search needs)
-    (λ c κs. let d = c .before .before .before .before .before .before .before .before .before in (c .before .before .before .before .loop .inv .1 .whole (d .pre .1), omega (arith, c .before .before .before .before .before .effect-step .ensures, d .pre .0 .effectStep _ (d .pre .2), d .pre .0 .stepCount), omega (arith, c .effect-step2 .ensures, d .pre .0 .effectStep _ (c .before .before .before .loop-test .taken), d .pre .0 .stepCount), c .before .before .opposing-gap .ensures .1))
-    (λ c. omega arith)
-    (λ c. omega arith)
-    (λ c. let d = c .before .before .before .before .before .before .before .before .before .before .before .before in (omega arith, raised-order _ _ _ _ _ _ _ _ _ (c .before .before .before .before .before .before .before .loop .inv .1) (d .pre .0 .stepCount) (rw (c .before .before .before .before .before .before .before .before .effect-step .ensures) (d .pre .0 .effectStep _ (d .pre .2))) (rw (c .before .before .before .effect-step2 .ensures) (d .pre .0 .effectStep _ (c .before .before .before .before .before .before .loop-test .taken))) (c .before .before .raise .ensures) (single-order _ _ _ _ _ (c .before .before .before .before .before .before .before .before .effect-step .ensures) (c .before .before .before .effect-step2 .ensures) (c .before .before .before .before .before .opposing-gap .ensures .0))))
-    (λ c. let d = c .before .before .before .before .before .before in omega (arith, c .before .loop .inv .1 .whole (d .pre .1) .size, d .pre .1 .size))
-    (λ c. raised-end _ _ _ _ _ _ (c .before .loop .inv .1) (c .before .loop .inv .0) (c .loop-test .left)))
+    (λ c. search needs)
+    (λ c. let d = c .before .before .before .before .before .before .before .before in omega (arith, d .pre .2, d .pre .0 .timed .size))
+    (λ c κs. search needs)
+    (λ c κs. search needs)
+    (λ c κs. search needs)
+    (λ c κs. search needs)
+    (λ c κs. (c .before .before .before .before .before .before .before .before .before .before .before .before .pre .0 .linked .size, c .fact-key .ensures .1))
+    (λ c. let d = c .before .before .before .before .before .before .before .before .before .before .before .before .before in let key = c .before .fact-key .ensures in walk-first (d .pre .0 .linked) _ _ (λ j h other w. raised-pass _ _ _ j _ (opposing-none (d .pre .0) _ j (d .pre .2) h other) w) (raised-start _ _ _) (key .0 ∙ ap₂ factKey (c .before .before .before .before .effect-fact .ensures) (c .before .before .other .ensures ∙ ap other (c .before .before .before .effect-value .ensures)), key .1) (c .first-of .ensures))
+    (λ c. search needs)
+    (λ c. search needs)
+    (λ c. omega (arith, c .before .before .if1 .taken, c .before .before .before .before .before .before .before .before .before .before .before .before .before .before .before .before .before .before .pre .0 .timed .size))
+    (λ c κs. let d = c .before .before .before .before .before .before .before .before .before .before .before .before .before .before .before .before .before .before in let form = d .pre .0 .form in (form, c .before .before .before .before .loop .inv .gathered .whole (d .pre .1), rw (c .before .before .before .before .before .before .before .before .before .before .before .before .effect-step .ensures) (form .effectStep _ (d .pre .2)), omega (arith, c .before .before .before .before .before .before .before .before .before .before .before .effect-at .ensures .0, effect-near _ form _ (d .pre .2)), c .before .before .if1 .taken))
+    (λ c κs. let d = c .before .before .before .before .before .before .before .before .before .before .before .before .before .before .before .before .before .before .before .before .before in (d .pre .0 .linked .size, omega (arith, c .before .before .before .before .before .if1 .taken, d .pre .0 .form .effectCount)))
+    (λ c. walk-less (c .before .before .before .before .before .before .before .before .before .before .before .before .before .before .before .before .before .before .before .before .before .before .pre .0 .linked) _ (c .before .before .before .before .before .before .if1 .taken) (c .next-of .ensures))
+    (λ c. let d = c .before .before .before .before .before .before .before .before .before .before .before .before .before .before .before .before .before .before .before .before .before .before in let w = c .before .before .before .before .before .before .before .before .loop .inv in let h = c .before .before .before .before .before .before .if1 .taken in walk-next (d .pre .0 .linked) _ _ (λ j h other w. raised-pass _ _ _ j _ (opposing-none (d .pre .0) _ j (d .pre .2) h other) w) _ h w (raised-met _ _ _ _ _ _ _ (w .gathered) (c .before .before .before .raise-to-effect .ensures) (opposing-due (d .pre .0) _ _ (d .pre .2) h (w .there h) (c .before .before .before .before .before .before .before .before .before .before .before .before .before .before .before .before .effect-step .ensures) (c .before .before .before .before .before .before .before .before .before .before .before .before .before .before .before .effect-at .ensures .0))) (c .next-of .ensures))
+    (λ c. let d = c .before .before .before .before .before .before .before .before .before .before .before .before .before .before .before .before in omega (arith, c .before .before .loop .inv .gathered .whole (d .pre .1) .size, d .pre .1 .size))
+    (λ c. walk-end _ (c .before .before .loop .inv) (c .if1 .left)))

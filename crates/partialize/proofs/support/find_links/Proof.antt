@@ -1,12 +1,12 @@
 -- The list is filled one by one.
 use Prim.Native.Nat.{_≤_, _-_}
+use native.Mathlib.Omega.{arith}
 use Rattle.job.specs.Model.{view}
 use Rattle.schedule.specs.Ticks.{scheduleOf}
 use Rattle.orders.specs.Links.{linkAt}
 use Rattle.partialize.specs.Table.{Filled}
 use Rattle.partialize.proofs.Loops.{filled-start, filled-more, filled-end}
 use borrow.Author.Needs.{needs}
-use native.Mathlib.Omega.{arith}
 use Rattle.partialize.proofs.support.find_links.Statement.{statement}
 use Rattle.partialize.proofs.support.find_links.Tie as tie
 
@@ -14,11 +14,12 @@ pub find-links-spec : {M : Type 1} → statement M
 find-links-spec =
     tie.close
     (tie.spec
-    (λ s job starts links₀ n k₀ links k. (k ≤ n) × Filled k (linkAt (view job s) (scheduleOf starts)) links₀ links)
-    (λ s job starts links₀ n k₀ links k. n - k)
-    (λ c. omega arith)
-    (λ c. (omega arith, filled-start _ _))
+    (λ s job starts ticks index links₀ end n k₀ links k. (k ≤ n) × Filled k (linkAt (view job s) (scheduleOf starts)) links₀ links)
+    (λ s job starts ticks index links₀ end n k₀ links k. n - k)
     (λ c κs. search needs)
+    (λ c. let form = c .before .before .before .before .before .before .before .pre .0 .form in omega (arith, form .conditionCount, form .goalCount))
+    (λ c. (omega arith, filled-start _ _))
+    (λ c κs. (c .before .before .before .before .before .before .before .before .before .pre .0, c .before .before .before .after-all .ensures, c .loop-test .taken))
     (λ c. search needs)
     (λ c. search needs)
     (λ c. omega arith)

@@ -1,4 +1,5 @@
 -- The link of the goal's fact and value.
+use native.Mathlib.Omega.{arith}
 use Rattle.orders.specs.Links.{goalLink}
 use borrow.Author.Needs.{needs}
 use Rattle.partialize.proofs.support.goal_link.Statement.{statement}
@@ -11,6 +12,5 @@ goal-link-spec =
     (tie.spec
     (λ c κs. search needs)
     (λ c κs. search needs)
-    (λ c κs. search needs)
-    (λ c κs. search needs)
-    (λ c. cc))
+    (λ c κs. let d = c .before .before .before .before .before .before in let form = d .pre .0 .form in (d .pre .0, d .pre .1, omega (arith, c .before .goal-fact .ensures, form .goalFact _ (d .pre .2), form .factCount), rw (c .goal-value .ensures) (form .goalValue _ (d .pre .2))))
+    (λ c. rw (c .before .before .goal-fact .ensures, c .before .goal-value .ensures, c .before .before .before .before .before .before .before .pre .1) at (c .link-of .ensures)))

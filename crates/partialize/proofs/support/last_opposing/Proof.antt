@@ -1,4 +1,5 @@
 -- The last effect with the other value.
+use native.Mathlib.Omega.{arith}
 use borrow.Author.Needs.{needs}
 use Rattle.partialize.proofs.support.last_opposing.Statement.{statement}
 use Rattle.partialize.proofs.support.last_opposing.Tie as tie
@@ -8,5 +9,5 @@ last-opposing-spec =
     tie.close
     (tie.spec
     (λ c κs. search needs)
-    (λ c κs. search needs)
+    (λ c κs. let d = c .before .before .before .before .before in (d .pre .0, d .pre .1, omega (arith, c .other .ensures)))
     (λ c. cc))
