@@ -213,7 +213,7 @@ pub fn find_links(
     requires { ⌜ EffectsKnown (view job (now s)) (scheduleOf (now starts)) (now ticks) (now index) × (job .count .conditions + job .count .goals ≤ length (now links)) ⌝ }
     ensures { λ _. ⌜ Filled (job .count .conditions + job .count .goals) (linkAt (view job (now (s .entry))) (scheduleOf (now (starts .entry)))) (now (links .entry)) (now (links .exit)) ⌝ }
 {
-    let end = after_all(s, job, starts);
+    let end = after_all(s, job, starts, ticks);
     let n = job.count.conditions + job.count.goals;
     let mut k = 0;
     while k < n {

@@ -17,11 +17,11 @@ use Rattle.job.specs.Indexed.{factKey, levelKey, keyOf}
 use Rattle.schedule.specs.Ticks.{gives, opposes}
 
 -- one more tick is listed
-pub timed-more : (tick : ℕ → ℕ) (k v : ℕ) (l : List ℕ) → k < length l → v ≡ tick k → ((j : ℕ) → j < k → getD l j 0 ≡ tick j) → (j : ℕ) → j < k + 1 → getD (set l k v) j 0 ≡ tick j
-timed-more tick k v l h e below j g =
+pub timed-more : (P : ℕ → ℕ → Type 0) (k v : ℕ) (l : List ℕ) → k < length l → P k v → ((j : ℕ) → j < k → P j (getD l j 0)) → (j : ℕ) → j < k + 1 → P j (getD (set l k v) j 0)
+timed-more P k v l h p below j g =
     ⊎-elim
-    (λ (q : j ≡ k). subst (λ i. getD (set l k v) i 0 ≡ tick i) (sym q) (getD-set-same l k v 0 h ∙ e))
-    (λ (r : j < k). getD-set-other l k j v 0 (omega arith) ∙ below j r)
+    (λ (q : j ≡ k). subst (λ i. P i (getD (set l k v) i 0)) (sym q) (subst (P k) (sym (getD-set-same l k v 0 h)) p))
+    (λ (r : j < k). subst (P j) (sym (getD-set-other l k j v 0 (omega arith))) (below j r))
     (last-or-below (let w : j < k + 1 = g in omega arith))
 
 module _ (m : Model) where

@@ -10,10 +10,11 @@ use Rattle.job.specs.Indexed.{keyOf, Indexed}
 use Rattle.schedule.specs.Ticks.{effectTick, useTick}
 use Rattle.schedule.specs.Seen.{afterAll}
 
--- a list of the ticks of n points
+-- a list of the ticks of n points: a start and an offset of 32 bits each
 pub record Timed (n : ℕ) (tick : ℕ → ℕ) (ticks : List ℕ) : Type 0 where
   pub size : n ≤ length ticks
   pub at : (k : ℕ) → k < n → getD ticks k 0 ≡ tick k
+  pub low : (k : ℕ) → k < n → getD ticks k 0 < 8589934592
 
 -- a well-formed job, the ticks of its effects, and its effects by fact and value
 pub record EffectsKnown (m : Model) (x : ℕ → ℕ) (ticks index : List ℕ) : Type 0 where

@@ -200,7 +200,7 @@ fn check_starts(s: &[u8], job: Job, starts: &[u32]) -> Verdict
     let facts = index_of(s, job, Linking::EffectsByFact, job.count.effects);
     let uses = ticks::use_ticks(s, job, starts);
     let levels = index_of(s, job, Linking::UsesByLevel, job.count.uses);
-    let end = values::after_all(s, job, starts);
+    let end = values::after_all(s, job, starts, &ticks);
     rules_after(v, s, job, starts, &ticks, &facts, &uses, &levels, end)
 }
 

@@ -4,10 +4,9 @@ ghost use Prim.Native.Nat.{suc, max, _-_, _≤_, _<_};
 ghost use mathlib.Core.Bool.{cond};
 ghost use lib.Dec.{ltb};
 ghost use Rattle.job.specs.Model.{view};
-ghost use Rattle.schedule.specs.Ticks.{scheduleOf};
+ghost use Rattle.schedule.specs.Ticks.{scheduleOf, effectTick};
 ghost use Rattle.schedule.specs.Seen.{lastSet, seen, afterAll};
-ghost use Rattle.schedule.specs.Known.{EffectsKnown};
-use crate::ticks::effect_tick;
+ghost use Rattle.schedule.specs.Known.{Timed, EffectsKnown};
 use job::index::fact_key;
 use job::index::first_of;
 use job::index::next_of;
@@ -82,14 +81,14 @@ pub fn value_seen(
 }
 
 // A tick after all effects.
-pub fn after_all(s: &[u8], job: Job, starts: &[u32]) -> usize
+pub fn after_all(s: &[u8], job: Job, starts: &[u32], ticks: &[usize]) -> usize
+    requires { ⌜ Timed (job .count .effects) (effectTick (view job (now s)) (scheduleOf (now starts))) (now ticks) ⌝ }
     ensures { λ r. ⌜ r ≡ afterAll (view job (now (s .entry))) (scheduleOf (now (starts .entry))) ⌝ }
 {
-    let n = job.count.effects;
     let mut after = 0;
     let mut e = 0;
-    while e < n {
-        after = larger(after, effect_tick(s, job, starts, e) + 1);
+    while e < job.count.effects {
+        after = larger(after, ticks[e as usize] + 1);
         e += 1;
     }
     after
