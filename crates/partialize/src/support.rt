@@ -1,8 +1,8 @@
 // Links: what supports each condition and each goal (orders, rule 1).
 ghost use mathlib.Core.Path.{_≡_};
 ghost use mathlib.Core.Bool.{_&&_, cond};
-ghost use Prim.Native.Nat.{_+_, _≤_, _<_, min};
-ghost use lib.Dec.{eqb, leb};
+ghost use Prim.Native.Nat.{_+_, _≤_, _<_};
+ghost use lib.Dec.{eqb};
 ghost use lib.ListN.{length};
 ghost use Rattle.laws.specs.Search.{lowest};
 ghost use Rattle.laws.specs.Fold.{least};
@@ -62,42 +62,7 @@ fn last_opposing(
     last_given(s, job, starts, ticks, index, fact, other(value), t)
 }
 
-// The tick of an effect that gives what is wanted, if it does so late enough; else `none`.
-fn produced_at(tick: usize, from: usize, none: usize) -> usize
-    ensures { λ r. ⌜ r ≡ cond (leb from tick) tick none ⌝ }
-{
-    if from <= tick { tick } else { none }
-}
-
-fn lower(a: usize, b: usize) -> usize
-    ensures { λ r. ⌜ r ≡ min a b ⌝ }
-{
-    if b < a { b } else { a }
-}
-
-// The tick of the earliest producer.
-fn earliest_produced(
-    s: &[u8],
-    job: Job,
-    starts: &[u32],
-    ticks: &[usize],
-    index: &[u16],
-    want: Wanted,
-    none: usize,
-) -> usize
-    requires { ⌜ EffectsKnown (view job (now s)) (scheduleOf (now starts)) (now ticks) (now index) × (want .fact < 256) × (want .value ≤ 1) ⌝ }
-    ensures { λ r. ⌜ r ≡ least (job .count .effects) none (λ e. cond (givesFrom (view job (now (s .entry))) (scheduleOf (now (starts .entry))) (want .fact) (want .value) (want .from) e) (effectTick (view job (now (s .entry))) (scheduleOf (now (starts .entry))) e) none) ⌝ }
-{
-    let mut earliest = none;
-    let mut e = first_of(index, fact_key(want.fact, want.value));
-    while e < job.count.effects {
-        earliest = lower(earliest, produced_at(ticks[e as usize], want.from, none));
-        e = next_of(index, e);
-    }
-    earliest
-}
-
-// The lowest producer at the tick of the earliest.
+// The lowest of the earliest producers; `end` is a tick after all effects.
 fn supporter(
     s: &[u8],
     job: Job,
@@ -105,20 +70,23 @@ fn supporter(
     ticks: &[usize],
     index: &[u16],
     want: Wanted,
-    earliest: usize,
+    end: usize,
 ) -> u16
-    requires { ⌜ EffectsKnown (view job (now s)) (scheduleOf (now starts)) (now ticks) (now index) × (want .fact < 256) × (want .value ≤ 1) ⌝ }
-    ensures { λ r. ⌜ r ≡ lowest (job .count .effects) (λ e. givesFrom (view job (now (s .entry))) (scheduleOf (now (starts .entry))) (want .fact) (want .value) (want .from) e && eqb (effectTick (view job (now (s .entry))) (scheduleOf (now (starts .entry))) e) earliest) ⌝ }
+    requires { ⌜ EffectsKnown (view job (now s)) (scheduleOf (now starts)) (now ticks) (now index) × (end ≡ afterAll (view job (now s)) (scheduleOf (now starts))) × (want .fact < 256) × (want .value ≤ 1) ⌝ }
+    ensures { λ r. ⌜ r ≡ lowest (job .count .effects) (λ e. givesFrom (view job (now (s .entry))) (scheduleOf (now (starts .entry))) (want .fact) (want .value) (want .from) e && eqb (effectTick (view job (now (s .entry))) (scheduleOf (now (starts .entry))) e) (least (job .count .effects) end (λ k. cond (givesFrom (view job (now (s .entry))) (scheduleOf (now (starts .entry))) (want .fact) (want .value) (want .from) k) (effectTick (view job (now (s .entry))) (scheduleOf (now (starts .entry))) k) end))) ⌝ }
 {
+    let mut earliest = end;
+    let mut found = job.count.effects;
     let mut e = first_of(index, fact_key(want.fact, want.value));
     while e < job.count.effects {
         let tick = ticks[e as usize];
-        if (want.from <= tick) & (tick == earliest) {
-            return e;
+        if (want.from <= tick) & (tick < earliest) {
+            earliest = tick;
+            found = e;
         }
         e = next_of(index, e);
     }
-    e
+    found
 }
 
 // What supports the value of a fact before tick t.
@@ -141,8 +109,7 @@ fn link_of(
         return INITIAL;
     }
     let want = Wanted { fact, value, from };
-    let earliest = earliest_produced(s, job, starts, ticks, index, want, end);
-    supporter(s, job, starts, ticks, index, want, earliest)
+    supporter(s, job, starts, ticks, index, want, end)
 }
 
 fn condition_link(
