@@ -16,7 +16,7 @@ find-links-spec =
     (tie.spec
     (λ s job starts ticks index links₀ end n k₀ links k. (k ≤ n) × Filled k (linkAt (view job s) (scheduleOf starts)) links₀ links)
     (λ s job starts ticks index links₀ end n k₀ links k. n - k)
-    (λ c κs. search needs)
+    (λ c κs. c .before .before .before .before .before .pre .0 .timed)
     (λ c. let form = c .before .before .before .before .before .before .before .pre .0 .form in omega (arith, form .conditionCount, form .goalCount))
     (λ c. (omega arith, filled-start _ _))
     (λ c κs. (c .before .before .before .before .before .before .before .before .before .pre .0, c .before .before .before .after-all .ensures, c .loop-test .taken))
