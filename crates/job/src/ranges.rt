@@ -1,6 +1,5 @@
 // Refusal 6: a record that breaks its ranges or names what is not counted.
 ghost use mathlib.Core.Path.{_≡_};
-ghost use mathlib.Core.Bool.{_&&_};
 ghost use Rattle.laws.specs.Search.{lowest};
 ghost use Rattle.job.specs.Model.{view};
 ghost use Rattle.job.specs.Ranges.{factOk, levelInRange, levelOk, stepOk, conditionOk, effectOk, useOk, goalOk, recordOk, recordBroken, countIn};

@@ -18,7 +18,6 @@ use crate::starts::BIAS;
 use crate::starts::NONE;
 use crate::starts::WIDTH;
 use crate::support::INITIAL;
-use crate::support::other;
 use job::index::Linking;
 use job::index::fact_key;
 use job::index::first_of;
@@ -44,6 +43,7 @@ use schedule::ticks::first_tick;
 use schedule::ticks::last_tick;
 use schedule::ticks::start_of;
 use schedule::ticks::use_ticks;
+use schedule::values::other;
 
 // The gap of "p strictly before q", plus the bias.
 fn strictly(p: usize, q: usize) -> u32

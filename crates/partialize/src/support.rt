@@ -27,6 +27,7 @@ use job::records::goal_value;
 use schedule::ticks::first_tick;
 use schedule::values::after_all;
 use schedule::values::last_given;
+use schedule::values::other;
 
 // The link that stands for the initial state.
 pub const INITIAL: u16 = 65535;
@@ -36,13 +37,6 @@ struct Wanted {
     fact: u16,
     value: u16,
     from: usize,
-}
-
-// The other of the two values.
-pub fn other(value: u16) -> u16
-    ensures { λ r. ⌜ r ≡ spec.other value ⌝ }
-{
-    if value == 0 { 1 } else { 0 }
 }
 
 // One more than the tick of the last opposing effect before tick t; 0 for none.
