@@ -2,7 +2,6 @@
 ghost use mathlib.Core.Path.{_≡_};
 ghost use mathlib.Core.Bool.{_&&_, cond};
 ghost use Prim.Native.Nat.{suc, _+_, _≤_, _<_};
-ghost use lib.Dec.{leb, ltb};
 ghost use Rattle.job.specs.Model.{view};
 ghost use Rattle.schedule.specs.Ticks.{scheduleOf};
 ghost use Rattle.schedule.specs.Levels.{rise, fall, risesBefore, fallsBefore, aboveLeast, belowMost};
@@ -48,22 +47,16 @@ fn added(total: usize, counts: bool, amount: usize) -> usize
     if counts { total + amount } else { total }
 }
 
-// The changes with those of use u, which lies at a tick.
-fn with_use(sums: Changes, s: &[u8], job: Job, tick: usize, t: usize, u: u16) -> Changes
-    requires { ⌜ (sums .rises ≤ 1099511627776) × (sums .falls ≤ 1099511627776) × (sums .risen ≤ 1099511627776) × (sums .fallen ≤ 1099511627776) ⌝ }
-    ensures { λ r. ⌜ (r .rises ≡ sums .rises + cond (ltb tick t) (rise (view job (now (s .entry))) u) 0) × (r .falls ≡ sums .falls + cond (ltb tick t) (fall (view job (now (s .entry))) u) 0) × (r .risen ≡ sums .risen + cond (leb tick t) (rise (view job (now (s .entry))) u) 0) × (r .fallen ≡ sums .fallen + cond (leb tick t) (fall (view job (now (s .entry))) u) 0) ⌝ }
+// The changes with those of a use at a tick, by its rise and its fall.
+fn with_use(sums: Changes, before: bool, within: bool, rise: usize, fall: usize) -> Changes
+    requires { ⌜ (sums .rises ≤ 1099511627776) × (sums .falls ≤ 1099511627776) × (sums .risen ≤ 1099511627776) × (sums .fallen ≤ 1099511627776) × (rise ≤ 2147483648) × (fall ≤ 2147483648) ⌝ }
+    ensures { λ r. ⌜ (r .rises ≡ sums .rises + cond before rise 0) × (r .falls ≡ sums .falls + cond before fall 0) × (r .risen ≡ sums .risen + cond within rise 0) × (r .fallen ≡ sums .fallen + cond within fall 0) ⌝ }
 {
-    if t < tick {
-        return sums;
-    }
-    let rise = change(s, job, true, u);
-    let fall = change(s, job, false, u);
-    let before = tick < t;
     Changes {
         rises: added(sums.rises, before, rise),
         falls: added(sums.falls, before, fall),
-        risen: sums.risen + rise,
-        fallen: sums.fallen + fall,
+        risen: added(sums.risen, within, rise),
+        fallen: added(sums.fallen, within, fall),
     }
 }
 
@@ -89,7 +82,10 @@ fn changes_of(
     };
     let mut u = first_of(index, level_key(level));
     while u < job.count.uses {
-        sums = with_use(sums, s, job, ticks[u as usize], t, u);
+        let tick = ticks[u as usize];
+        let rise = change(s, job, true, u);
+        let fall = change(s, job, false, u);
+        sums = with_use(sums, tick < t, tick <= t, rise, fall);
         u = next_of(index, u);
     }
     sums

@@ -1,6 +1,6 @@
 -- A walk along the uses of the level.
 use Prim.Native.Nat.{ℕ, _-_}
-use mathlib.Core.Path.{_≡_, refl}
+use mathlib.Core.Path.{_≡_}
 use native.Mathlib.Omega.{arith}
 use Rattle.laws.proofs.Linked.{Walk}
 use Rattle.job.specs.declared.index.Linking.the-variants.{UsesByLevel}
@@ -26,8 +26,10 @@ changes-of-spec =
     (λ c. search needs)
     (λ c. search needs)
     (λ c. omega (arith, c .before .if1 .taken, c .before .before .before .before .before .before .before .before .before .before .pre .0 .timed .size))
-    (λ c κs. let few = c .before .before .before .loop .inv .gathered .few in let h = c .before .if1 .taken in let n = c .before .before .before .before .before .before .before .before .before .before .pre .0 .form .useCount in (omega (arith, few .0, h, n), omega (arith, few .1, h, n), omega (arith, few .2, h, n), omega (arith, few .3, h, n)))
-    (λ c κs. let p = c .before .before .before .before .before .before .before .before .before .before .before .pre .0 in (p .linked .size, omega (arith, c .before .before .if1 .taken, p .form .useCount)))
-    (λ c. walk-less (c .before .before .before .before .before .before .before .before .before .before .before .before .pre .0 .linked) _ (c .before .before .before .if1 .taken) (c .next-of .ensures))
-    (λ c. let p = c .before .before .before .before .before .before .before .before .before .before .before .before .pre in let w = c .before .before .before .before .before .loop .inv in let h = c .before .before .before .if1 .taken in walk-next (p .0 .linked) _ _ (λ k l other e. summed-pass _ _ _ _ _ _ _ _ k e other) _ h w (summed-here _ _ _ _ _ _ _ _ _ (w .gathered) (p .0 .form) h (p .1) (w .there h) (p .0 .timed .at _ h) (refl, omega (arith, p .0 .form .useTo _ h)) (refl, omega (arith, p .0 .form .useFrom _ h)) (c .before .with-use .ensures)) (c .next-of .ensures))
+    (λ c κs. search needs)
+    (λ c κs. search needs)
+    (λ c κs. let few = c .before .before .before .before .before .loop .inv .gathered .few in let h = c .before .before .before .if1 .taken in let n = c .before .before .before .before .before .before .before .before .before .before .before .before .pre .0 .form .useCount in (omega (arith, few .0, h, n), omega (arith, few .1, h, n), omega (arith, few .2, h, n), omega (arith, few .3, h, n), c .before .change .ensures .1, c .change2 .ensures .1))
+    (λ c κs. let p = c .before .before .before .before .before .before .before .before .before .before .before .before .before .pre .0 in (p .linked .size, omega (arith, c .before .before .before .before .if1 .taken, p .form .useCount)))
+    (λ c. walk-less (c .before .before .before .before .before .before .before .before .before .before .before .before .before .before .pre .0 .linked) _ (c .before .before .before .before .before .if1 .taken) (c .next-of .ensures))
+    (λ c. let p = c .before .before .before .before .before .before .before .before .before .before .before .before .before .before .pre in let w = c .before .before .before .before .before .before .before .loop .inv in let h = c .before .before .before .before .before .if1 .taken in walk-next (p .0 .linked) _ _ (λ k l other e. summed-pass _ _ _ _ _ _ _ _ k e other) _ h w (summed-here _ _ _ _ _ _ _ _ _ (w .gathered) (p .0 .form) h (p .1) (w .there h) (p .0 .timed .at _ h) (c .before .before .before .change .ensures) (c .before .before .change2 .ensures) (c .before .with-use .ensures)) (c .next-of .ensures))
     (λ c. let g = walk-end _ (c .before .before .loop .inv) (c .if1 .left) in let n = c .before .before .before .before .before .before .before .before .before .pre .0 .form .useCount in ((g .rising, g .falling, g .rose, g .fell), (omega (arith, g .few .0, n), omega (arith, g .few .1, n), omega (arith, g .few .2, n), omega (arith, g .few .3, n)))))
