@@ -87,9 +87,3 @@ pub fn opposes(s: &[u8], job: Job, e: u16, fact: u16, value: u16) -> bool
 {
     (effect_fact(s, job, e) == fact) & (effect_value(s, job, e) != value)
 }
-
-pub fn gives(s: &[u8], job: Job, e: u16, fact: u16, value: u16) -> bool
-    ensures { λ r. ⌜ r ≡ spec.gives (view job (now (s .entry))) e fact value ⌝ }
-{
-    (effect_fact(s, job, e) == fact) & (effect_value(s, job, e) == value)
-}
