@@ -1,4 +1,4 @@
--- General definitions: bounded search, folds and counts over indexes, lists made by an index, little-endian numbers.
+-- General definitions: bounded search, folds and counts over indexes, lists made by an index, linked indexes, little-endian numbers.
 pub mod Search
 pub mod Fold
 pub mod Nth

@@ -1,4 +1,4 @@
--- Loosening: what supports each condition and goal, which step precedes which by how much, when each step may start, and the file.
+-- Loosening: what the code's lists and tables hold, the file, the answer, and what is promised of them.
 pub mod Producers
 pub mod Table
 pub mod File

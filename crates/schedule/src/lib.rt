@@ -94,66 +94,17 @@ fn check_timing(
     requires { ⌜ Known (view job (now s)) (scheduleOf (now starts)) (now ticks) (now facts) (now uses) (now levels) end ⌝ }
     ensures { λ r. ⌜ r ≡ timingCheck (view job (now (s .entry))) (scheduleOf (now (starts .entry))) ⌝ }
 {
-    let v = rule_after(
-        Verdict::Accepted,
-        s,
-        job,
-        starts,
-        ticks,
-        facts,
-        uses,
-        levels,
-        end,
-        Rule::Effects,
-    );
-    let v = rule_after(
-        v,
-        s,
-        job,
-        starts,
-        ticks,
-        facts,
-        uses,
-        levels,
-        end,
-        Rule::Conditions,
-    );
-    let v = rule_after(
-        v,
-        s,
-        job,
-        starts,
-        ticks,
-        facts,
-        uses,
-        levels,
-        end,
-        Rule::Levels,
-    );
-    let v = rule_after(
-        v,
-        s,
-        job,
-        starts,
-        ticks,
-        facts,
-        uses,
-        levels,
-        end,
-        Rule::Goals,
-    );
-    rule_after(
-        v,
-        s,
-        job,
-        starts,
-        ticks,
-        facts,
-        uses,
-        levels,
-        end,
-        Rule::Steps,
-    )
+    let v = Verdict::Accepted;
+    let rule = Rule::Effects;
+    let v = rule_after(v, s, job, starts, ticks, facts, uses, levels, end, rule);
+    let rule = Rule::Conditions;
+    let v = rule_after(v, s, job, starts, ticks, facts, uses, levels, end, rule);
+    let rule = Rule::Levels;
+    let v = rule_after(v, s, job, starts, ticks, facts, uses, levels, end, rule);
+    let rule = Rule::Goals;
+    let v = rule_after(v, s, job, starts, ticks, facts, uses, levels, end, rule);
+    let rule = Rule::Steps;
+    rule_after(v, s, job, starts, ticks, facts, uses, levels, end, rule)
 }
 
 // A verdict so far, and where it accepts, refusals 9 to 14.
