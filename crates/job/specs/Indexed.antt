@@ -5,7 +5,7 @@ use mathlib.Core.List.{List}
 use lib.ListN.{length, getD}
 use Rattle.laws.specs.Linked.{Linked}
 use Rattle.job.specs.declared.index.Linking.{Linking}
-use Rattle.job.specs.declared.index.Linking.the-variants.{EffectsByStep, ConditionsByStep, UsesByStep, EffectsByFact, UsesByLevel}
+use Rattle.job.specs.declared.index.Linking.the-variants.{EffectsByStep, ConditionsByStep, UsesByStep, EffectsByFact, ConditionsByFact, UsesByLevel}
 use Rattle.job.specs.Model.{Model}
 
 -- the key of a step with a fact or level, of a fact with a value, of a level
@@ -24,6 +24,7 @@ keyOf m EffectsByStep k = stepKey (m .effectStep k) (m .effectFact k)
 keyOf m ConditionsByStep k = stepKey (m .conditionStep k) (m .conditionFact k)
 keyOf m UsesByStep k = stepKey (m .useStep k) (m .useLevel k)
 keyOf m EffectsByFact k = factKey (m .effectFact k) (m .effectValue k)
+keyOf m ConditionsByFact k = factKey (m .conditionFact k) (m .conditionValue k)
 keyOf m UsesByLevel k = levelKey (m .useLevel k)
 
 -- an index of n records: first those of the keys, then those after each record

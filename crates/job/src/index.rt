@@ -14,8 +14,9 @@ pub enum Linking {
     EffectsByStep,
     ConditionsByStep,
     UsesByStep,
-    // What gives one fact one value.
+    // What gives one fact one value, and what wants it.
     EffectsByFact,
+    ConditionsByFact,
     UsesByLevel,
 }
 
@@ -52,6 +53,9 @@ fn key(s: &[u8], job: Job, linking: Linking, k: u16) -> usize
         Linking::ConditionsByStep => step_key(condition_step(s, job, k), condition_fact(s, job, k)),
         Linking::UsesByStep => step_key(use_step(s, job, k), use_level(s, job, k)),
         Linking::EffectsByFact => fact_key(effect_fact(s, job, k), effect_value(s, job, k)),
+        Linking::ConditionsByFact => {
+            fact_key(condition_fact(s, job, k), condition_value(s, job, k))
+        }
         Linking::UsesByLevel => level_key(use_level(s, job, k)),
     }
 }
