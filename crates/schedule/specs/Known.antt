@@ -1,13 +1,14 @@
 -- What is known of a job's points before they are searched: their ticks, and which of them share a fact or a level.
-use Prim.Native.Nat.{ℕ, _≤_, _<_}
+use Prim.Native.Nat.{ℕ, _*_, _≤_, _<_}
 use mathlib.Core.Path.{_≡_}
 use mathlib.Core.List.{List}
 use lib.ListN.{length, getD}
-use Rattle.job.specs.declared.index.Linking.the-variants.{EffectsByFact, UsesByLevel}
+use Rattle.job.specs.declared.index.Linking.the-variants.{EffectsByFact, ConditionsByFact, UsesByLevel}
 use Rattle.job.specs.Model.{Model}
 use Rattle.job.specs.WellFormed.{WellFormed}
 use Rattle.job.specs.Indexed.{keyOf, Indexed}
-use Rattle.schedule.specs.Ticks.{effectTick, useTick}
+use Rattle.timeline.specs.Sorted.{Sorted}
+use Rattle.schedule.specs.Ticks.{effectTick, firstTick, useTick}
 use Rattle.schedule.specs.Seen.{afterAll}
 
 -- a list of the ticks of n points: a start and an offset of 32 bits each
@@ -15,6 +16,24 @@ pub record Timed (n : ℕ) (tick : ℕ → ℕ) (ticks : List ℕ) : Type 0 wher
   pub size : n ≤ length ticks
   pub at : (k : ℕ) → k < n → getD ticks k 0 ≡ tick k
   pub low : (k : ℕ) → k < n → getD ticks k 0 < 8589934592
+
+-- a well-formed job, the ticks of its effects, and its effects by fact and value in the order of their ticks
+pub record EffectsSorted (m : Model) (x : ℕ → ℕ) (ticks sorted : List ℕ) : Type 0 where
+  pub form : WellFormed m
+  pub timed : Timed (m .effects) (effectTick m x) ticks
+  pub ordered : Sorted (m .effects) (2 * m .facts) (keyOf m EffectsByFact) ticks sorted
+
+-- the same of its conditions, by their first ticks
+pub record ConditionsSorted (m : Model) (x : ℕ → ℕ) (ticks sorted : List ℕ) : Type 0 where
+  pub form : WellFormed m
+  pub timed : Timed (m .conditions) (firstTick m x) ticks
+  pub ordered : Sorted (m .conditions) (2 * m .facts) (keyOf m ConditionsByFact) ticks sorted
+
+-- the same of its uses, by level
+pub record UsesSorted (m : Model) (x : ℕ → ℕ) (ticks sorted : List ℕ) : Type 0 where
+  pub form : WellFormed m
+  pub timed : Timed (m .uses) (useTick m x) ticks
+  pub ordered : Sorted (m .uses) (m .levels) (keyOf m UsesByLevel) ticks sorted
 
 -- a well-formed job, the ticks of its effects, and its effects by fact and value
 pub record EffectsKnown (m : Model) (x : ℕ → ℕ) (ticks index : List ℕ) : Type 0 where

@@ -61,6 +61,21 @@ pub fn effect_ticks(s: &[u8], job: Job, starts: &[u32]) -> [usize; 512]
     ticks
 }
 
+// The first tick of each condition.
+pub fn first_ticks(s: &[u8], job: Job, starts: &[u32]) -> [usize; 512]
+    requires { ⌜ job .count .conditions ≤ 512 ⌝ }
+    ensures { λ r. ⌜ Timed (job .count .conditions) (firstTick (view job (now (s .entry))) (scheduleOf (now (starts .entry)))) r ⌝ }
+{
+    let n = job.count.conditions;
+    let mut ticks = [0; 512];
+    let mut c = 0;
+    while c < n {
+        ticks[c as usize] = first_tick(s, job, starts, c);
+        c += 1;
+    }
+    ticks
+}
+
 // The tick of each use.
 pub fn use_ticks(s: &[u8], job: Job, starts: &[u32]) -> [usize; 256]
     requires { ⌜ job .count .uses ≤ 256 ⌝ }
