@@ -5,4 +5,5 @@ pub mod Planned
 pub mod Tested
 pub mod Accepted
 pub mod Known
-pub mod Walks
+pub mod Searches
+pub mod Sweeps

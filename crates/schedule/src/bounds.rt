@@ -1,16 +1,18 @@
 // The rises and falls of a level, and its rule at a tick.
 ghost use mathlib.Core.Path.{_≡_};
 ghost use mathlib.Core.Bool.{_&&_, cond};
-ghost use Prim.Native.Nat.{suc, _+_, _≤_, _<_};
+ghost use Prim.Native.Nat.{_+_, _≤_, _<_};
+ghost use lib.Dec.{leb};
+ghost use lib.ListN.{getD};
 ghost use Rattle.job.specs.Model.{view};
 ghost use Rattle.schedule.specs.Ticks.{scheduleOf};
-ghost use Rattle.schedule.specs.Levels.{rise, fall, risesBefore, fallsBefore, aboveLeast, belowMost};
-ghost use Rattle.schedule.specs.Known.{UsesKnown};
-use job::index::first_of;
-use job::index::level_key;
-use job::index::next_of;
+ghost use Rattle.timeline.specs.Sorted.{tickIn, Parts};
+ghost use Rattle.schedule.specs.Levels.{rise, fall};
+ghost use Rattle.schedule.specs.Known.{UsesKnown, Summed};
 use job::layout::Job;
 use job::records::*;
+use timeline::begin_of;
+use timeline::record_at;
 
 // What a use adds to its level, or takes from it; 0 for a use of the other kind.
 fn change(s: &[u8], job: Job, rising: bool, u: u16) -> usize
@@ -32,81 +34,57 @@ fn change(s: &[u8], job: Job, rising: bool, u: u16) -> usize
     }
 }
 
-// What a level's uses add to it and take from it: rises and falls before a tick, risen and fallen with those of the tick.
-struct Changes {
-    rises: usize,
-    falls: usize,
-    risen: usize,
-    fallen: usize,
+// What a level's uses before a place add to it and take from it.
+pub struct Changes {
+    pub place: usize,
+    pub rises: usize,
+    pub falls: usize,
 }
 
-fn added(total: usize, counts: bool, amount: usize) -> usize
-    requires { ⌜ (total ≤ 1099511627776) × (amount ≤ 2147483648) ⌝ }
-    ensures { λ r. ⌜ r ≡ total + cond counts amount 0 ⌝ }
-{
-    if counts { total + amount } else { total }
-}
-
-// The changes with those of a use at a tick, by its rise and its fall.
-fn with_use(sums: Changes, before: bool, within: bool, rise: usize, fall: usize) -> Changes
-    requires { ⌜ (sums .rises ≤ 1099511627776) × (sums .falls ≤ 1099511627776) × (sums .risen ≤ 1099511627776) × (sums .fallen ≤ 1099511627776) × (rise ≤ 2147483648) × (fall ≤ 2147483648) ⌝ }
-    ensures { λ r. ⌜ (r .rises ≡ sums .rises + cond before rise 0) × (r .falls ≡ sums .falls + cond before fall 0) × (r .risen ≡ sums .risen + cond within rise 0) × (r .fallen ≡ sums .fallen + cond within fall 0) ⌝ }
+// The changes with those of use u at the place.
+fn with_use(s: &[u8], job: Job, sums: Changes, u: u16) -> Changes
+    requires { ⌜ (sums .place < 512) × (sums .rises ≤ 1099511627776) × (sums .falls ≤ 1099511627776) ⌝ }
+    ensures { λ r. ⌜ (r .place ≡ sums .place + 1) × (r .rises ≡ sums .rises + rise (view job (now (s .entry))) u) × (r .falls ≡ sums .falls + fall (view job (now (s .entry))) u) ⌝ }
 {
     Changes {
-        rises: added(sums.rises, before, rise),
-        falls: added(sums.falls, before, fall),
-        risen: added(sums.risen, within, rise),
-        fallen: added(sums.fallen, within, fall),
+        place: sums.place + 1,
+        rises: sums.rises + change(s, job, true, u),
+        falls: sums.falls + change(s, job, false, u),
     }
 }
 
-// All changes of a level before tick t, and up to it.
-fn changes_of(
+// The changes with those of all uses at the tick of the first use that they leave out.
+pub fn changes_at(
     s: &[u8],
     job: Job,
     starts: &[u32],
     ticks: &[usize],
-    index: &[u16],
-    level: u16,
-    t: usize,
+    sorted: &[u16],
+    l: u16,
+    before: Changes,
 ) -> Changes
-    requires { ⌜ UsesKnown (view job (now s)) (scheduleOf (now starts)) (now ticks) (now index) × (level < 16) ⌝ }
-    ensures { λ r. ⌜ (r .rises ≡ risesBefore (view job (now (s .entry))) (scheduleOf (now (starts .entry))) level t) × (r .falls ≡ fallsBefore (view job (now (s .entry))) (scheduleOf (now (starts .entry))) level t) × (r .risen ≡ risesBefore (view job (now (s .entry))) (scheduleOf (now (starts .entry))) level (suc t)) × (r .fallen ≡ fallsBefore (view job (now (s .entry))) (scheduleOf (now (starts .entry))) level (suc t)) ⌝ }
-    ensures { λ r. ⌜ (r .rises ≤ 1099511627776) × (r .falls ≤ 1099511627776) × (r .risen ≤ 1099511627776) × (r .fallen ≤ 1099511627776) ⌝ }
+    requires { ⌜ UsesKnown (view job (now s)) (scheduleOf (now starts)) (now ticks) (now sorted) × (l < job .count .levels) × Summed (view job (now s)) (now sorted) l before × (before .place < getD (now sorted) (l + 1) 0) ⌝ }
+    ensures { λ r. ⌜ Summed (view job (now (s .entry))) (now (sorted .entry)) l r × Parts (now (ticks .entry)) (now (sorted .entry)) (before .place) (getD (now (sorted .entry)) (l + 1) 0) (tickIn (now (ticks .entry)) (now (sorted .entry)) (before .place) + 1) (r .place) ⌝ }
 {
-    let mut sums = Changes {
-        rises: 0,
-        falls: 0,
-        risen: 0,
-        fallen: 0,
-    };
-    let mut u = first_of(index, level_key(level));
-    while u < job.count.uses {
-        let tick = ticks[u as usize];
-        let rise = change(s, job, true, u);
-        let fall = change(s, job, false, u);
-        sums = with_use(sums, tick < t, tick <= t, rise, fall);
-        u = next_of(index, u);
+    let tick = ticks[record_at(sorted, before.place) as usize];
+    let mut sums = before;
+    while sums.place < begin_of(sorted, l as usize + 1) {
+        let u = record_at(sorted, sums.place);
+        if tick < ticks[u as usize] {
+            return sums;
+        }
+        sums = with_use(s, job, sums, u);
     }
     sums
 }
 
-// At tick t the level from earlier ticks bears all of that tick's falls, and all of its rises.
-pub fn in_bounds(
-    s: &[u8],
-    job: Job,
-    starts: &[u32],
-    ticks: &[usize],
-    index: &[u16],
-    level: u16,
-    t: usize,
-) -> bool
-    requires { ⌜ UsesKnown (view job (now s)) (scheduleOf (now starts)) (now ticks) (now index) × (level < 16) ⌝ }
-    ensures { λ r. ⌜ r ≡ (aboveLeast (view job (now (s .entry))) (scheduleOf (now (starts .entry))) level t && belowMost (view job (now (s .entry))) (scheduleOf (now (starts .entry))) level t) ⌝ }
+// At a tick the level from earlier ticks bears all of that tick's falls, and all of its rises: those before it, and those with it.
+pub fn in_bounds(s: &[u8], job: Job, l: u16, before: Changes, after: Changes) -> bool
+    requires { ⌜ (before .rises ≤ 1099511627776) × (before .falls ≤ 1099511627776) × (after .rises ≤ 1099511627776) × (after .falls ≤ 1099511627776) ⌝ }
+    ensures { λ r. ⌜ r ≡ (leb (view job (now (s .entry)) .levelLeast l + after .falls) (view job (now (s .entry)) .levelInitial l + before .rises) && leb (view job (now (s .entry)) .levelInitial l + after .rises) (view job (now (s .entry)) .levelMost l + before .falls)) ⌝ }
 {
-    let sums = changes_of(s, job, starts, ticks, index, level, t);
-    let initial = level_initial(s, job, level);
-    let above = level_least(s, job, level) + sums.fallen <= initial + sums.rises;
-    let below = initial + sums.risen <= level_most(s, job, level) + sums.falls;
+    let initial = level_initial(s, job, l);
+    let above = level_least(s, job, l) + after.falls <= initial + before.rises;
+    let below = initial + after.rises <= level_most(s, job, l) + before.falls;
     above & below
 }

@@ -8,16 +8,18 @@ ghost use Rattle.schedule.specs.Checks as spec;
 ghost use Rattle.schedule.specs.Checks.{conditionFails, levelFails, goalFails};
 ghost use Rattle.schedule.specs.Seen.{afterAll};
 ghost use Rattle.schedule.specs.Known.{EffectsKnown, UsesKnown, Known};
+use crate::bounds::Changes;
+use crate::bounds::changes_at;
 use crate::bounds::in_bounds;
 use crate::ticks::*;
 use crate::values::other;
 use crate::values::value_seen;
 use job::index::fact_key;
-use job::index::first_of;
-use job::index::level_key;
-use job::index::next_of;
 use job::layout::Job;
 use job::records::*;
+use timeline::begin_of;
+use timeline::place_from;
+use timeline::record_at;
 
 // The rules that name a record, in checking order.
 pub enum Rule {
@@ -35,8 +37,16 @@ fn moved(s: &[u8], job: Job, starts: &[u32], k: u16) -> bool
     (step_fixed(s, job, k) == 1) & (start_of(starts, k) != step_start(s, job, k))
 }
 
-fn meets(s: &[u8], job: Job, starts: &[u32], ticks: &[usize], index: &[u16], e: u16, f: u16) -> bool
-    requires { ⌜ EffectsKnown (view job (now s)) (scheduleOf (now starts)) (now ticks) (now index) × (e < job .count .effects) × (f < job .count .effects) ⌝ }
+fn meets(
+    s: &[u8],
+    job: Job,
+    starts: &[u32],
+    ticks: &[usize],
+    sorted: &[u16],
+    e: u16,
+    f: u16,
+) -> bool
+    requires { ⌜ EffectsKnown (view job (now s)) (scheduleOf (now starts)) (now ticks) (now sorted) × (e < job .count .effects) × (f < job .count .effects) ⌝ }
     ensures { λ r. ⌜ r ≡ spec.meets (view job (now (s .entry))) (scheduleOf (now (starts .entry))) e f ⌝ }
 {
     if ticks[e as usize] != ticks[f as usize] {
@@ -47,18 +57,22 @@ fn meets(s: &[u8], job: Job, starts: &[u32], ticks: &[usize], index: &[u16], e: 
     (effect_step(s, job, e) != effect_step(s, job, f)) & opposes(s, job, e, fact, value)
 }
 
-fn conflicts(s: &[u8], job: Job, starts: &[u32], ticks: &[usize], index: &[u16], e: u16) -> bool
-    requires { ⌜ EffectsKnown (view job (now s)) (scheduleOf (now starts)) (now ticks) (now index) × (e < job .count .effects) ⌝ }
+fn conflicts(s: &[u8], job: Job, starts: &[u32], ticks: &[usize], sorted: &[u16], e: u16) -> bool
+    requires { ⌜ EffectsKnown (view job (now s)) (scheduleOf (now starts)) (now ticks) (now sorted) × (e < job .count .effects) ⌝ }
     ensures { λ r. ⌜ r ≡ spec.conflicts (view job (now (s .entry))) (scheduleOf (now (starts .entry))) e ⌝ }
 {
-    let fact = effect_fact(s, job, e);
-    let value = other(effect_value(s, job, e));
-    let mut f = first_of(index, fact_key(fact, value));
-    while f < job.count.effects {
-        if meets(s, job, starts, ticks, index, e, f) {
+    let key = fact_key(effect_fact(s, job, e), other(effect_value(s, job, e)));
+    let tick = ticks[e as usize];
+    let mut p = place_from(ticks, sorted, key, tick);
+    while p < begin_of(sorted, key + 1) {
+        let f = record_at(sorted, p);
+        if tick < ticks[f as usize] {
+            return false;
+        }
+        if meets(s, job, starts, ticks, sorted, e, f) {
             return true;
         }
-        f = next_of(index, f);
+        p += 1;
     }
     false
 }
@@ -68,11 +82,11 @@ fn breaks(
     job: Job,
     starts: &[u32],
     ticks: &[usize],
-    index: &[u16],
+    sorted: &[u16],
     c: u16,
     e: u16,
 ) -> bool
-    requires { ⌜ EffectsKnown (view job (now s)) (scheduleOf (now starts)) (now ticks) (now index) × (e < job .count .effects) ⌝ }
+    requires { ⌜ EffectsKnown (view job (now s)) (scheduleOf (now starts)) (now ticks) (now sorted) × (e < job .count .effects) ⌝ }
     ensures { λ r. ⌜ r ≡ spec.breaks (view job (now (s .entry))) (scheduleOf (now (starts .entry))) c e ⌝ }
 {
     let tick = ticks[e as usize];
@@ -85,18 +99,22 @@ fn breaks(
     }
 }
 
-fn any_breaks(s: &[u8], job: Job, starts: &[u32], ticks: &[usize], index: &[u16], c: u16) -> bool
-    requires { ⌜ EffectsKnown (view job (now s)) (scheduleOf (now starts)) (now ticks) (now index) × (c < job .count .conditions) ⌝ }
+fn any_breaks(s: &[u8], job: Job, starts: &[u32], ticks: &[usize], sorted: &[u16], c: u16) -> bool
+    requires { ⌜ EffectsKnown (view job (now s)) (scheduleOf (now starts)) (now ticks) (now sorted) × (c < job .count .conditions) ⌝ }
     ensures { λ r. ⌜ r ≡ any (job .count .effects) (spec.breaks (view job (now (s .entry))) (scheduleOf (now (starts .entry))) c) ⌝ }
 {
-    let fact = condition_fact(s, job, c);
-    let value = other(condition_value(s, job, c));
-    let mut e = first_of(index, fact_key(fact, value));
-    while e < job.count.effects {
-        if breaks(s, job, starts, ticks, index, c, e) {
+    let key = fact_key(condition_fact(s, job, c), other(condition_value(s, job, c)));
+    let last = last_tick(s, job, starts, c);
+    let mut p = place_from(ticks, sorted, key, first_tick(s, job, starts, c));
+    while p < begin_of(sorted, key + 1) {
+        let e = record_at(sorted, p);
+        if last < ticks[e as usize] {
+            return false;
+        }
+        if breaks(s, job, starts, ticks, sorted, c, e) {
             return true;
         }
-        e = next_of(index, e);
+        p += 1;
     }
     false
 }
@@ -106,86 +124,50 @@ fn condition_fails(
     job: Job,
     starts: &[u32],
     ticks: &[usize],
-    index: &[u16],
+    sorted: &[u16],
     c: u16,
 ) -> bool
-    requires { ⌜ EffectsKnown (view job (now s)) (scheduleOf (now starts)) (now ticks) (now index) × (c < job .count .conditions) ⌝ }
+    requires { ⌜ EffectsKnown (view job (now s)) (scheduleOf (now starts)) (now ticks) (now sorted) × (c < job .count .conditions) ⌝ }
     ensures { λ r. ⌜ r ≡ conditionFails (view job (now (s .entry))) (scheduleOf (now (starts .entry))) c ⌝ }
 {
     let fact = condition_fact(s, job, c);
     let first = first_tick(s, job, starts, c);
-    (value_seen(s, job, starts, ticks, index, fact, first) != condition_value(s, job, c))
-        | any_breaks(s, job, starts, ticks, index, c)
+    (value_seen(s, job, starts, ticks, sorted, fact, first) != condition_value(s, job, c))
+        | any_breaks(s, job, starts, ticks, sorted, c)
 }
 
-fn passes(
-    s: &[u8],
-    job: Job,
-    starts: &[u32],
-    ticks: &[usize],
-    index: &[u16],
-    l: u16,
-    u: u16,
-) -> bool
-    requires { ⌜ UsesKnown (view job (now s)) (scheduleOf (now starts)) (now ticks) (now index) × (u < job .count .uses) ⌝ }
-    ensures { λ r. ⌜ r ≡ spec.passes (view job (now (s .entry))) (scheduleOf (now (starts .entry))) l u ⌝ }
-{
-    if use_level(s, job, u) == l {
-        !in_bounds(s, job, starts, ticks, index, l, ticks[u as usize])
-    } else {
-        false
-    }
-}
-
-fn level_fails(s: &[u8], job: Job, starts: &[u32], ticks: &[usize], index: &[u16], l: u16) -> bool
-    requires { ⌜ UsesKnown (view job (now s)) (scheduleOf (now starts)) (now ticks) (now index) ⌝ }
+// Tick by tick, with what the level's uses at earlier ticks add and take.
+fn level_fails(s: &[u8], job: Job, starts: &[u32], ticks: &[usize], sorted: &[u16], l: u16) -> bool
+    requires { ⌜ UsesKnown (view job (now s)) (scheduleOf (now starts)) (now ticks) (now sorted) × (l < job .count .levels) ⌝ }
     ensures { λ r. ⌜ r ≡ levelFails (view job (now (s .entry))) (scheduleOf (now (starts .entry))) l ⌝ }
 {
-    let mut u = first_of(index, level_key(l));
-    while u < job.count.uses {
-        if passes(s, job, starts, ticks, index, l, u) {
+    let end = begin_of(sorted, l as usize + 1);
+    let mut sums = Changes {
+        place: begin_of(sorted, l as usize),
+        rises: 0,
+        falls: 0,
+    };
+    while sums.place < end {
+        let next = changes_at(s, job, starts, ticks, sorted, l, sums);
+        if !in_bounds(s, job, l, sums, next) {
             return true;
         }
-        u = next_of(index, u);
+        sums = next;
     }
     false
 }
 
-fn undoes(
-    s: &[u8],
-    job: Job,
-    starts: &[u32],
-    ticks: &[usize],
-    index: &[u16],
-    g: u16,
-    e: u16,
-) -> bool
-    requires { ⌜ EffectsKnown (view job (now s)) (scheduleOf (now starts)) (now ticks) (now index) × (e < job .count .effects) ⌝ }
-    ensures { λ r. ⌜ r ≡ spec.undoes (view job (now (s .entry))) (scheduleOf (now (starts .entry))) g e ⌝ }
-{
-    let fact = goal_fact(s, job, g);
-    let value = goal_value(s, job, g);
-    opposes(s, job, e, fact, value) & (goal_deadline(s, job, g) < ticks[e as usize])
-}
-
-fn any_undoes(s: &[u8], job: Job, starts: &[u32], ticks: &[usize], index: &[u16], g: u16) -> bool
-    requires { ⌜ EffectsKnown (view job (now s)) (scheduleOf (now starts)) (now ticks) (now index) × (g < job .count .goals) ⌝ }
+fn any_undoes(s: &[u8], job: Job, starts: &[u32], ticks: &[usize], sorted: &[u16], g: u16) -> bool
+    requires { ⌜ EffectsKnown (view job (now s)) (scheduleOf (now starts)) (now ticks) (now sorted) × (g < job .count .goals) ⌝ }
     ensures { λ r. ⌜ r ≡ any (job .count .effects) (spec.undoes (view job (now (s .entry))) (scheduleOf (now (starts .entry))) g) ⌝ }
 {
-    let fact = goal_fact(s, job, g);
-    let value = other(goal_value(s, job, g));
-    let mut e = first_of(index, fact_key(fact, value));
-    while e < job.count.effects {
-        if undoes(s, job, starts, ticks, index, g, e) {
-            return true;
-        }
-        e = next_of(index, e);
-    }
-    false
+    let key = fact_key(goal_fact(s, job, g), other(goal_value(s, job, g)));
+    let p = place_from(ticks, sorted, key, goal_deadline(s, job, g) + 1);
+    p < begin_of(sorted, key + 1)
 }
 
-fn late(s: &[u8], job: Job, starts: &[u32], ticks: &[usize], index: &[u16], g: u16) -> bool
-    requires { ⌜ EffectsKnown (view job (now s)) (scheduleOf (now starts)) (now ticks) (now index) × (g < job .count .goals) ⌝ }
+fn late(s: &[u8], job: Job, starts: &[u32], ticks: &[usize], sorted: &[u16], g: u16) -> bool
+    requires { ⌜ EffectsKnown (view job (now s)) (scheduleOf (now starts)) (now ticks) (now sorted) × (g < job .count .goals) ⌝ }
     ensures { λ r. ⌜ r ≡ spec.late (view job (now (s .entry))) (scheduleOf (now (starts .entry))) g ⌝ }
 {
     let deadline = goal_deadline(s, job, g);
@@ -193,8 +175,8 @@ fn late(s: &[u8], job: Job, starts: &[u32], ticks: &[usize], index: &[u16], g: u
         return false;
     }
     let fact = goal_fact(s, job, g);
-    (value_seen(s, job, starts, ticks, index, fact, deadline + 1) != goal_value(s, job, g))
-        | any_undoes(s, job, starts, ticks, index, g)
+    (value_seen(s, job, starts, ticks, sorted, fact, deadline + 1) != goal_value(s, job, g))
+        | any_undoes(s, job, starts, ticks, sorted, g)
 }
 
 fn goal_fails(
@@ -202,16 +184,16 @@ fn goal_fails(
     job: Job,
     starts: &[u32],
     ticks: &[usize],
-    index: &[u16],
+    sorted: &[u16],
     end: usize,
     g: u16,
 ) -> bool
-    requires { ⌜ EffectsKnown (view job (now s)) (scheduleOf (now starts)) (now ticks) (now index) × (end ≡ afterAll (view job (now s)) (scheduleOf (now starts))) × (g < job .count .goals) ⌝ }
+    requires { ⌜ EffectsKnown (view job (now s)) (scheduleOf (now starts)) (now ticks) (now sorted) × (end ≡ afterAll (view job (now s)) (scheduleOf (now starts))) × (g < job .count .goals) ⌝ }
     ensures { λ r. ⌜ r ≡ goalFails (view job (now (s .entry))) (scheduleOf (now (starts .entry))) g ⌝ }
 {
     let fact = goal_fact(s, job, g);
-    (value_seen(s, job, starts, ticks, index, fact, end) != goal_value(s, job, g))
-        | late(s, job, starts, ticks, index, g)
+    (value_seen(s, job, starts, ticks, sorted, fact, end) != goal_value(s, job, g))
+        | late(s, job, starts, ticks, sorted, g)
 }
 
 fn overlaps(s: &[u8], job: Job, starts: &[u32], i: u16, k: u16) -> bool

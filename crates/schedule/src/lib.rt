@@ -9,17 +9,16 @@ ghost use Rattle.job.specs.WellFormed.{WellFormed};
 ghost use Rattle.schedule.specs.Ticks.{scheduleOf};
 ghost use Rattle.schedule.specs.declared.checks.Rule.the-variants.{FixedSteps};
 ghost use Rattle.schedule.specs.Checks.{countUnder, refusalOf, ruleCheck, timingCheck, startsCheck};
-ghost use Rattle.schedule.specs.Known.{Known};
+ghost use Rattle.schedule.specs.Known.{EffectsKnown, UsesKnown, Known};
 ghost use Rattle.schedule.specs.Promise.{JobPromise, SchedulePromise};
 
 pub mod bounds;
 pub mod checks;
+pub mod listed;
 pub mod ticks;
 pub mod values;
 
 use checks::Rule;
-use job::index::Linking;
-use job::index::index_of;
 use job::layout::Job;
 use job::records::step_start;
 use job::verdict::Verdict;
@@ -140,19 +139,35 @@ fn rules_after(
     check_timing(s, job, starts, ticks, facts, uses, levels, end)
 }
 
+// Refusals 8 to 14, of points that are listed in the order of their ticks.
+pub fn check_listed(
+    s: &[u8],
+    job: Job,
+    starts: &[u32],
+    ticks: &[usize],
+    facts: &[u16],
+    uses: &[usize],
+    levels: &[u16],
+) -> Verdict
+    requires { ⌜ EffectsKnown (view job (now s)) (scheduleOf (now starts)) (now ticks) (now facts) × UsesKnown (view job (now s)) (scheduleOf (now starts)) (now uses) (now levels) ⌝ }
+    ensures { λ r. ⌜ r ≡ startsCheck (view job (now (s .entry))) (now (starts .entry)) ⌝ }
+{
+    let other = starts.len() != job.count.steps as usize;
+    let v = refuse_if(Verdict::Accepted, other, Verdict::StartsMiscounted);
+    let end = values::after_all(s, job, starts, ticks);
+    rules_after(v, s, job, starts, ticks, facts, uses, levels, end)
+}
+
 // Refusals 8 to 14.
 fn check_starts(s: &[u8], job: Job, starts: &[u32]) -> Verdict
     requires { ⌜ WellFormed (view job (now s)) ⌝ }
     ensures { λ r. ⌜ r ≡ startsCheck (view job (now (s .entry))) (now (starts .entry)) ⌝ }
 {
-    let other = starts.len() != job.count.steps as usize;
-    let v = refuse_if(Verdict::Accepted, other, Verdict::StartsMiscounted);
     let ticks = ticks::effect_ticks(s, job, starts);
-    let facts = index_of(s, job, Linking::EffectsByFact, job.count.effects);
+    let facts = listed::effects_in_order(s, job, starts, &ticks);
     let uses = ticks::use_ticks(s, job, starts);
-    let levels = index_of(s, job, Linking::UsesByLevel, job.count.uses);
-    let end = values::after_all(s, job, starts, &ticks);
-    rules_after(v, s, job, starts, &ticks, &facts, &uses, &levels, end)
+    let levels = listed::uses_in_order(s, job, starts, &uses);
+    check_listed(s, job, starts, &ticks, &facts, &uses, &levels)
 }
 
 // The written starts of the first n steps, of at most 64.

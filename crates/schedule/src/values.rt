@@ -1,17 +1,16 @@
 // The value of a fact that is seen at a tick.
 ghost use mathlib.Core.Path.{_≡_};
-ghost use Prim.Native.Nat.{suc, max, _-_, _≤_, _<_};
-ghost use mathlib.Core.Bool.{cond};
-ghost use lib.Dec.{ltb};
+ghost use Prim.Native.Nat.{max, _-_, _≤_, _<_};
 ghost use Rattle.job.specs.Model.{view};
 ghost use Rattle.schedule.specs.Ticks.{scheduleOf, effectTick};
 ghost use Rattle.schedule.specs.Seen.{lastSet, seen, afterAll};
 ghost use Rattle.schedule.specs.Known.{Timed, EffectsKnown};
 use job::index::fact_key;
-use job::index::first_of;
-use job::index::next_of;
 use job::layout::Job;
 use job::records::fact_initial;
+use timeline::begin_of;
+use timeline::place_from;
+use timeline::record_at;
 
 // The other of the two values.
 pub fn other(value: u16) -> u16
@@ -26,34 +25,27 @@ pub fn larger(a: usize, b: usize) -> usize
     if a < b { b } else { a }
 }
 
-// One more than a tick before tick t, else 0.
-fn counted(tick: usize, t: usize) -> usize
-    ensures { λ r. ⌜ r ≡ cond (ltb tick t) (suc tick) 0 ⌝ }
-{
-    if tick < t { tick + 1 } else { 0 }
-}
-
 // One more than the latest tick before t at which an effect gives the fact that value; 0 for none.
 pub fn last_given(
     s: &[u8],
     job: Job,
     starts: &[u32],
     ticks: &[usize],
-    index: &[u16],
+    sorted: &[u16],
     fact: u16,
     value: u16,
     t: usize,
 ) -> usize
-    requires { ⌜ EffectsKnown (view job (now s)) (scheduleOf (now starts)) (now ticks) (now index) × (fact < 256) × (value ≤ 1) ⌝ }
+    requires { ⌜ EffectsKnown (view job (now s)) (scheduleOf (now starts)) (now ticks) (now sorted) × (fact < job .count .facts) × (value ≤ 1) ⌝ }
     ensures { λ r. ⌜ r ≡ lastSet (view job (now (s .entry))) (scheduleOf (now (starts .entry))) fact value t ⌝ }
 {
-    let mut last = 0;
-    let mut e = first_of(index, fact_key(fact, value));
-    while e < job.count.effects {
-        last = larger(last, counted(ticks[e as usize], t));
-        e = next_of(index, e);
+    let key = fact_key(fact, value);
+    let p = place_from(ticks, sorted, key, t);
+    if begin_of(sorted, key) < p {
+        ticks[record_at(sorted, p - 1) as usize] + 1
+    } else {
+        0
     }
-    last
 }
 
 // The value of a fact seen at tick t.
@@ -62,15 +54,15 @@ pub fn value_seen(
     job: Job,
     starts: &[u32],
     ticks: &[usize],
-    index: &[u16],
+    sorted: &[u16],
     fact: u16,
     t: usize,
 ) -> u16
-    requires { ⌜ EffectsKnown (view job (now s)) (scheduleOf (now starts)) (now ticks) (now index) × (fact < 256) ⌝ }
+    requires { ⌜ EffectsKnown (view job (now s)) (scheduleOf (now starts)) (now ticks) (now sorted) × (fact < job .count .facts) ⌝ }
     ensures { λ r. ⌜ r ≡ seen (view job (now (s .entry))) (scheduleOf (now (starts .entry))) fact t ⌝ }
 {
-    let ones = last_given(s, job, starts, ticks, index, fact, 1, t);
-    let zeros = last_given(s, job, starts, ticks, index, fact, 0, t);
+    let ones = last_given(s, job, starts, ticks, sorted, fact, 1, t);
+    let zeros = last_given(s, job, starts, ticks, sorted, fact, 0, t);
     if zeros < ones {
         1
     } else if ones < zeros {

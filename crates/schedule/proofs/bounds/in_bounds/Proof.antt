@@ -1,5 +1,5 @@
--- The sums and the level are those of the definition.
-use native.Mathlib.Omega.{arith}
+-- Both sides of the rule, from the level's record.
+use mathlib.Core.Path.{refl}
 use borrow.Author.Needs.{needs}
 use Rattle.schedule.proofs.bounds.in_bounds.Statement.{statement}
 use Rattle.schedule.proofs.bounds.in_bounds.Tie as tie
@@ -10,10 +10,9 @@ in-bounds-spec =
     (tie.spec
     (λ c κs. search needs)
     (λ c κs. search needs)
-    (λ c κs. search needs)
     (λ c. search needs)
     (λ c. search needs)
     (λ c. search needs)
     (λ c κs. search needs)
     (λ c. search needs)
-    (λ c. cc))
+    (λ c. rw (c .before .before .before .before .before .before .level-initial .ensures .0, c .before .before .before .before .before .level-least .ensures .0, c .before .level-most .ensures .0) refl))

@@ -1,17 +1,7 @@
--- A search along the effects that oppose it.
-use Prim.Native.Nat.{_-_}
-use mathlib.Core.Path.{_≡_, sym, _∙_}
-use mathlib.Core.Bool.{false}
+-- What stands behind the deadline undoes the goal.
+use mathlib.Core.Path.{sym, ap, _∙_}
 use native.Mathlib.Omega.{arith}
-use Rattle.laws.specs.Search.{any}
-use Rattle.laws.proofs.Search.{any-start, any-found}
-use Rattle.laws.proofs.Linked.{Walk}
-use Rattle.job.specs.declared.index.Linking.the-variants.{EffectsByFact}
-use Rattle.job.specs.Model.{view}
-use Rattle.job.specs.Indexed.{factKey, keyOf}
-use Rattle.schedule.specs.Ticks.{scheduleOf}
-use Rattle.schedule.specs.Checks.{undoes}
-use Rattle.schedule.proofs.Walks.{walk-first, walk-next, walk-less, walk-end, any-pass, unfound, opposing-key, undoes-key}
+use Rattle.schedule.proofs.Searches.{key-listed, key-searched, opposing-key, goal-search}
 use borrow.Author.Needs.{needs}
 use Rattle.schedule.proofs.checks.any_undoes.Statement.{statement}
 use Rattle.schedule.proofs.checks.any_undoes.Tie as tie
@@ -20,17 +10,13 @@ pub any-undoes-spec : {M : Type 1} → statement M
 any-undoes-spec =
     tie.close
     (tie.spec
-    (λ s job starts ticks index g fact value e₀ e. Walk (job .count .effects) (keyOf (view job s) EffectsByFact) (factKey (view job s .goalFact g) (1 - view job s .goalValue g)) (λ i. any i (undoes (view job s) (scheduleOf starts) g) ≡ false) e)
-    (λ s job starts ticks index g fact value e₀ e. job .count .effects - e)
     (λ c κs. search needs)
     (λ c κs. search needs)
     (λ c κs. search needs)
     (λ c κs. search needs)
-    (λ c κs. (c .before .before .before .before .before .before .before .before .pre .0 .linked .size, c .fact-key .ensures .1))
-    (λ c. let p = c .before .before .before .before .before .before .before .before .before .pre in walk-first (p .0 .linked) _ _ (unfound _ _ _ _ (undoes-key _ _ (p .0 .form) _ (p .1))) (any-start _) (opposing-key (c .before .fact-key .ensures) (c .before .before .before .before .goal-fact .ensures) (c .before .before .other .ensures) (c .before .before .before .goal-value .ensures)) (c .first-of .ensures))
-    (λ c κs. let p = c .before .before .before .before .before .before .before .before .before .before .before .before .pre in (p .0, c .if1 .taken))
-    (λ c. any-found _ _ _ (c .before .before .if1 .taken) (c .before .undoes .ensures) (c .if2 .taken))
-    (λ c κs. let p = c .before .before .before .before .before .before .before .before .before .before .before .before .before .before .pre in (p .0 .linked .size, omega (arith, c .before .before .if1 .taken, p .0 .form .effectCount)))
-    (λ c. walk-less (c .before .before .before .before .before .before .before .before .before .before .before .before .before .before .before .pre .0 .linked) _ (c .before .before .before .if1 .taken) (c .next-of .ensures))
-    (λ c. let p = c .before .before .before .before .before .before .before .before .before .before .before .before .before .before .before .pre in let w = c .before .before .before .before .before .loop .inv in walk-next (p .0 .linked) _ _ (unfound _ _ _ _ (undoes-key _ _ (p .0 .form) _ (p .1))) _ (c .before .before .before .if1 .taken) w (any-pass _ _ (sym (c .before .before .undoes .ensures) ∙ c .before .if2 .left) (w .gathered)) (c .next-of .ensures))
-    (λ c. sym (walk-end _ (c .before .before .loop .inv) (c .if1 .left))))
+    (λ c κs. search needs)
+    (λ c. search needs)
+    (λ c κs. let p = c .before .before .before .before .before .before .before .before .before .pre in let k = opposing-key (c .before .fact-key .ensures) (c .before .before .before .before .goal-fact .ensures) (c .before .before .other .ensures) (c .before .before .before .goal-value .ensures) in key-searched (p .0) _ (key-listed (p .0) _ _ (p .0 .form .goalFact _ (p .1)) (omega arith) (k .0)))
+    (λ c. search needs)
+    (λ c κs. (c .before .before .before .before .before .before .before .before .before .before .pre .0 .ordered .size, omega (arith, c .before .before .fact-key .ensures .1)))
+    (λ c. let p = c .before .before .before .before .before .before .before .before .before .before .before .pre in let k = opposing-key (c .before .before .before .fact-key .ensures) (c .before .before .before .before .before .before .goal-fact .ensures) (c .before .before .before .before .other .ensures) (c .before .before .before .before .before .goal-value .ensures) in goal-search (p .0) _ (p .1) (k .0) (c .before .before .goal-deadline .ensures .0) (c .before .place-from .ensures) (c .begin-of .ensures)))

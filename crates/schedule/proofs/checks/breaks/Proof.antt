@@ -7,7 +7,7 @@ use lib.Dec.{eqb}
 use denote.Ref.{now}
 use Rattle.job.specs.Model.{view}
 use Rattle.schedule.specs.Ticks.{opposes}
-use Rattle.schedule.proofs.Walks.{breaks-outside, breaks-inside}
+use Rattle.schedule.proofs.Searches.{breaks-outside, breaks-inside}
 use borrow.Author.Needs.{needs}
 use Rattle.schedule.proofs.checks.breaks.Statement.{statement}
 use Rattle.schedule.proofs.checks.breaks.Tie as tie

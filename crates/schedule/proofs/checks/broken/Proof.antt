@@ -14,7 +14,7 @@ broken-spec =
     (λ c. search needs)
     (λ c κs. (c .before .before .before .before .before .before .before .before .pre .0 .effects, rw (c .enum-told3 .given .1) at (c .before .before .before .before .before .before .before .before .pre .1)))
     (λ c. search needs)
-    (λ c κs. c .before .before .before .before .before .before .before .before .pre .0 .uses)
+    (λ c κs. (c .before .before .before .before .before .before .before .before .pre .0 .uses, rw (c .enum-told4 .given .1) at (c .before .before .before .before .before .before .before .before .pre .1)))
     (λ c. search needs)
     (λ c κs. (c .before .before .before .before .before .before .before .before .pre .0 .effects, c .before .before .before .before .before .before .before .before .pre .0 .after, rw (c .enum-told5 .given .1) at (c .before .before .before .before .before .before .before .before .pre .1)))
     (λ c. search needs)

@@ -1,37 +1,42 @@
--- A search along the effects that oppose it.
-use Prim.Native.Nat.{_-_}
-use mathlib.Core.Path.{_≡_, sym, _∙_}
-use mathlib.Core.Bool.{false}
+-- Of the effects that give the fact the other value, those at the effect's tick are looked at.
+use Prim.Native.Nat.{_+_, _-_}
+use mathlib.Core.Path.{refl, sym, _∙_}
 use native.Mathlib.Omega.{arith}
-use Rattle.laws.specs.Search.{any}
-use Rattle.laws.proofs.Search.{any-start, any-found}
-use Rattle.laws.proofs.Linked.{Walk}
-use Rattle.job.specs.declared.index.Linking.the-variants.{EffectsByFact}
+use lib.ListN.{getD}
 use Rattle.job.specs.Model.{view}
-use Rattle.job.specs.Indexed.{factKey, keyOf}
+use Rattle.timeline.proofs.Scanning.{Scanned, scanned-start, scanned-more, scanned-hit, scanned-end, scanned-past}
 use Rattle.schedule.specs.Ticks.{scheduleOf}
-use Rattle.schedule.specs.Checks.{meets, conflicts}
-use Rattle.schedule.proofs.Walks.{walk-first, walk-next, walk-less, walk-end, any-pass, unfound, opposing-key, meets-key}
+use Rattle.schedule.specs.Checks as spec
+use Rattle.schedule.proofs.Searches.{key-listed, key-searched, place-counted, place-low, opposing-key, meets-only, meets-until}
 use borrow.Author.Needs.{needs}
 use Rattle.schedule.proofs.checks.conflicts.Statement.{statement}
 use Rattle.schedule.proofs.checks.conflicts.Tie as tie
 
 pub conflicts-spec : {M : Type 1} → statement M
-unfolding conflicts
+unfolding spec.conflicts
 conflicts-spec =
     tie.close
     (tie.spec
-    (λ s job starts ticks index e fact value f₀ f. Walk (job .count .effects) (keyOf (view job s) EffectsByFact) (factKey (view job s .effectFact e) (1 - view job s .effectValue e)) (λ i. any i (meets (view job s) (scheduleOf starts) e) ≡ false) f)
-    (λ s job starts ticks index e fact value f₀ f. job .count .effects - f)
+    (λ s job starts ticks sorted e key tick p₀ p. Scanned ticks sorted key (spec.meets (view job s) (scheduleOf starts) e) tick p₀ p)
+    (λ s job starts ticks sorted e key tick p₀ p. getD sorted (key + 1) 0 - p)
     (λ c κs. search needs)
     (λ c κs. search needs)
     (λ c κs. search needs)
     (λ c κs. search needs)
-    (λ c κs. (c .before .before .before .before .before .before .before .before .pre .0 .linked .size, c .fact-key .ensures .1))
-    (λ c. let p = c .before .before .before .before .before .before .before .before .before .pre in walk-first (p .0 .linked) _ _ (unfound _ _ _ _ (meets-key _ _ (p .0 .form) _ (p .1))) (any-start _) (opposing-key (c .before .fact-key .ensures) (c .before .before .before .before .effect-fact .ensures) (c .before .before .other .ensures) (c .before .before .before .effect-value .ensures)) (c .first-of .ensures))
-    (λ c κs. let p = c .before .before .before .before .before .before .before .before .before .before .before .before .pre in (p .0, p .1, c .if1 .taken))
-    (λ c. any-found _ _ _ (c .before .before .if1 .taken) (c .before .meets .ensures) (c .if2 .taken))
-    (λ c κs. let p = c .before .before .before .before .before .before .before .before .before .before .before .before .before .before .pre in (p .0 .linked .size, omega (arith, c .before .before .if1 .taken, p .0 .form .effectCount)))
-    (λ c. walk-less (c .before .before .before .before .before .before .before .before .before .before .before .before .before .before .before .pre .0 .linked) _ (c .before .before .before .if1 .taken) (c .next-of .ensures))
-    (λ c. let p = c .before .before .before .before .before .before .before .before .before .before .before .before .before .before .before .pre in let w = c .before .before .before .before .before .loop .inv in walk-next (p .0 .linked) _ _ (unfound _ _ _ _ (meets-key _ _ (p .0 .form) _ (p .1))) _ (c .before .before .before .if1 .taken) w (any-pass _ _ (sym (c .before .before .meets .ensures) ∙ c .before .if2 .left) (w .gathered)) (c .next-of .ensures))
-    (λ c. sym (walk-end _ (c .before .before .loop .inv) (c .if1 .left))))
+    (λ c. search needs)
+    (λ c. omega (arith, c .before .before .before .before .before .before .before .before .before .pre .1, c .before .before .before .before .before .before .before .before .before .pre .0 .timed .size))
+    (λ c κs. let p = c .before .before .before .before .before .before .before .before .before .pre in let k = opposing-key (c .before .fact-key .ensures) (c .before .before .before .before .effect-fact .ensures) (c .before .before .other .ensures) (c .before .before .before .effect-value .ensures) in let l = key-listed (p .0) _ _ (p .0 .form .effectFact _ (p .1)) (omega arith) (k .0) in key-searched (p .0) _ l)
+    (λ c. let p = c .before .before .before .before .before .before .before .before .before .before .pre in let k = opposing-key (c .before .before .fact-key .ensures) (c .before .before .before .before .before .effect-fact .ensures) (c .before .before .before .other .ensures) (c .before .before .before .before .effect-value .ensures) in let l = key-listed (p .0) _ _ (p .0 .form .effectFact _ (p .1)) (omega arith) (k .0) in scanned-start (p .0 .ordered) _ l _ _ (c .place-from .ensures))
+    (λ c. search needs)
+    (λ c κs. (c .before .before .before .before .before .before .before .before .before .before .before .pre .0 .ordered .size, omega (arith, c .before .before .before .fact-key .ensures .1)))
+    (λ c κs. let p = c .before .before .before .before .before .before .before .before .before .before .before .before .before .pre in let k = opposing-key (c .before .before .before .before .before .fact-key .ensures) (c .before .before .before .before .before .before .before .before .effect-fact .ensures) (c .before .before .before .before .before .before .other .ensures) (c .before .before .before .before .before .before .before .effect-value .ensures) in let l = key-listed (p .0) _ _ (p .0 .form .effectFact _ (p .1)) (omega arith) (k .0) in (p .0 .ordered .size, place-low (p .0) _ l _ (omega (arith, c .if1 .taken, c .before .begin-of .ensures))))
+    (λ c. search needs)
+    (λ c. search needs)
+    (λ c. let p = c .before .before .before .before .before .before .before .before .before .before .before .before .before .before .before .pre in let k = opposing-key (c .before .before .before .before .before .before .before .fact-key .ensures) (c .before .before .before .before .before .before .before .before .before .before .effect-fact .ensures) (c .before .before .before .before .before .before .before .before .other .ensures) (c .before .before .before .before .before .before .before .before .before .effect-value .ensures) in let l = key-listed (p .0) _ _ (p .0 .form .effectFact _ (p .1)) (omega arith) (k .0) in omega (arith, p .0 .timed .size, (place-counted (p .0) _ l _ (omega (arith, c .before .before .before .before .loop .inv .parts .from, c .before .before .before .before .loop .inv .begins)) (omega (arith, c .before .before .if1 .taken, c .before .before .before .begin-of .ensures)) (c .before .record-at .ensures))))
+    (λ c. let p = c .before .before .before .before .before .before .before .before .before .before .before .before .before .before .before .before .pre in let k = opposing-key (c .before .before .before .before .before .before .before .before .fact-key .ensures) (c .before .before .before .before .before .before .before .before .before .before .before .effect-fact .ensures) (c .before .before .before .before .before .before .before .before .before .other .ensures) (c .before .before .before .before .before .before .before .before .before .before .effect-value .ensures) in let l = key-listed (p .0) _ _ (p .0 .form .effectFact _ (p .1)) (omega arith) (k .0) in scanned-past (p .0 .ordered) _ l _ _ (meets-only (p .0) _ (p .1) (k .0) refl) _ _ (meets-until (p .0) _ (p .1) (k .0) refl) (c .before .before .before .before .before .loop .inv) (omega (arith, c .before .before .before .if1 .taken, c .before .before .before .before .begin-of .ensures)) (c .before .before .record-at .ensures) (c .if2 .taken))
+    (λ c κs. let p = c .before .before .before .before .before .before .before .before .before .before .before .before .before .before .before .before .pre in let k = opposing-key (c .before .before .before .before .before .before .before .before .fact-key .ensures) (c .before .before .before .before .before .before .before .before .before .before .before .effect-fact .ensures) (c .before .before .before .before .before .before .before .before .before .other .ensures) (c .before .before .before .before .before .before .before .before .before .before .effect-value .ensures) in let l = key-listed (p .0) _ _ (p .0 .form .effectFact _ (p .1)) (omega arith) (k .0) in (p .0, p .1, (place-counted (p .0) _ l _ (omega (arith, c .before .before .before .before .before .loop .inv .parts .from, c .before .before .before .before .before .loop .inv .begins)) (omega (arith, c .before .before .before .if1 .taken, c .before .before .before .before .begin-of .ensures)) (c .before .before .record-at .ensures))))
+    (λ c. let p = c .before .before .before .before .before .before .before .before .before .before .before .before .before .before .before .before .before .before .pre in let k = opposing-key (c .before .before .before .before .before .before .before .before .before .before .fact-key .ensures) (c .before .before .before .before .before .before .before .before .before .before .before .before .before .effect-fact .ensures) (c .before .before .before .before .before .before .before .before .before .before .before .other .ensures) (c .before .before .before .before .before .before .before .before .before .before .before .before .effect-value .ensures) in let l = key-listed (p .0) _ _ (p .0 .form .effectFact _ (p .1)) (omega arith) (k .0) in scanned-hit (p .0 .ordered) _ l _ _ _ (c .before .before .before .before .before .before .before .loop .inv) (omega (arith, c .before .before .before .before .before .if1 .taken, c .before .before .before .before .before .before .begin-of .ensures)) (c .before .before .before .before .record-at .ensures) (c .before .meets .ensures) (c .if3 .taken))
+    (λ c. let p = c .before .before .before .before .before .before .before .before .before .before .before .before .before .before .before .before .before .before .pre in let k = opposing-key (c .before .before .before .before .before .before .before .before .before .before .fact-key .ensures) (c .before .before .before .before .before .before .before .before .before .before .before .before .before .effect-fact .ensures) (c .before .before .before .before .before .before .before .before .before .before .before .other .ensures) (c .before .before .before .before .before .before .before .before .before .before .before .before .effect-value .ensures) in let l = key-listed (p .0) _ _ (p .0 .form .effectFact _ (p .1)) (omega arith) (k .0) in search (needs, place-low (p .0) _ l (c .before .before .before .before .before .before .before .loop .p) (omega (arith, c .before .before .before .before .before .if1 .taken, c .before .before .before .before .before .before .begin-of .ensures))))
+    (λ c. omega (arith, c .before .before .before .before .before .if1 .taken, c .before .before .before .before .before .before .begin-of .ensures))
+    (λ c. let p = c .before .before .before .before .before .before .before .before .before .before .before .before .before .before .before .before .before .before .pre in let k = opposing-key (c .before .before .before .before .before .before .before .before .before .before .fact-key .ensures) (c .before .before .before .before .before .before .before .before .before .before .before .before .before .effect-fact .ensures) (c .before .before .before .before .before .before .before .before .before .before .before .other .ensures) (c .before .before .before .before .before .before .before .before .before .before .before .before .effect-value .ensures) in let l = key-listed (p .0) _ _ (p .0 .form .effectFact _ (p .1)) (omega arith) (k .0) in scanned-more (p .0 .ordered) _ l _ _ _ (c .before .before .before .before .before .before .before .loop .inv) (c .before .before .before .before .record-at .ensures) (c .before .meets .ensures) (c .if3 .left))
+    (λ c. let p = c .before .before .before .before .before .before .before .before .before .before .before .before .before .pre in let k = opposing-key (c .before .before .before .before .before .fact-key .ensures) (c .before .before .before .before .before .before .before .before .effect-fact .ensures) (c .before .before .before .before .before .before .other .ensures) (c .before .before .before .before .before .before .before .effect-value .ensures) in let l = key-listed (p .0) _ _ (p .0 .form .effectFact _ (p .1)) (omega arith) (k .0) in scanned-end (p .0 .ordered) _ l _ _ (meets-only (p .0) _ (p .1) (k .0) refl) _ (c .before .before .loop .inv) (omega (arith, c .if1 .left, c .before .begin-of .ensures))))

@@ -1,34 +1,28 @@
--- A search along the uses of the level.
+-- A sweep along the level's uses, tick by tick.
 use Prim.Native.Nat.{_-_}
-use mathlib.Core.Path.{_≡_, sym, _∙_}
-use mathlib.Core.Bool.{false}
+use mathlib.Core.Path.{refl}
 use native.Mathlib.Omega.{arith}
-use Rattle.laws.specs.Search.{any}
-use Rattle.laws.proofs.Search.{any-start, any-found}
-use Rattle.laws.proofs.Linked.{Walk}
-use Rattle.job.specs.declared.index.Linking.the-variants.{UsesByLevel}
 use Rattle.job.specs.Model.{view}
-use Rattle.job.specs.Indexed.{levelKey, keyOf}
 use Rattle.schedule.specs.Ticks.{scheduleOf}
-use Rattle.schedule.specs.Checks.{passes, levelFails}
-use Rattle.schedule.proofs.Walks.{walk-first, walk-next, walk-less, walk-end, any-pass, unfound, passes-key}
+use Rattle.schedule.proofs.Sweeps.{Swept, swept-start, swept-more, swept-fails, swept-end, sweep-goes-on, summed-low, level-ends}
 use borrow.Author.Needs.{needs}
+use borrow.Author.Tests.{not-true, not-false}
 use Rattle.schedule.proofs.checks.level_fails.Statement.{statement}
 use Rattle.schedule.proofs.checks.level_fails.Tie as tie
 
 pub level-fails-spec : {M : Type 1} → statement M
-unfolding levelFails
 level-fails-spec =
     tie.close
     (tie.spec
-    (λ s job starts ticks index l u₀ u. Walk (job .count .uses) (keyOf (view job s) UsesByLevel) (levelKey l) (λ i. any i (passes (view job s) (scheduleOf starts) l) ≡ false) u)
-    (λ s job starts ticks index l u₀ u. job .count .uses - u)
-    (λ c κs. search needs)
-    (λ c κs. (c .before .before .before .before .before .pre .linked .size, c .level-key .ensures .1))
-    (λ c. walk-first (c .before .before .before .before .before .before .pre .linked) _ _ (unfound _ _ _ _ (λ k h. passes-key _ _ _ k)) (any-start _) (c .before .level-key .ensures) (c .first-of .ensures))
-    (λ c κs. (c .before .before .before .before .before .before .before .before .before .pre, c .if1 .taken))
-    (λ c. any-found _ _ _ (c .before .before .if1 .taken) (c .before .passes .ensures) (c .if2 .taken))
-    (λ c κs. let p = c .before .before .before .before .before .before .before .before .before .before .before .pre in (p .linked .size, omega (arith, c .before .before .if1 .taken, p .form .useCount)))
-    (λ c. walk-less (c .before .before .before .before .before .before .before .before .before .before .before .before .pre .linked) _ (c .before .before .before .if1 .taken) (c .next-of .ensures))
-    (λ c. let w = c .before .before .before .before .before .loop .inv in walk-next (c .before .before .before .before .before .before .before .before .before .before .before .before .pre .linked) _ _ (unfound _ _ _ _ (λ k h. passes-key _ _ _ k)) _ (c .before .before .before .if1 .taken) w (any-pass _ _ (sym (c .before .before .passes .ensures) ∙ c .before .if2 .left) (w .gathered)) (c .next-of .ensures))
-    (λ c. sym (walk-end _ (c .before .before .loop .inv) (c .if1 .left))))
+    (λ s job starts ticks sorted l end sums₀ sums. Swept (view job s) (scheduleOf starts) ticks sorted l sums)
+    (λ s job starts ticks sorted l end sums₀ sums. end - sums .place)
+    (λ c. search needs)
+    (λ c κs. let p = c .before .before .before .before .pre in (p .0 .ordered .size, omega (arith, p .1, p .0 .form .levelCount)))
+    (λ c κs. let p = c .before .before .before .before .before .pre in (p .0 .ordered .size, omega (arith, p .1, p .0 .form .levelCount)))
+    (λ c. let p = c .before .before .before .before .before .before .pre in swept-start (p .0) _ (p .1) _ (c .begin-of2 .ensures) refl refl)
+    (λ c κs. let p = c .before .before .before .before .before .before .before .before .before .pre in (p .0, p .1, c .before .before .loop .inv .summed, (omega (arith, c .if1 .taken, c .before .before .before .before .begin-of .ensures))))
+    (λ c κs. let p = c .before .before .before .before .before .before .before .before .before .before .pre in let a = summed-low _ _ _ _ (c .before .before .before .loop .inv .summed) (omega (arith, c .before .before .before .loop .inv .summed .ends, level-ends (p .0) _ (p .1))) in let b = summed-low _ _ _ _ (c .changes-at .ensures .0) (omega (arith, c .changes-at .ensures .0 .ends, level-ends (p .0) _ (p .1))) in (a .0, a .1, b .0, b .1))
+    (λ c. let p = c .before .before .before .before .before .before .before .before .before .before .before .before .pre in swept-fails (p .0) _ (p .1) _ _ (c .before .before .before .before .before .loop .inv) (omega (arith, c .before .before .before .if1 .taken, c .before .before .before .before .before .before .before .begin-of .ensures)) (c .before .before .changes-at .ensures .0) (c .before .before .changes-at .ensures .1) (c .before .in-bounds .ensures) (not-true _ (c .if2 .taken)))
+    (λ c. let p = c .before .before .before .before .before .before .before .before .before .before .before .before .pre in omega (arith, c .before .before .before .if1 .taken, sweep-goes-on (p .0) _ (p .1) _ _ (c .before .before .before .before .before .loop .inv) (omega (arith, c .before .before .before .if1 .taken, c .before .before .before .before .before .before .before .begin-of .ensures)) (c .before .before .changes-at .ensures .0) (c .before .before .changes-at .ensures .1)))
+    (λ c. let p = c .before .before .before .before .before .before .before .before .before .before .before .before .pre in swept-more (p .0) _ (p .1) _ _ (c .before .before .before .before .before .loop .inv) (omega (arith, c .before .before .before .if1 .taken, c .before .before .before .before .before .before .before .begin-of .ensures)) (c .before .before .changes-at .ensures .0) (c .before .before .changes-at .ensures .1) (c .before .in-bounds .ensures) (not-false _ (c .if2 .left)))
+    (λ c. let p = c .before .before .before .before .before .before .before .before .before .pre in swept-end (p .0) _ (p .1) _ (c .before .before .loop .inv) (omega (arith, c .if1 .left, c .before .before .before .before .begin-of .ensures))))
