@@ -16,8 +16,6 @@ ghost use Rattle.partialize.specs.Producers.{givesFrom};
 ghost use Rattle.orders.specs.Links.{linkAt};
 ghost use Rattle.partialize.specs.Table.{Filled};
 use job::index::fact_key;
-use job::index::first_of;
-use job::index::next_of;
 use job::layout::Job;
 use job::records::condition_fact;
 use job::records::condition_value;
@@ -28,6 +26,9 @@ use schedule::ticks::first_tick;
 use schedule::values::after_all;
 use schedule::values::last_given;
 use schedule::values::other;
+use timeline::begin_of;
+use timeline::place_from;
+use timeline::record_at;
 
 // The link that stands for the initial state.
 pub const INITIAL: u16 = 65535;
@@ -45,42 +46,36 @@ fn last_opposing(
     job: Job,
     starts: &[u32],
     ticks: &[usize],
-    index: &[u16],
+    sorted: &[u16],
     fact: u16,
     value: u16,
     t: usize,
 ) -> usize
-    requires { ⌜ EffectsKnown (view job (now s)) (scheduleOf (now starts)) (now ticks) (now index) × (fact < 256) ⌝ }
+    requires { ⌜ EffectsKnown (view job (now s)) (scheduleOf (now starts)) (now ticks) (now sorted) × (fact < job .count .facts) ⌝ }
     ensures { λ r. ⌜ r ≡ lastOpposing (view job (now (s .entry))) (scheduleOf (now (starts .entry))) fact value t ⌝ }
 {
-    last_given(s, job, starts, ticks, index, fact, other(value), t)
+    last_given(s, job, starts, ticks, sorted, fact, other(value), t)
 }
 
-// The lowest of the earliest producers; `end` is a tick after all effects.
+// The lowest of the earliest producers.
 fn supporter(
     s: &[u8],
     job: Job,
     starts: &[u32],
     ticks: &[usize],
-    index: &[u16],
+    sorted: &[u16],
     want: Wanted,
-    end: usize,
 ) -> u16
-    requires { ⌜ EffectsKnown (view job (now s)) (scheduleOf (now starts)) (now ticks) (now index) × (end ≡ afterAll (view job (now s)) (scheduleOf (now starts))) × (want .fact < 256) × (want .value ≤ 1) ⌝ }
-    ensures { λ r. ⌜ r ≡ lowest (job .count .effects) (λ e. givesFrom (view job (now (s .entry))) (scheduleOf (now (starts .entry))) (want .fact) (want .value) (want .from) e && eqb (effectTick (view job (now (s .entry))) (scheduleOf (now (starts .entry))) e) (least (job .count .effects) end (λ k. cond (givesFrom (view job (now (s .entry))) (scheduleOf (now (starts .entry))) (want .fact) (want .value) (want .from) k) (effectTick (view job (now (s .entry))) (scheduleOf (now (starts .entry))) k) end))) ⌝ }
+    requires { ⌜ EffectsKnown (view job (now s)) (scheduleOf (now starts)) (now ticks) (now sorted) × (want .fact < job .count .facts) × (want .value ≤ 1) ⌝ }
+    ensures { λ r. ⌜ r ≡ lowest (job .count .effects) (λ e. givesFrom (view job (now (s .entry))) (scheduleOf (now (starts .entry))) (want .fact) (want .value) (want .from) e && eqb (effectTick (view job (now (s .entry))) (scheduleOf (now (starts .entry))) e) (least (job .count .effects) (afterAll (view job (now (s .entry))) (scheduleOf (now (starts .entry)))) (λ k. cond (givesFrom (view job (now (s .entry))) (scheduleOf (now (starts .entry))) (want .fact) (want .value) (want .from) k) (effectTick (view job (now (s .entry))) (scheduleOf (now (starts .entry))) k) (afterAll (view job (now (s .entry))) (scheduleOf (now (starts .entry))))))) ⌝ }
 {
-    let mut earliest = end;
-    let mut found = job.count.effects;
-    let mut e = first_of(index, fact_key(want.fact, want.value));
-    while e < job.count.effects {
-        let tick = ticks[e as usize];
-        if (want.from <= tick) & (tick < earliest) {
-            earliest = tick;
-            found = e;
-        }
-        e = next_of(index, e);
+    let key = fact_key(want.fact, want.value);
+    let p = place_from(ticks, sorted, key, want.from);
+    if p < begin_of(sorted, key + 1) {
+        record_at(sorted, p)
+    } else {
+        job.count.effects
     }
-    found
 }
 
 // What supports the value of a fact before tick t.
@@ -89,21 +84,20 @@ fn link_of(
     job: Job,
     starts: &[u32],
     ticks: &[usize],
-    index: &[u16],
-    end: usize,
+    sorted: &[u16],
     fact: u16,
     value: u16,
     t: usize,
 ) -> u16
-    requires { ⌜ EffectsKnown (view job (now s)) (scheduleOf (now starts)) (now ticks) (now index) × (end ≡ afterAll (view job (now s)) (scheduleOf (now starts))) × (fact < 256) × (value ≤ 1) ⌝ }
+    requires { ⌜ EffectsKnown (view job (now s)) (scheduleOf (now starts)) (now ticks) (now sorted) × (fact < job .count .facts) × (value ≤ 1) ⌝ }
     ensures { λ r. ⌜ r ≡ linkOf (view job (now (s .entry))) (scheduleOf (now (starts .entry))) fact value t ⌝ }
 {
-    let from = last_opposing(s, job, starts, ticks, index, fact, value, t);
+    let from = last_opposing(s, job, starts, ticks, sorted, fact, value, t);
     if (from == 0) & (fact_initial(s, job, fact) == value) {
         return INITIAL;
     }
     let want = Wanted { fact, value, from };
-    supporter(s, job, starts, ticks, index, want, end)
+    supporter(s, job, starts, ticks, sorted, want)
 }
 
 fn condition_link(
@@ -111,17 +105,16 @@ fn condition_link(
     job: Job,
     starts: &[u32],
     ticks: &[usize],
-    index: &[u16],
-    end: usize,
+    sorted: &[u16],
     c: u16,
 ) -> u16
-    requires { ⌜ EffectsKnown (view job (now s)) (scheduleOf (now starts)) (now ticks) (now index) × (end ≡ afterAll (view job (now s)) (scheduleOf (now starts))) × (c < job .count .conditions) ⌝ }
+    requires { ⌜ EffectsKnown (view job (now s)) (scheduleOf (now starts)) (now ticks) (now sorted) × (c < job .count .conditions) ⌝ }
     ensures { λ r. ⌜ r ≡ conditionLink (view job (now (s .entry))) (scheduleOf (now (starts .entry))) c ⌝ }
 {
     let fact = condition_fact(s, job, c);
     let value = condition_value(s, job, c);
     let first = first_tick(s, job, starts, c);
-    link_of(s, job, starts, ticks, index, end, fact, value, first)
+    link_of(s, job, starts, ticks, sorted, fact, value, first)
 }
 
 fn goal_link(
@@ -129,16 +122,16 @@ fn goal_link(
     job: Job,
     starts: &[u32],
     ticks: &[usize],
-    index: &[u16],
+    sorted: &[u16],
     end: usize,
     g: u16,
 ) -> u16
-    requires { ⌜ EffectsKnown (view job (now s)) (scheduleOf (now starts)) (now ticks) (now index) × (end ≡ afterAll (view job (now s)) (scheduleOf (now starts))) × (g < job .count .goals) ⌝ }
+    requires { ⌜ EffectsKnown (view job (now s)) (scheduleOf (now starts)) (now ticks) (now sorted) × (end ≡ afterAll (view job (now s)) (scheduleOf (now starts))) × (g < job .count .goals) ⌝ }
     ensures { λ r. ⌜ r ≡ goalLink (view job (now (s .entry))) (scheduleOf (now (starts .entry))) g ⌝ }
 {
     let fact = goal_fact(s, job, g);
     let value = goal_value(s, job, g);
-    link_of(s, job, starts, ticks, index, end, fact, value, end)
+    link_of(s, job, starts, ticks, sorted, fact, value, end)
 }
 
 // The link of condition k, or past the conditions that of the next goal.
@@ -147,18 +140,18 @@ fn link_at(
     job: Job,
     starts: &[u32],
     ticks: &[usize],
-    index: &[u16],
+    sorted: &[u16],
     end: usize,
     k: u16,
 ) -> u16
-    requires { ⌜ EffectsKnown (view job (now s)) (scheduleOf (now starts)) (now ticks) (now index) × (end ≡ afterAll (view job (now s)) (scheduleOf (now starts))) × (k < job .count .conditions + job .count .goals) ⌝ }
+    requires { ⌜ EffectsKnown (view job (now s)) (scheduleOf (now starts)) (now ticks) (now sorted) × (end ≡ afterAll (view job (now s)) (scheduleOf (now starts))) × (k < job .count .conditions + job .count .goals) ⌝ }
     ensures { λ r. ⌜ r ≡ linkAt (view job (now (s .entry))) (scheduleOf (now (starts .entry))) k ⌝ }
 {
     let n = job.count.conditions;
     if k < n {
-        condition_link(s, job, starts, ticks, index, end, k)
+        condition_link(s, job, starts, ticks, sorted, k)
     } else {
-        goal_link(s, job, starts, ticks, index, end, k - n)
+        goal_link(s, job, starts, ticks, sorted, end, k - n)
     }
 }
 
@@ -168,17 +161,17 @@ pub fn find_links(
     job: Job,
     starts: &[u32],
     ticks: &[usize],
-    index: &[u16],
+    sorted: &[u16],
     links: &mut [u16],
 )
-    requires { ⌜ EffectsKnown (view job (now s)) (scheduleOf (now starts)) (now ticks) (now index) × (job .count .conditions + job .count .goals ≤ length (now links)) ⌝ }
+    requires { ⌜ EffectsKnown (view job (now s)) (scheduleOf (now starts)) (now ticks) (now sorted) × (job .count .conditions + job .count .goals ≤ length (now links)) ⌝ }
     ensures { λ _. ⌜ Filled (job .count .conditions + job .count .goals) (linkAt (view job (now (s .entry))) (scheduleOf (now (starts .entry)))) (now (links .entry)) (now (links .exit)) ⌝ }
 {
     let end = after_all(s, job, starts, ticks);
     let n = job.count.conditions + job.count.goals;
     let mut k = 0;
     while k < n {
-        links[k as usize] = link_at(s, job, starts, ticks, index, end, k);
+        links[k as usize] = link_at(s, job, starts, ticks, sorted, end, k);
         k += 1;
     }
 }

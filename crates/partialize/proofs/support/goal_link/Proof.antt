@@ -12,5 +12,5 @@ goal-link-spec =
     (tie.spec
     (λ c κs. search needs)
     (λ c κs. search needs)
-    (λ c κs. let d = c .before .before .before .before .before .before in let form = d .pre .0 .form in (d .pre .0, d .pre .1, omega (arith, c .before .goal-fact .ensures, form .goalFact _ (d .pre .2), form .factCount), rw (c .goal-value .ensures) (form .goalValue _ (d .pre .2))))
+    (λ c κs. let d = c .before .before .before .before .before .before in let form = d .pre .0 .form in (d .pre .0, rw (c .before .goal-fact .ensures) (form .goalFact _ (d .pre .2)), rw (c .goal-value .ensures) (form .goalValue _ (d .pre .2))))
     (λ c. rw (c .before .before .goal-fact .ensures, c .before .goal-value .ensures, c .before .before .before .before .before .before .before .pre .1) at (c .link-of .ensures)))

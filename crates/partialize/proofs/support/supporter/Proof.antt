@@ -1,14 +1,8 @@
--- A walk along the effects that give what is wanted; the lowest of the earliest so far is kept.
-use Prim.Native.Nat.{_-_}
-use mathlib.Core.Logic.{⊎-elim}
+-- The first record from the wanted tick on.
+use mathlib.Core.Path.{refl}
 use native.Mathlib.Omega.{arith}
-use Rattle.laws.proofs.Linked.{Walk}
-use Rattle.job.specs.declared.index.Linking.the-variants.{EffectsByFact}
-use Rattle.job.specs.Model.{view}
-use Rattle.job.specs.Indexed.{factKey, keyOf}
-use Rattle.schedule.specs.Ticks.{scheduleOf}
-use Rattle.schedule.proofs.Walks.{walk-first, walk-next, walk-less, walk-end}
-use Rattle.partialize.proofs.Supporters.{Earliest, earliest-start, earliest-pass, earliest-kept, earliest-found, earliest-end}
+use Rattle.schedule.proofs.Searches.{key-listed, key-searched, place-low}
+use Rattle.partialize.proofs.Supporters.{supporter-none, supporter-found}
 use borrow.Author.Needs.{needs}
 use Rattle.partialize.proofs.support.supporter.Statement.{statement}
 use Rattle.partialize.proofs.support.supporter.Tie as tie
@@ -17,15 +11,10 @@ pub supporter-spec : {M : Type 1} → statement M
 supporter-spec =
     tie.close
     (tie.spec
-    (λ s job starts ticks index want end earliest₀ found₀ e₀ earliest found e. Walk (job .count .effects) (keyOf (view job s) EffectsByFact) (factKey (want .fact) (want .value)) (λ i. Earliest (view job s) (scheduleOf starts) (want .fact) (want .value) (want .from) end i earliest found) e)
-    (λ s job starts ticks index want end earliest₀ found₀ e₀ earliest found e. job .count .effects - e)
     (λ c κs. search needs)
-    (λ c κs. (c .before .before .before .before .before .pre .0 .linked .size, c .fact-key .ensures .1))
-    (λ c. let d = c .before .before .before .before .before .before in walk-first (d .pre .0 .linked) _ _ (λ k h other p. earliest-pass _ _ _ _ (d .args .want .from) _ k other p) (earliest-start _ _ _ _ _ _) (c .before .fact-key .ensures) (c .first-of .ensures))
+    (λ c κs. let p = c .before .before .before .before .before .pre in key-searched (p .0) _ (key-listed (p .0) _ _ (p .1) (p .2) (c .fact-key .ensures .0)))
     (λ c. search needs)
-    (λ c. search needs)
-    (λ c. omega (arith, c .before .if1 .taken, c .before .before .before .before .before .before .before .before .before .before .pre .0 .timed .size))
-    (λ c κs. let p = c .before .before .before .before .before .before .before .before .before .before .before .before .pre .0 in (p .linked .size, omega (arith, c .before .before .before .if1 .taken, p .form .effectCount)))
-    (λ c. walk-less (c .before .before .before .before .before .before .before .before .before .before .before .before .before .pre .0 .linked) _ (c .before .before .before .before .if1 .taken) (c .next-of .ensures))
-    (λ c. let d = c .before .before .before .before .before .before .before .before .before .before .before .before .before in let p = d .pre in let w = c .before .before .before .before .before .before .loop .inv in let h = c .before .before .before .before .if1 .taken in walk-next (p .0 .linked) _ _ (λ k h other p. earliest-pass _ _ _ _ (d .args .want .from) _ k other p) _ h w (⊎-elim (λ v. earliest-found _ _ _ _ (d .args .want .from) _ (p .0) (p .2) (p .3) _ h (w .there h) (w .gathered) (v .0 .taken) (v .1) (v .2)) (λ v. earliest-kept _ _ _ _ (d .args .want .from) _ (p .0) (p .2) (p .3) _ h (w .there h) (w .gathered) (v .0 .left) (v .1) (v .2)) (c .before .if2 .came)) (c .next-of .ensures))
-    (λ c. let d = c .before .before .before .before .before .before .before .before .before in earliest-end _ _ _ _ (d .args .want .from) _ _ _ (d .pre .1) (walk-end _ (c .before .before .loop .inv) (c .if1 .left))))
+    (λ c κs. (c .before .before .before .before .before .before .pre .0 .ordered .size, omega (arith, c .before .fact-key .ensures .1)))
+    (λ c κs. let p = c .before .before .before .before .before .before .before .before .pre in (p .0 .ordered .size, place-low (p .0) _ (key-listed (p .0) _ _ (p .1) (p .2) (c .before .before .before .fact-key .ensures .0)) _ (omega (arith, c .if1 .taken, c .before .begin-of .ensures))))
+    (λ c. let p = c .before .before .before .before .before .before .before .before .before .pre in supporter-found (p .0) _ _ (c .before .before .before .before .before .before .before .before .before .args .want .from) (p .1) (p .2) (c .before .before .before .before .fact-key .ensures .0) (c .before .before .before .place-from .ensures) (omega (arith, c .before .if1 .taken, c .before .before .begin-of .ensures)) (c .record-at .ensures))
+    (λ c. let p = c .before .before .before .before .before .before .before .before .pre in supporter-none (p .0) _ _ (c .before .before .before .before .before .before .before .before .args .want .from) (p .1) (p .2) (c .before .before .before .fact-key .ensures .0) (c .before .before .place-from .ensures) refl (omega (arith, c .if1 .left, c .before .begin-of .ensures))))
