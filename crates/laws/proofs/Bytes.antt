@@ -1,5 +1,5 @@
 -- Laws of little-endian numbers: what lies past the end, and a u32 written as two u16.
-use Prim.Native.Nat.{ℕ, suc, _+_, _/_, _%_, _≤_, _<_}
+use Prim.Native.Nat.{ℕ, suc, _+_, _*_, _/_, _%_, _≤_, _<_}
 use mathlib.Core.Path.{_≡_, refl, sym, ap, _∙_}
 use mathlib.Core.List.{List, [], _∷_}
 use native.Mathlib.Omega.{arith}
@@ -19,17 +19,22 @@ u16-out s at h =
     let b : byteAt s (at + 1) ≡ 0 = byte-out s (at + 1) (omega arith) in
     omega arith
 
-pub u32-out : (s : List ℕ) (at : ℕ) → length s ≤ at → u32At s at ≡ 0
-unfolding u32At
-u32-out s at h =
-    let a : u16At s at ≡ 0 = u16-out s at h in
-    let b : u16At s (at + 2) ≡ 0 = u16-out s (at + 2) (omega arith) in
-    omega arith
-
 -- a u16 whose upper byte lies past the end is its lower byte
 pub u16-cut : (s : List ℕ) (at : ℕ) → length s < at + 2 → byteAt s at ≡ u16At s at
 unfolding u16At
 u16-cut s at h = let b : byteAt s (at + 1) ≡ 0 = byte-out s (at + 1) (omega arith) in omega arith
+
+-- a u32 whose last byte lies past the end is its lower half with one byte of the upper, or its lowest byte
+pub u32-cut : (s : List ℕ) (at : ℕ) → length s < at + 4 → u16At s at + 65536 * byteAt s (at + 2) ≡ u32At s at
+unfolding u32At
+u32-cut s at h = let b : byteAt s (at + 2) ≡ u16At s (at + 2) = u16-cut s (at + 2) (omega arith) in omega arith
+
+pub u32-low : (s : List ℕ) (at : ℕ) → length s < at + 2 → byteAt s at ≡ u32At s at
+unfolding u32At
+u32-low s at h =
+    let a : byteAt s at ≡ u16At s at = u16-cut s at h in
+    let b : u16At s (at + 2) ≡ 0 = u16-out s (at + 2) (omega arith) in
+    omega arith
 
 -- stores past the end change nothing
 pub sets-out : (l : List ℕ) (at : ℕ) (vs : List ℕ) → length l ≤ at → sets l at vs ≡ l

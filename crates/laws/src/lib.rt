@@ -19,14 +19,21 @@ pub fn byte_at(s: &[u8], at: usize) -> usize
     if at < s.len() { wide(s[at]) } else { 0 }
 }
 
-// Whether n bytes lie at a position.
-fn has_room(s: &[u8], at: usize, n: usize) -> bool
+// Positions below this are near: a u16 added to one cannot overflow.
+const NEAR: usize = 1099511627776;
+
+// Whether n bytes lie at a position. A near position takes one comparison; where it is made of a u32 and a few u16, the compiler
+// sees that it is near.
+fn has_room(s: &[u8], at: usize, n: u16) -> bool
     ensures { λ r. ⌜ r ≡ leb (at + n) (length (now (s .entry))) ⌝ }
 {
-    if s.len() < n {
+    if at < NEAR {
+        return at + n as usize <= s.len();
+    }
+    if s.len() < n as usize {
         return false;
     }
-    at <= s.len() - n
+    at <= s.len() - n as usize
 }
 
 // The u16 at a position within the bytes.
@@ -62,13 +69,10 @@ pub fn u32_at(s: &[u8], at: usize) -> usize
     if has_room(s, at, 4) {
         return u32_within(s, at);
     }
-    if at < s.len() {
-        let low = u16_at(s, at);
-        let high = u16_at(s, at + 2);
-        low + 65536 * high
-    } else {
-        0
+    if has_room(s, at, 2) {
+        return u16_within(s, at) + 65536 * byte_at(s, at + 2);
     }
+    byte_at(s, at)
 }
 
 // The i32 that starts at a position, plus 2147483648.
