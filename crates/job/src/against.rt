@@ -2,10 +2,10 @@
 // and fact or level, and the few others that share the key. The field that most often tells two such records apart is read first.
 ghost use mathlib.Core.Path.{_≡_};
 ghost use mathlib.Core.Bool.{_&&_, cond};
-ghost use Prim.Native.Nat.{min, _≤_, _<_};
+ghost use Prim.Native.Nat.{ℕ, min, _≤_, _<_};
 ghost use lib.Dec.{ltb};
-ghost use Rattle.job.specs.Model.{view};
-ghost use Rattle.job.specs.Indexed.{effectKey, conditionKey, useKey, Growing};
+ghost use Rattle.job.specs.Model.{view, effectOf};
+ghost use Rattle.job.specs.Indexed.{stepKey, effectKey, conditionKey, useKey, Growing};
 ghost use Rattle.job.specs.Against.{bothWays, usesTwice, opposesOwn, setBefore, usedBefore, opposesAny, bothWaysStep, usesTwiceStep, opposesOwnStep};
 ghost use Rattle.job.specs.Refusals.{stepCheck};
 use crate::index::NONE;
@@ -18,15 +18,16 @@ use crate::records::*;
 use crate::verdict::Verdict;
 use crate::verdict::refuse_if;
 
-fn both_ways(s: &[u8], job: Job, e: u16, f: u16) -> bool
-    ensures { λ r. ⌜ r ≡ bothWays (view job (now (s .entry))) e f ⌝ }
+// Whether e, if it is effect k, sets a fact the other way than f.
+fn both_ways(s: &[u8], job: Job, e: Effect, f: u16) -> bool
+    ensures { λ r. ⌜ ((k : ℕ) → e ≡ effectOf (view job (now (s .entry))) k → r ≡ bothWays (view job (now (s .entry))) k f) ⌝ }
 {
-    if effect_at(s, job, e) != effect_at(s, job, f) {
+    if e.at != effect_at(s, job, f) {
         return false;
     }
-    (effect_step(s, job, e) == effect_step(s, job, f))
-        & (effect_fact(s, job, e) == effect_fact(s, job, f))
-        & (effect_value(s, job, e) != effect_value(s, job, f))
+    (e.step == effect_step(s, job, f))
+        & (e.fact == effect_fact(s, job, f))
+        & (e.value != effect_value(s, job, f))
 }
 
 fn uses_twice(s: &[u8], job: Job, u: u16, v: u16) -> bool
@@ -38,28 +39,28 @@ fn uses_twice(s: &[u8], job: Job, u: u16, v: u16) -> bool
     (use_step(s, job, u) == use_step(s, job, v)) & (use_level(s, job, u) == use_level(s, job, v))
 }
 
-fn opposes_own(s: &[u8], job: Job, e: u16, c: u16) -> bool
-    ensures { λ r. ⌜ r ≡ opposesOwn (view job (now (s .entry))) e c ⌝ }
+// Whether e, if it is effect k, opposes c.
+fn opposes_own(s: &[u8], job: Job, e: Effect, c: u16) -> bool
+    ensures { λ r. ⌜ ((k : ℕ) → e ≡ effectOf (view job (now (s .entry))) k → r ≡ opposesOwn (view job (now (s .entry))) k c) ⌝ }
 {
-    if effect_fact(s, job, e) != condition_fact(s, job, c) {
+    if e.fact != condition_fact(s, job, c) {
         return false;
     }
-    if effect_value(s, job, e) == condition_value(s, job, c) {
+    if e.value == condition_value(s, job, c) {
         return false;
     }
-    let at = effect_at(s, job, e);
-    (effect_step(s, job, e) == condition_step(s, job, c))
-        & (condition_from(s, job, c) <= at)
-        & (at < condition_to(s, job, c))
+    (e.step == condition_step(s, job, c))
+        & (condition_from(s, job, c) <= e.at)
+        & (e.at < condition_to(s, job, c))
 }
 
-// Whether an effect before e sets e's fact the other way, in e's step at e's tick.
-fn set_before(s: &[u8], job: Job, index: &[u16], key: usize, e: u16) -> bool
-    requires { ⌜ Growing (effectKey (view job (now s))) e (now index) × (e ≤ 512) × (key ≡ effectKey (view job (now s)) e) × (key < 512) ⌝ }
-    ensures { λ r. ⌜ r ≡ setBefore (view job (now (s .entry))) e ⌝ }
+// Whether an effect before k, which is e, sets e's fact the other way, in e's step at e's tick.
+fn set_before(s: &[u8], job: Job, index: &[u16], key: usize, k: u16, e: Effect) -> bool
+    requires { ⌜ Growing (effectKey (view job (now s))) k (now index) × (k ≤ 512) × (key ≡ effectKey (view job (now s)) k) × (key < 512) × (e ≡ effectOf (view job (now s)) k) ⌝ }
+    ensures { λ r. ⌜ r ≡ setBefore (view job (now (s .entry))) k ⌝ }
 {
     let mut f = first_of(index, key);
-    while f < e {
+    while f < k {
         if both_ways(s, job, e, f) {
             return true;
         }
@@ -83,10 +84,10 @@ fn used_before(s: &[u8], job: Job, index: &[u16], key: usize, u: u16) -> bool
     false
 }
 
-// Whether e opposes a condition of its own step before that condition's last tick.
-fn opposes_any(s: &[u8], job: Job, index: &[u16], key: usize, e: u16) -> bool
-    requires { ⌜ Growing (conditionKey (view job (now s))) (job .count .conditions) (now index) × (job .count .conditions ≤ 512) × (key ≡ effectKey (view job (now s)) e) × (key < 512) ⌝ }
-    ensures { λ r. ⌜ r ≡ opposesAny (view job (now (s .entry))) e ⌝ }
+// Whether e, if it is effect k, opposes a condition of its own step before that condition's last tick.
+fn opposes_any(s: &[u8], job: Job, index: &[u16], key: usize, e: Effect) -> bool
+    requires { ⌜ Growing (conditionKey (view job (now s))) (job .count .conditions) (now index) × (job .count .conditions ≤ 512) × (key ≡ stepKey (e .step) (e .fact)) × (key < 512) ⌝ }
+    ensures { λ r. ⌜ ((k : ℕ) → e ≡ effectOf (view job (now (s .entry))) k → r ≡ opposesAny (view job (now (s .entry))) k) ⌝ }
 {
     let n = job.count.conditions;
     let mut c = first_of(index, key);
@@ -137,16 +138,16 @@ fn effects_against(s: &[u8], job: Job) -> u16
     let mut sets = job.count.steps;
     let mut opposes = job.count.steps;
     let n = job.count.effects;
-    let mut e = 0;
-    while e < n {
-        let step = effect_step(s, job, e);
-        let key = step_key(step, effect_fact(s, job, e));
-        let set = set_before(s, job, &effects, key, e);
-        sets = lower_if(set, step, sets);
+    let mut k = 0;
+    while k < n {
+        let e = effect_of(s, job, k);
+        let key = step_key(e.step, e.fact);
+        let set = set_before(s, job, &effects, key, k, e);
+        sets = lower_if(set, e.step, sets);
         let opposed = opposes_any(s, job, &conditions, key, e);
-        opposes = lower_if(opposed, step, opposes);
-        link(&mut effects, key, e);
-        e += 1;
+        opposes = lower_if(opposed, e.step, opposes);
+        link(&mut effects, key, k);
+        k += 1;
     }
     lower(sets, opposes)
 }
