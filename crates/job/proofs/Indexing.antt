@@ -9,7 +9,7 @@ use native.Mathlib.Decide.{decLt}
 use native.Mathlib.Omega.{arith}
 use lib.ListN.{length, set, getD, replicate, length-set, length-replicate, getD-replicate}
 use lib.Seq.{getD-set-same, getD-set-other}
-use Rattle.laws.specs.Linked.{NextAt, Linked, LastBefore, LinkedBack}
+use Rattle.laws.specs.Linked.{NextAt, LastBefore}
 use Rattle.laws.proofs.Linked.{last-none, last-here, last-other}
 use Rattle.laws.proofs.Search.{by-order}
 use Rattle.job.specs.Indexed.{Indexed, Growing}

@@ -152,14 +152,17 @@ fn effects_against(s: &[u8], job: Job) -> u16
     lower(sets, opposes)
 }
 
-// The lowest step that uses a level twice at one tick, or the count of steps.
+// The lowest step that uses a level twice at one tick, or the count of steps. Without uses no index is made.
 fn uses_against(s: &[u8], job: Job) -> u16
     requires { ⌜ job .count .uses ≤ 512 ⌝ }
     ensures { λ r. ⌜ r ≡ usesTwiceStep (view job (now (s .entry))) ⌝ }
 {
+    let n = job.count.uses;
+    if n == 0 {
+        return job.count.steps;
+    }
     let mut index = [NONE; 1024];
     let mut best = job.count.steps;
-    let n = job.count.uses;
     let mut u = 0;
     while u < n {
         let step = use_step(s, job, u);

@@ -1,5 +1,4 @@
 -- A search back along the uses of one key.
-use mathlib.Core.Path.{_∙_, sym}
 use native.Mathlib.Omega.{arith}
 use Rattle.laws.proofs.Search.{any-found}
 use Rattle.laws.proofs.Linked.{WalkBack, ahead, back-start, back-more, back-less, back-end}
