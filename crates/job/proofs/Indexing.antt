@@ -1,19 +1,18 @@
--- An index grows from its last record to its first: each record becomes the first of its key, before the one that was. A search
--- along it misses nothing if only records of its key pass its test.
+-- An index grows from its last record to its first: each record becomes the first of its key, before the one that was; or, where it
+-- is searched meanwhile, from its first to its last.
 use Prim.Native.Nat.{ℕ, suc, _+_, _-_, _≤_, _<_}
-use mathlib.Core.Path.{_≡_, refl, sym, subst, ap, _∙_}
-use mathlib.Core.Bool.{Bool, true, false, _||_}
+use mathlib.Core.Path.{_≡_, refl, sym, subst, _∙_}
 use mathlib.Core.List.{List}
-use mathlib.Core.Logic.{_⊎_, inl, inr, ⊎-elim}
+use mathlib.Core.Logic.{⊎-elim}
 use native.Mathlib.Nat.{eq-or-lt-of-le}
+use native.Mathlib.Decide.{decLt}
 use native.Mathlib.Omega.{arith}
 use lib.ListN.{length, set, getD, replicate, length-set, length-replicate, getD-replicate}
 use lib.Seq.{getD-set-same, getD-set-other}
-use Rattle.laws.specs.Linked.{NextAt, Linked}
-use Rattle.laws.specs.Search.{any}
-use Rattle.laws.proofs.Linked.{Walk, walk-start, walk-more, walk-further}
-use Rattle.laws.proofs.Search.{either, by-order, any-start, any-none, any-false}
-use Rattle.job.specs.Indexed.{Indexed}
+use Rattle.laws.specs.Linked.{NextAt, LastBefore}
+use Rattle.laws.proofs.Linked.{last-none, last-here, last-other}
+use Rattle.laws.proofs.Search.{by-order}
+use Rattle.job.specs.Indexed.{Indexed, Growing}
 
 -- an index of the records from k on
 pub record Begun (n : ℕ) (key : ℕ → ℕ) (k : ℕ) (index : List ℕ) : Type 0 where
@@ -129,28 +128,74 @@ module _ (n : ℕ) (key : ℕ → ℕ) where
             };
       }
 
--- A loop that walks an index to answer whether some record passes a test.
-module _ (n : ℕ) (key : ℕ → ℕ) (f : ℕ) (p : ℕ → Bool) (index : List ℕ) (own : (k : ℕ) → p k ≡ true → key k ≡ f) (indexed : Indexed n key index) where
-  -- a record that does not pass, told by its test or by its key
-  none-here : (k : ℕ) → any k p ≡ false → p k ≡ false → any (suc k) p ≡ false
-  unfolding any
-  none-here k e q = ap (λ b. b || p k) e ∙ q
+-- An index that grows from its first record to its last: each becomes the last of its key, after the one that was.
+module _ (key : ℕ → ℕ) where
+  pub growing-start : Growing key 0 (replicate 1024 65535)
+  growing-start =
+      record {
+        size = length-replicate {A = ℕ} 1024 65535;
+        linked =
+            record {
+              lasts =
+                  λ f h.
+                  subst (LastBefore 512 key f 0) (sym (getD-replicate {A = ℕ} 1024 f 65535 0 (omega arith)))
+                  (last-none 512 key f 65535 (omega arith));
+              befores = λ k h. absurd (omega arith);
+            };
+      }
 
-  over : (k : ℕ) → k < n → (key k ≡ f → ⊥) → any k p ≡ false → any (suc k) p ≡ false
-  over k h other e = none-here k e (⊎-elim (λ (t : p k ≡ true). absurd (other (own k t))) (λ q. q) (either (p k)))
+  module _ (k : ℕ) (few : k < 512) (low : key k < 512) (index : List ℕ) (growing : Growing key k index) where
+    abbrev put : List ℕ
+    put = set index (512 + k) (getD index (key k) 0)
 
-  pub search-start : (g v : ℕ) → g ≡ f → g < 512 → v ≡ getD index g 0 → Walk n key f (λ i. any i p ≡ false) v
-  search-start g v e h q =
-      walk-start (indexed .linked) f (λ i. any i p ≡ false) over (omega arith) (any-start p) (q ∙ ap (λ j. getD index j 0) e)
+    abbrev next : List ℕ
+    next = set (set index (512 + k) (getD index (key k) 0)) (key k) k
 
-  pub search-more : (at v : ℕ) {r : Bool} → Walk n key f (λ i. any i p ≡ false) at → at < n → r ≡ p at → r ≡ false → v ≡ getD index (512 + at) 0 → Walk n key f (λ i. any i p ≡ false) v
-  search-more at v walk h q z e =
-      walk-more (indexed .linked) f (λ i. any i p ≡ false) over at h (walk .there h) (none-here at (walk .gathered) (sym q ∙ z)) e
+    size-put : length put ≡ 1024
+    size-put = length-set index (512 + k) (getD index (key k) 0) ∙ growing .size
 
--- each record's next lies further on
-pub search-further : {n : ℕ} {key : ℕ → ℕ} {index : List ℕ} → Indexed n key index → (at v : ℕ) → at < n → v ≡ getD index (512 + at) 0 → at < v
-search-further indexed at v h e = subst (λ j. at < j) (sym e) (walk-further (indexed .linked) at h)
+    last-else : (f : ℕ) → f < 512 → (key k ≡ f → ⊥) → (f ≡ key k → ⊥) → LastBefore 512 key f (k + 1) (getD next f 0)
+    last-else f h q r =
+        subst (LastBefore 512 key f (k + 1))
+        (sym (getD-set-other put (key k) f k 0 r ∙ getD-set-other index (512 + k) f (getD index (key k) 0) 0 (omega arith)))
+        (last-other 512 key f k (getD index f 0) q (growing .linked .lasts f h))
 
--- a walk that has come to m or past it without a record that passes
-pub search-end : {n : ℕ} {key : ℕ → ℕ} {f : ℕ} (p : ℕ → Bool) (m at : ℕ) → Walk n key f (λ i. any i p ≡ false) at → m ≤ at → false ≡ any m p
-search-end p m at walk h = sym (any-none p m (λ k l. any-false p at (walk .gathered) k (omega arith)))
+    last-of : (f : ℕ) → f < 512 → LastBefore 512 key f (k + 1) (getD next f 0)
+    last-of f h =
+        by-order (key k) f
+        (λ l. last-else f h (omega arith) (omega arith))
+        (λ l. last-else f h (omega arith) (omega arith))
+        (λ q.
+        subst (λ g. LastBefore 512 key g (k + 1) (getD next g 0)) q
+        (subst (LastBefore 512 key (key k) (k + 1)) (sym (getD-set-same put (key k) k 0 (omega (arith, size-put)))) (last-here 512 key k few)))
+
+    before-of : (j : ℕ) → j < k + 1 → LastBefore 512 key (key j) j (getD next (512 + j) 0)
+    before-of j l =
+        elim (decLt j k) [
+          | yes g ↦
+              subst (LastBefore 512 key (key j) j)
+              (sym (getD-set-other put (key k) (512 + j) k 0 (omega arith) ∙ getD-set-other index (512 + k) (512 + j) (getD index (key k) 0) 0 (omega arith)))
+              (growing .linked .befores j g)
+          | no g ↦
+              subst (λ i. LastBefore 512 key (key i) i (getD next (512 + i) 0)) (let q : k ≡ j = omega arith in q)
+              (subst (LastBefore 512 key (key k) k)
+              (sym (getD-set-other put (key k) (512 + k) k 0 (omega arith) ∙ getD-set-same index (512 + k) (getD index (key k) 0) 0 (omega (arith, growing .size))))
+              (growing .linked .lasts (key k) low))
+        ]
+
+    linked-next : Growing key (k + 1) (set (set index (512 + k) (getD index (key k) 0)) (key k) k)
+    linked-next =
+        record {
+          size = length-set put (key k) k ∙ size-put;
+          linked = record { lasts = last-of; befores = before-of };
+        }
+
+  -- A loop links record k, whose key f the code has read.
+  pub growing-more : (k f : ℕ) (index : List ℕ) {grown : List ℕ} → k < 512 → f ≡ key k → f < 512 → Growing key k index → grown ≡ set (set index (512 + k) (getD index f 0)) f k → Growing key (k + 1) grown
+  growing-more k f index few e low growing q =
+      subst (Growing key (k + 1)) (sym q)
+      (subst (λ g. Growing key (k + 1) (set (set index (512 + k) (getD index g 0)) g k)) (sym e)
+      (linked-next k few (omega arith) index growing))
+
+  pub growing-end : (m k : ℕ) (index : List ℕ) → k ≤ m → m ≤ k → Growing key k index → Growing key m index
+  growing-end m k index h g growing = subst (λ j. Growing key j index) (let q : k ≡ m = omega arith in q) growing

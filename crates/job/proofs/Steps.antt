@@ -5,26 +5,25 @@ use mathlib.Core.Bool.{true, false, not, _&&_, and-true, and-false}
 use lib.Dec.{ltb, leb, eqb}
 use borrow.Author.Tests.{eqb-true, eq-eqb, ne-eqb}
 use Rattle.laws.proofs.Search.{and-both}
-use Rattle.job.specs.declared.index.Linking.the-variants.{EffectsByStep, ConditionsByStep, UsesByStep}
 use Rattle.job.specs.Model.{Model}
 use Rattle.job.specs.Against.{bothWays, usesTwice, opposesOwn}
-use Rattle.job.specs.Indexed.{stepKey, keyOf}
+use Rattle.job.specs.Indexed.{stepKey, effectKey, conditionKey, useKey}
 
 -- only records of one step and fact or level pass, so they share a key
-pub own-both-ways : (m : Model) (e k : ℕ) → bothWays m e k ≡ true → keyOf m EffectsByStep k ≡ keyOf m EffectsByStep e
-unfolding bothWays keyOf
+pub own-both-ways : (m : Model) (e k : ℕ) → bothWays m e k ≡ true → effectKey m k ≡ effectKey m e
+unfolding bothWays
 own-both-ways m e k t =
     let a = and-both _ _ (and-both _ _ (and-both _ _ t .0) .0) in
     ap₂ stepKey (sym (eqb-true _ _ (a .0))) (sym (eqb-true _ _ (a .1)))
 
-pub own-uses-twice : (m : Model) (u k : ℕ) → usesTwice m u k ≡ true → keyOf m UsesByStep k ≡ keyOf m UsesByStep u
-unfolding usesTwice keyOf
+pub own-uses-twice : (m : Model) (u k : ℕ) → usesTwice m u k ≡ true → useKey m k ≡ useKey m u
+unfolding usesTwice
 own-uses-twice m u k t =
     let a = and-both _ _ (and-both _ _ t .0) in
     ap₂ stepKey (sym (eqb-true _ _ (a .0))) (sym (eqb-true _ _ (a .1)))
 
-pub own-opposes : (m : Model) (e k : ℕ) → opposesOwn m e k ≡ true → keyOf m ConditionsByStep k ≡ keyOf m EffectsByStep e
-unfolding opposesOwn keyOf
+pub own-opposes : (m : Model) (e k : ℕ) → opposesOwn m e k ≡ true → conditionKey m k ≡ effectKey m e
+unfolding opposesOwn
 own-opposes m e k t =
     let a = and-both _ _ (and-both _ _ (and-both _ _ (and-both _ _ t .0) .0) .0) in
     ap₂ stepKey (sym (eqb-true _ _ (a .0))) (sym (eqb-true _ _ (a .1)))
@@ -51,12 +50,18 @@ module _ (m : Model) (k j : ℕ) {x y : ℕ} where
   unfolding usesTwice
   uses-twice-rest p q e = simp (eq-eqb (m .useAt k) (m .useAt j) (sym p ∙ e ∙ q), and-true)
 
+  pub opposes-else : x ≡ m .effectFact k → y ≡ m .conditionFact j → (x ≡ y → ⊥) → false ≡ opposesOwn m k j
+  unfolding opposesOwn
+  opposes-else p q n = simp (ne-eqb (m .effectFact k) (m .conditionFact j) (λ e. n (p ∙ e ∙ sym q)), and-false)
+
   pub opposes-not : x ≡ m .effectValue k → y ≡ m .conditionValue j → x ≡ y → false ≡ opposesOwn m k j
   unfolding opposesOwn
   opposes-not p q e = simp (eq-eqb (m .effectValue k) (m .conditionValue j) (sym p ∙ e ∙ q), and-false)
 
   pub opposes-rest :
-      x ≡ m .effectValue k → y ≡ m .conditionValue j → (x ≡ y → ⊥)
-      → (eqb (m .effectStep k) (m .conditionStep j) && eqb (m .effectFact k) (m .conditionFact j) && leb (m .conditionFrom j) (m .effectAt k) && ltb (m .effectAt k) (m .conditionTo j)) ≡ opposesOwn m k j
+      {v w : ℕ} → v ≡ m .effectFact k → w ≡ m .conditionFact j → v ≡ w
+      → x ≡ m .effectValue k → y ≡ m .conditionValue j → (x ≡ y → ⊥)
+      → (eqb (m .effectStep k) (m .conditionStep j) && leb (m .conditionFrom j) (m .effectAt k) && ltb (m .effectAt k) (m .conditionTo j)) ≡ opposesOwn m k j
   unfolding opposesOwn
-  opposes-rest p q n = simp (ne-eqb (m .effectValue k) (m .conditionValue j) (λ e. n (p ∙ e ∙ sym q)), and-true)
+  opposes-rest a b d p q n =
+      simp (eq-eqb (m .effectFact k) (m .conditionFact j) (sym a ∙ d ∙ b), ne-eqb (m .effectValue k) (m .conditionValue j) (λ e. n (p ∙ e ∙ sym q)), and-true)

@@ -4,6 +4,9 @@ use mathlib.Core.List.{List}
 use Rattle.laws.specs.Bytes.{byteAt, u16At, u32At, biasedAt}
 use Rattle.job.specs.declared.layout.Job.{Job}
 use Rattle.job.specs.declared.records.Level.{Level}
+use Rattle.job.specs.declared.records.Condition.{Condition}
+use Rattle.job.specs.declared.records.Effect.{Effect}
+use Rattle.job.specs.declared.records.Use.{Use}
 use Rattle.job.specs.Layout.{jobOf}
 
 pub record Model : Type 0 where
@@ -89,3 +92,19 @@ modelOf s = view (jobOf s) s
 -- a level's record
 abbrev pub levelOf : Model → ℕ → Level
 levelOf m k = record { initial = m .levelInitial k; least = m .levelLeast k; most = m .levelMost k }
+
+-- a condition's, an effect's and a use's
+abbrev pub conditionOf : Model → ℕ → Condition
+conditionOf m k = record {
+  step = m .conditionStep k;
+  fact = m .conditionFact k;
+  from = m .conditionFrom k;
+  to = m .conditionTo k;
+  value = m .conditionValue k;
+}
+
+abbrev pub effectOf : Model → ℕ → Effect
+effectOf m k = record { step = m .effectStep k; fact = m .effectFact k; at = m .effectAt k; value = m .effectValue k }
+
+abbrev pub useOf : Model → ℕ → Use
+useOf m k = record { step = m .useStep k; level = m .useLevel k; at = m .useAt k; amount = m .useAmount k }

@@ -2,16 +2,15 @@
 // and fact or level, and the few others that share the key. The field that most often tells two such records apart is read first.
 ghost use mathlib.Core.Path.{_≡_};
 ghost use mathlib.Core.Bool.{_&&_, cond};
-ghost use Prim.Native.Nat.{min, _≤_, _<_};
+ghost use Prim.Native.Nat.{ℕ, min, _≤_, _<_};
 ghost use lib.Dec.{ltb};
-ghost use Rattle.job.specs.Model.{view};
-ghost use Rattle.job.specs.Indexed.{keyOf, Indexed};
-ghost use Rattle.job.specs.declared.index.Linking.the-variants.{EffectsByStep, ConditionsByStep, UsesByStep};
+ghost use Rattle.job.specs.Model.{view, effectOf};
+ghost use Rattle.job.specs.Indexed.{stepKey, effectKey, conditionKey, useKey, Growing};
 ghost use Rattle.job.specs.Against.{bothWays, usesTwice, opposesOwn, setBefore, usedBefore, opposesAny, bothWaysStep, usesTwiceStep, opposesOwnStep};
 ghost use Rattle.job.specs.Refusals.{stepCheck};
-use crate::index::Linking;
+use crate::index::NONE;
 use crate::index::first_of;
-use crate::index::index_of;
+use crate::index::link;
 use crate::index::next_of;
 use crate::index::step_key;
 use crate::layout::Job;
@@ -19,15 +18,16 @@ use crate::records::*;
 use crate::verdict::Verdict;
 use crate::verdict::refuse_if;
 
-fn both_ways(s: &[u8], job: Job, e: u16, f: u16) -> bool
-    ensures { λ r. ⌜ r ≡ bothWays (view job (now (s .entry))) e f ⌝ }
+// Whether e, if it is effect k, sets a fact the other way than f.
+fn both_ways(s: &[u8], job: Job, e: Effect, f: u16) -> bool
+    ensures { λ r. ⌜ ((k : ℕ) → e ≡ effectOf (view job (now (s .entry))) k → r ≡ bothWays (view job (now (s .entry))) k f) ⌝ }
 {
-    if effect_at(s, job, e) != effect_at(s, job, f) {
+    if e.at != effect_at(s, job, f) {
         return false;
     }
-    (effect_step(s, job, e) == effect_step(s, job, f))
-        & (effect_fact(s, job, e) == effect_fact(s, job, f))
-        & (effect_value(s, job, e) != effect_value(s, job, f))
+    (e.step == effect_step(s, job, f))
+        & (e.fact == effect_fact(s, job, f))
+        & (e.value != effect_value(s, job, f))
 }
 
 fn uses_twice(s: &[u8], job: Job, u: u16, v: u16) -> bool
@@ -39,29 +39,28 @@ fn uses_twice(s: &[u8], job: Job, u: u16, v: u16) -> bool
     (use_step(s, job, u) == use_step(s, job, v)) & (use_level(s, job, u) == use_level(s, job, v))
 }
 
-fn opposes_own(s: &[u8], job: Job, e: u16, c: u16) -> bool
-    ensures { λ r. ⌜ r ≡ opposesOwn (view job (now (s .entry))) e c ⌝ }
+// Whether e, if it is effect k, opposes c.
+fn opposes_own(s: &[u8], job: Job, e: Effect, c: u16) -> bool
+    ensures { λ r. ⌜ ((k : ℕ) → e ≡ effectOf (view job (now (s .entry))) k → r ≡ opposesOwn (view job (now (s .entry))) k c) ⌝ }
 {
-    if effect_value(s, job, e) == condition_value(s, job, c) {
+    if e.fact != condition_fact(s, job, c) {
         return false;
     }
-    let at = effect_at(s, job, e);
-    (effect_step(s, job, e) == condition_step(s, job, c))
-        & (effect_fact(s, job, e) == condition_fact(s, job, c))
-        & (condition_from(s, job, c) <= at)
-        & (at < condition_to(s, job, c))
+    if e.value == condition_value(s, job, c) {
+        return false;
+    }
+    (e.step == condition_step(s, job, c))
+        & (condition_from(s, job, c) <= e.at)
+        & (e.at < condition_to(s, job, c))
 }
 
-// Whether an effect before e sets e's fact the other way, in e's step at e's tick.
-fn set_before(s: &[u8], job: Job, index: &[u16], e: u16) -> bool
-    requires { ⌜ Indexed (job .count .effects) (keyOf (view job (now s)) EffectsByStep) (now index) × (job .count .effects ≤ 512) × (e < job .count .effects) ⌝ }
-    ensures { λ r. ⌜ r ≡ setBefore (view job (now (s .entry))) e ⌝ }
+// Whether an effect before k, which is e, sets e's fact the other way, in e's step at e's tick.
+fn set_before(s: &[u8], job: Job, index: &[u16], key: usize, k: u16, e: Effect) -> bool
+    requires { ⌜ Growing (effectKey (view job (now s))) k (now index) × (k ≤ 512) × (key ≡ effectKey (view job (now s)) k) × (key < 512) × (e ≡ effectOf (view job (now s)) k) ⌝ }
+    ensures { λ r. ⌜ r ≡ setBefore (view job (now (s .entry))) k ⌝ }
 {
-    let mut f = first_of(
-        index,
-        step_key(effect_step(s, job, e), effect_fact(s, job, e)),
-    );
-    while f < e {
+    let mut f = first_of(index, key);
+    while f < k {
         if both_ways(s, job, e, f) {
             return true;
         }
@@ -71,11 +70,11 @@ fn set_before(s: &[u8], job: Job, index: &[u16], e: u16) -> bool
 }
 
 // Whether a use before u uses u's level in u's step at u's tick.
-fn used_before(s: &[u8], job: Job, index: &[u16], u: u16) -> bool
-    requires { ⌜ Indexed (job .count .uses) (keyOf (view job (now s)) UsesByStep) (now index) × (job .count .uses ≤ 512) × (u < job .count .uses) ⌝ }
+fn used_before(s: &[u8], job: Job, index: &[u16], key: usize, u: u16) -> bool
+    requires { ⌜ Growing (useKey (view job (now s))) u (now index) × (u ≤ 512) × (key ≡ useKey (view job (now s)) u) × (key < 512) ⌝ }
     ensures { λ r. ⌜ r ≡ usedBefore (view job (now (s .entry))) u ⌝ }
 {
-    let mut v = first_of(index, step_key(use_step(s, job, u), use_level(s, job, u)));
+    let mut v = first_of(index, key);
     while v < u {
         if uses_twice(s, job, u, v) {
             return true;
@@ -85,16 +84,13 @@ fn used_before(s: &[u8], job: Job, index: &[u16], u: u16) -> bool
     false
 }
 
-// Whether e opposes a condition of its own step before that condition's last tick.
-fn opposes_any(s: &[u8], job: Job, index: &[u16], e: u16) -> bool
-    requires { ⌜ Indexed (job .count .conditions) (keyOf (view job (now s)) ConditionsByStep) (now index) × (job .count .conditions ≤ 512) ⌝ }
-    ensures { λ r. ⌜ r ≡ opposesAny (view job (now (s .entry))) e ⌝ }
+// Whether e, if it is effect k, opposes a condition of its own step before that condition's last tick.
+fn opposes_any(s: &[u8], job: Job, index: &[u16], key: usize, e: Effect) -> bool
+    requires { ⌜ Growing (conditionKey (view job (now s))) (job .count .conditions) (now index) × (job .count .conditions ≤ 512) × (key ≡ stepKey (e .step) (e .fact)) × (key < 512) ⌝ }
+    ensures { λ r. ⌜ ((k : ℕ) → e ≡ effectOf (view job (now (s .entry))) k → r ≡ opposesAny (view job (now (s .entry))) k) ⌝ }
 {
     let n = job.count.conditions;
-    let mut c = first_of(
-        index,
-        step_key(effect_step(s, job, e), effect_fact(s, job, e)),
-    );
+    let mut c = first_of(index, key);
     while c < n {
         if opposes_own(s, job, e, c) {
             return true;
@@ -116,53 +112,65 @@ fn lower(a: u16, b: u16) -> u16
     if a < b { a } else { b }
 }
 
-// The lowest step that sets a fact both ways at one tick, or the count of steps.
-fn both_ways_step(s: &[u8], job: Job) -> u16
-    requires { ⌜ job .count .effects ≤ 512 ⌝ }
-    ensures { λ r. ⌜ r ≡ bothWaysStep (view job (now (s .entry))) ⌝ }
+// Links the conditions by their step and fact.
+fn link_conditions(s: &[u8], job: Job, index: &mut [u16; 1024])
+    requires { ⌜ Growing (conditionKey (view job (now s))) 0 (now index) × (job .count .conditions ≤ 512) ⌝ }
+    ensures { λ _. ⌜ Growing (conditionKey (view job (now (s .entry)))) (job .count .conditions) (now (index .exit)) ⌝ }
 {
-    let n = job.count.effects;
-    let index = index_of(s, job, Linking::EffectsByStep, n);
-    let mut best = job.count.steps;
-    let mut e = 0;
-    while e < n {
-        let found = set_before(s, job, &index, e);
-        best = lower_if(found, effect_step(s, job, e), best);
-        e += 1;
+    let n = job.count.conditions;
+    let mut c = 0;
+    while c < n {
+        let key = step_key(condition_step(s, job, c), condition_fact(s, job, c));
+        link(index, key, c);
+        c += 1;
     }
-    best
 }
 
-// The lowest step that uses a level twice at one tick, or the count of steps.
-fn uses_twice_step(s: &[u8], job: Job) -> u16
+// The lowest step that sets a fact both ways at one tick or opposes its own condition before its last tick, or the count of steps.
+// The effects before each are linked, and it is held against these.
+fn effects_against(s: &[u8], job: Job) -> u16
+    requires { ⌜ (job .count .conditions ≤ 512) × (job .count .effects ≤ 512) ⌝ }
+    ensures { λ r. ⌜ r ≡ min (bothWaysStep (view job (now (s .entry)))) (opposesOwnStep (view job (now (s .entry)))) ⌝ }
+{
+    let mut conditions = [NONE; 1024];
+    link_conditions(s, job, &mut conditions);
+    let mut effects = [NONE; 1024];
+    let mut sets = job.count.steps;
+    let mut opposes = job.count.steps;
+    let n = job.count.effects;
+    let mut k = 0;
+    while k < n {
+        let e = effect_of(s, job, k);
+        let key = step_key(e.step, e.fact);
+        let set = set_before(s, job, &effects, key, k, e);
+        sets = lower_if(set, e.step, sets);
+        let opposed = opposes_any(s, job, &conditions, key, e);
+        opposes = lower_if(opposed, e.step, opposes);
+        link(&mut effects, key, k);
+        k += 1;
+    }
+    lower(sets, opposes)
+}
+
+// The lowest step that uses a level twice at one tick, or the count of steps. Without uses no index is made.
+fn uses_against(s: &[u8], job: Job) -> u16
     requires { ⌜ job .count .uses ≤ 512 ⌝ }
     ensures { λ r. ⌜ r ≡ usesTwiceStep (view job (now (s .entry))) ⌝ }
 {
     let n = job.count.uses;
-    let index = index_of(s, job, Linking::UsesByStep, n);
+    if n == 0 {
+        return job.count.steps;
+    }
+    let mut index = [NONE; 1024];
     let mut best = job.count.steps;
     let mut u = 0;
     while u < n {
-        let found = used_before(s, job, &index, u);
-        best = lower_if(found, use_step(s, job, u), best);
+        let step = use_step(s, job, u);
+        let key = step_key(step, use_level(s, job, u));
+        let found = used_before(s, job, &index, key, u);
+        best = lower_if(found, step, best);
+        link(&mut index, key, u);
         u += 1;
-    }
-    best
-}
-
-// The lowest step that opposes its own condition before its last tick, or the count of steps.
-fn opposes_own_step(s: &[u8], job: Job) -> u16
-    requires { ⌜ job .count .conditions ≤ 512 ⌝ }
-    ensures { λ r. ⌜ r ≡ opposesOwnStep (view job (now (s .entry))) ⌝ }
-{
-    let n = job.count.effects;
-    let index = index_of(s, job, Linking::ConditionsByStep, job.count.conditions);
-    let mut best = job.count.steps;
-    let mut e = 0;
-    while e < n {
-        let found = opposes_any(s, job, &index, e);
-        best = lower_if(found, effect_step(s, job, e), best);
-        e += 1;
     }
     best
 }
@@ -172,10 +180,9 @@ pub fn check_steps(s: &[u8], job: Job) -> Verdict
     requires { ⌜ (job .count .conditions ≤ 512) × (job .count .effects ≤ 512) × (job .count .uses ≤ 512) ⌝ }
     ensures { λ r. ⌜ r ≡ stepCheck (view job (now (s .entry))) ⌝ }
 {
-    let sets = both_ways_step(s, job);
-    let uses = uses_twice_step(s, job);
-    let opposes = opposes_own_step(s, job);
-    let step = lower(lower(sets, uses), opposes);
+    let effects = effects_against(s, job);
+    let uses = uses_against(s, job);
+    let step = lower(effects, uses);
     let n = job.count.steps;
     refuse_if(
         Verdict::Accepted,

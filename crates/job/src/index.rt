@@ -1,8 +1,9 @@
 // Records linked by a key, so that a search for one step, fact or level passes over all others. An index has 1,024 entries: the first
-// record of each of 512 keys, then after each record the next of its key; the count of the records stands for none.
+// record of each of 512 keys, then after each record the next of its key; the count of the records stands for none. An index that is
+// searched while it grows runs the other way: the last record of each key, then before each record the last of its key, or NONE.
 ghost use mathlib.Core.Path.{_≡_};
 ghost use Prim.Native.Nat.{_+_, _≤_, _<_};
-ghost use lib.ListN.{length, getD};
+ghost use lib.ListN.{length, getD, set};
 ghost use Rattle.job.specs.Model.{view};
 ghost use Rattle.job.specs.Indexed.{stepKey, factKey, levelKey, keyOf, Indexed};
 use crate::layout::Job;
@@ -10,10 +11,6 @@ use crate::records::*;
 
 // What records are linked by.
 pub enum Linking {
-    // What one step does to one fact or level.
-    EffectsByStep,
-    ConditionsByStep,
-    UsesByStep,
     // What gives one fact one value, and what wants it.
     EffectsByFact,
     ConditionsByFact,
@@ -23,11 +20,13 @@ pub enum Linking {
 // The keys of an index.
 pub const KEYS: usize = 512;
 
+pub const NONE: u16 = 65535;
+
 // The key of a step with a fact or level.
 pub fn step_key(step: u16, what: u16) -> usize
     ensures { λ r. ⌜ (r ≡ stepKey step what) × (r < 512) ⌝ }
 {
-    (4 * step as usize + what as usize) % KEYS
+    (8 * step as usize + what as usize) % KEYS
 }
 
 // The key of a fact with a value.
@@ -49,9 +48,6 @@ fn key(s: &[u8], job: Job, linking: Linking, k: u16) -> usize
     ensures { λ r. ⌜ (r ≡ keyOf (view job (now (s .entry))) linking k) × (r < 512) ⌝ }
 {
     match linking {
-        Linking::EffectsByStep => step_key(effect_step(s, job, k), effect_fact(s, job, k)),
-        Linking::ConditionsByStep => step_key(condition_step(s, job, k), condition_fact(s, job, k)),
-        Linking::UsesByStep => step_key(use_step(s, job, k), use_level(s, job, k)),
         Linking::EffectsByFact => fact_key(effect_fact(s, job, k), effect_value(s, job, k)),
         Linking::ConditionsByFact => {
             fact_key(condition_fact(s, job, k), condition_value(s, job, k))
@@ -90,4 +86,13 @@ pub fn next_of(index: &[u16], k: u16) -> u16
     ensures { λ r. ⌜ r ≡ getD (now (index .entry)) (512 + k) 0 ⌝ }
 {
     index[KEYS + k as usize]
+}
+
+// Record k, which comes after all that are linked, becomes the last of its key.
+pub fn link(index: &mut [u16; 1024], key: usize, k: u16)
+    requires { ⌜ (key < 512) × (k < 512) ⌝ }
+    ensures { λ _. ⌜ now (index .exit) ≡ set (set (now (index .entry)) (512 + k) (getD (now (index .entry)) key 0)) key k ⌝ }
+{
+    index[KEYS + k as usize] = index[key];
+    index[key] = k;
 }

@@ -46,36 +46,34 @@ fn step_ok(s: &[u8], job: Job, k: u16) -> bool
 fn condition_ok(s: &[u8], job: Job, k: u16) -> bool
     ensures { λ r. ⌜ r ≡ conditionOk (view job (now (s .entry))) k ⌝ }
 {
-    let step = condition_step(s, job, k);
-    let to = condition_to(s, job, k);
-    (step < job.count.steps)
-        & (condition_fact(s, job, k) < job.count.facts)
-        & (condition_from(s, job, k) <= to)
-        & (to <= step_length(s, job, step))
-        & (condition_value(s, job, k) <= 1)
+    let c = condition_of(s, job, k);
+    (c.step < job.count.steps)
+        & (c.fact < job.count.facts)
+        & (c.from <= c.to)
+        & (c.to <= step_length(s, job, c.step))
+        & (c.value <= 1)
 }
 
 fn effect_ok(s: &[u8], job: Job, k: u16) -> bool
     ensures { λ r. ⌜ r ≡ effectOk (view job (now (s .entry))) k ⌝ }
 {
-    let step = effect_step(s, job, k);
-    (step < job.count.steps)
-        & (effect_fact(s, job, k) < job.count.facts)
-        & (effect_at(s, job, k) <= step_length(s, job, step))
-        & (effect_value(s, job, k) <= 1)
+    let e = effect_of(s, job, k);
+    (e.step < job.count.steps)
+        & (e.fact < job.count.facts)
+        & (e.at <= step_length(s, job, e.step))
+        & (e.value <= 1)
 }
 
 fn use_ok(s: &[u8], job: Job, k: u16) -> bool
     ensures { λ r. ⌜ r ≡ useOk (view job (now (s .entry))) k ⌝ }
 {
-    let step = use_step(s, job, k);
-    let amount = use_amount(s, job, k);
-    (step < job.count.steps)
-        & (use_level(s, job, k) < job.count.levels)
-        & (use_at(s, job, k) <= step_length(s, job, step))
-        & (2146483648 <= amount)
-        & (amount <= 2148483648)
-        & (amount != 2147483648)
+    let u = use_of(s, job, k);
+    (u.step < job.count.steps)
+        & (u.level < job.count.levels)
+        & (u.at <= step_length(s, job, u.step))
+        & (2146483648 <= u.amount)
+        & (u.amount <= 2148483648)
+        & (u.amount != 2147483648)
 }
 
 fn goal_ok(s: &[u8], job: Job, k: u16) -> bool

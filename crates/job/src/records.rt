@@ -2,7 +2,7 @@
 // bytes past the end as 0, so no reader asks anything of its caller.
 ghost use mathlib.Core.Path.{_≡_};
 ghost use Prim.Native.Nat.{_<_};
-ghost use Rattle.job.specs.Model.{view, levelOf};
+ghost use Rattle.job.specs.Model.{view, levelOf, conditionOf, effectOf, useOf};
 use crate::layout::CONDITION;
 use crate::layout::EFFECT;
 use crate::layout::FACT;
@@ -184,4 +184,89 @@ pub fn goal_deadline(s: &[u8], job: Job, k: u16) -> usize
     ensures { λ r. ⌜ (r ≡ view job (now (s .entry)) .goalDeadline k) × (r < 4294967296) ⌝ }
 {
     laws::u32_at(s, job.at.goals as usize + WIDTHS[GOAL] * k as usize + 4)
+}
+
+// Whole records. One test shows that a record lies within the bytes, and no field is then tested again.
+pub struct Condition {
+    pub step: u16,
+    pub fact: u16,
+    pub from: usize,
+    pub to: usize,
+    pub value: u16,
+}
+
+pub struct Effect {
+    pub step: u16,
+    pub fact: u16,
+    pub at: usize,
+    pub value: u16,
+}
+
+pub struct Use {
+    pub step: u16,
+    pub level: u16,
+    pub at: usize,
+    pub amount: usize,
+}
+
+pub fn condition_of(s: &[u8], job: Job, k: u16) -> Condition
+    ensures { λ r. ⌜ r ≡ conditionOf (view job (now (s .entry))) k ⌝ }
+{
+    let at = job.at.conditions as usize + WIDTHS[CONDITION] * k as usize;
+    if laws::has_room(s, at, 14) {
+        return Condition {
+            step: laws::u16_within(s, at) as u16,
+            fact: laws::u16_within(s, at + 2) as u16,
+            from: laws::u32_within(s, at + 4),
+            to: laws::u32_within(s, at + 8),
+            value: laws::u16_within(s, at + 12) as u16,
+        };
+    }
+    Condition {
+        step: condition_step(s, job, k),
+        fact: condition_fact(s, job, k),
+        from: condition_from(s, job, k),
+        to: condition_to(s, job, k),
+        value: condition_value(s, job, k),
+    }
+}
+
+pub fn effect_of(s: &[u8], job: Job, k: u16) -> Effect
+    ensures { λ r. ⌜ r ≡ effectOf (view job (now (s .entry))) k ⌝ }
+{
+    let at = job.at.effects as usize + WIDTHS[EFFECT] * k as usize;
+    if laws::has_room(s, at, 10) {
+        return Effect {
+            step: laws::u16_within(s, at) as u16,
+            fact: laws::u16_within(s, at + 2) as u16,
+            at: laws::u32_within(s, at + 4),
+            value: laws::u16_within(s, at + 8) as u16,
+        };
+    }
+    Effect {
+        step: effect_step(s, job, k),
+        fact: effect_fact(s, job, k),
+        at: effect_at(s, job, k),
+        value: effect_value(s, job, k),
+    }
+}
+
+pub fn use_of(s: &[u8], job: Job, k: u16) -> Use
+    ensures { λ r. ⌜ r ≡ useOf (view job (now (s .entry))) k ⌝ }
+{
+    let at = job.at.uses as usize + WIDTHS[USE] * k as usize;
+    if laws::has_room(s, at, 12) {
+        return Use {
+            step: laws::u16_within(s, at) as u16,
+            level: laws::u16_within(s, at + 2) as u16,
+            at: laws::u32_within(s, at + 4),
+            amount: laws::biased_within(s, at + 8),
+        };
+    }
+    Use {
+        step: use_step(s, job, k),
+        level: use_level(s, job, k),
+        at: use_at(s, job, k),
+        amount: use_amount(s, job, k),
+    }
 }

@@ -1,4 +1,6 @@
 -- The tick decides, or leaves the answer to the other fields.
+use mathlib.Core.Path.{ap}
+use Rattle.job.specs.declared.records.Effect.{Effect}
 use Rattle.job.proofs.Steps.{both-ways-not, both-ways-rest}
 use borrow.Author.Needs.{needs}
 use Rattle.job.proofs.against.both_ways.Statement.{statement}
@@ -9,12 +11,11 @@ both-ways-spec =
     tie.close
     (tie.spec
     (λ c κs. search needs)
-    (λ c κs. search needs)
-    (λ c. both-ways-not _ _ _ (c .before .before .effect-at .ensures .0) (c .before .effect-at2 .ensures .0) (c .if1 .taken))
-    (λ c κs. search needs)
+    (λ c. λ k q. both-ways-not _ _ _ (ap (λ (x : Effect). x .at) q) (c .before .before .effect-at .ensures .0) (c .if1 .taken))
     (λ c κs. search needs)
     (λ c κs. search needs)
     (λ c κs. search needs)
-    (λ c κs. search needs)
-    (λ c κs. search needs)
-    (λ c. let d = c .before .before .before .before .before .before in rw (c .effect-value2 .ensures, c .before .effect-value .ensures, c .before .before .effect-fact2 .ensures, c .before .before .before .effect-fact .ensures, c .before .before .before .before .effect-step2 .ensures, c .before .before .before .before .before .effect-step .ensures) (both-ways-rest _ _ _ (d .before .before .effect-at .ensures .0) (d .before .effect-at2 .ensures .0) (d .if1 .left))))
+    (λ c. λ k q.
+    let d = c .before .before .before .before .before .before in
+    rw (c .before .effect-value .ensures, c .before .before .before .effect-fact .ensures, c .before .before .before .before .before .effect-step .ensures, q)
+    (both-ways-rest _ _ _ (ap (λ (x : Effect). x .at) q) (d .before .before .effect-at .ensures .0) (d .if1 .left))))

@@ -1,10 +1,16 @@
 -- The lowest of the three steps, refused if it is counted.
-use mathlib.Core.Path.{_∙_}
+use Prim.Native.Nat.{ℕ, min}
+use mathlib.Core.Path.{_≡_, _∙_}
+use native.Mathlib.Omega.{arith}
 use Rattle.job.specs.Refusals.{stepCheck, againstStep}
 use Rattle.job.proofs.Chain.{accepted-then}
 use borrow.Author.Needs.{needs}
 use Rattle.job.proofs.against.check_steps.Statement.{statement}
 use Rattle.job.proofs.against.check_steps.Tie as tie
+
+-- in whichever order they are compared
+lowest-of : (a b c : ℕ) → min (min a b) c ≡ min (min a c) b
+lowest-of a b c = omega arith
 
 pub check-steps-spec : {M : Type 1} → statement M
 unfolding stepCheck againstStep
@@ -15,6 +21,6 @@ check-steps-spec =
     (λ c κs. search needs)
     (λ c κs. search needs)
     (λ c κs. search needs)
-    (λ c κs. search needs)
-    (λ c κs. search needs)
-    (λ c. let d = c .before in c .refuse-if .ensures ∙ accepted-then _ ∙ rw (d .lower2 .ensures, d .before .lower .ensures, d .before .before .opposes-own-step .ensures, d .before .before .before .uses-twice-step .ensures, d .before .before .before .before .both-ways-step .ensures)))
+    (λ c.
+    let d = c .before in
+    c .refuse-if .ensures ∙ accepted-then _ ∙ rw (d .lower .ensures, d .before .uses-against .ensures, d .before .before .effects-against .ensures, lowest-of)))

@@ -1,36 +1,27 @@
--- A walk along the effects of one key, as far as e.
-use Prim.Native.Nat.{_-_}
-use mathlib.Core.Path.{_≡_, ap₂, _∙_}
-use mathlib.Core.Bool.{false}
+-- A search back along the effects of one key.
 use native.Mathlib.Omega.{arith}
-use Rattle.laws.specs.Search.{any}
 use Rattle.laws.proofs.Search.{any-found}
-use Rattle.laws.proofs.Linked.{Walk}
-use Rattle.job.specs.declared.index.Linking.the-variants.{EffectsByStep}
+use Rattle.laws.proofs.Linked.{WalkBack, ahead, back-start, back-more, back-less, back-end}
 use Rattle.job.specs.Model.{view}
-use Rattle.job.specs.Indexed.{stepKey, keyOf}
+use Rattle.job.specs.Indexed.{effectKey}
 use Rattle.job.specs.Against.{bothWays, setBefore}
-use Rattle.job.proofs.Indexing.{search-start, search-more, search-further, search-end}
 use Rattle.job.proofs.Steps.{own-both-ways}
 use borrow.Author.Needs.{needs}
 use Rattle.job.proofs.against.set_before.Statement.{statement}
 use Rattle.job.proofs.against.set_before.Tie as tie
 
 pub set-before-spec : {M : Type 1} → statement M
-unfolding setBefore keyOf
+unfolding setBefore
 set-before-spec =
     tie.close
     (tie.spec
-    (λ s job index e f₀ f. Walk (job .count .effects) (keyOf (view job s) EffectsByStep) (keyOf (view job s) EffectsByStep e) (λ i. any i (bothWays (view job s) e) ≡ false) f)
-    (λ s job index e f₀ f. e - f)
+    (λ s job index key k e f₀ f. WalkBack (effectKey (view job s)) (effectKey (view job s) k) (bothWays (view job s) k) k f)
+    (λ s job index key k e f₀ f. ahead k f)
+    (λ c κs. let p = c .before .before .pre in (p .0 .size, p .3))
+    (λ c. let p = c .before .before .before .pre in back-start (p .0 .linked) (p .1) _ _ (own-both-ways _ _) _ _ (p .2) (p .3) (c .first-of .ensures))
     (λ c κs. search needs)
-    (λ c κs. search needs)
-    (λ c κs. search needs)
-    (λ c κs. (c .before .before .before .before .before .pre .0 .size, c .step-key .ensures .1))
-    (λ c. search-start _ _ _ _ _ (own-both-ways _ _) (c .before .before .before .before .before .before .pre .0) _ _ (c .before .step-key .ensures .0 ∙ ap₂ stepKey (c .before .before .before .effect-step .ensures) (c .before .before .effect-fact .ensures)) (c .before .step-key .ensures .1) (c .first-of .ensures))
-    (λ c κs. search needs)
-    (λ c. any-found _ _ _ (c .before .before .loop-test .taken) (c .before .both-ways .ensures) (c .if1 .taken))
-    (λ c κs. let l = c .before .before in let p = l .before .before .before .before .before .before .before .before .pre in (p .0 .size, omega (arith, l .loop-test .taken, p .1, p .2)))
-    (λ c. let l = c .before .before .before in let p = l .before .before .before .before .before .before .before .before .pre in omega (arith, l .loop-test .taken, search-further (p .0) _ _ (omega (arith, l .loop-test .taken, p .2)) (c .next-of .ensures)))
-    (λ c. let l = c .before .before .before in let p = l .before .before .before .before .before .before .before .before .pre in search-more _ _ _ _ _ (own-both-ways _ _) (p .0) _ _ (l .before .loop .inv) (omega (arith, l .loop-test .taken, p .2)) (c .before .before .both-ways .ensures) (c .before .if1 .left) (c .next-of .ensures))
-    (λ c. search-end _ _ _ (c .before .loop .inv) (c .loop-test .left)))
+    (λ c. any-found _ _ _ (c .before .before .loop-test .taken) (c .before .both-ways .ensures _ (c .before .before .before .before .before .before .before .pre .4)) (c .if1 .taken))
+    (λ c κs. let l = c .before .before in let p = l .before .before .before .before .before .pre in (p .0 .size, omega (arith, l .loop-test .taken, p .1)))
+    (λ c. let l = c .before .before .before in let p = l .before .before .before .before .before .pre in back-less (p .0 .linked) (p .1) _ _ (l .loop-test .taken) (c .next-of .ensures))
+    (λ c. let l = c .before .before .before in let p = l .before .before .before .before .before .pre in back-more (p .0 .linked) (p .1) _ _ (own-both-ways _ _) _ (l .before .loop .inv) (l .loop-test .taken) (c .before .before .both-ways .ensures _ (p .4)) (c .before .if1 .left) (c .next-of .ensures))
+    (λ c. back-end _ _ _ (c .before .loop .inv) (c .loop-test .left)))

@@ -1,4 +1,4 @@
--- The fields that are read are those that `conditionOk` tests.
+-- The record that is read is the one that `conditionOk` tests.
 use Rattle.job.specs.Ranges.{conditionOk}
 use borrow.Author.Needs.{needs}
 use Rattle.job.proofs.ranges.condition_ok.Statement.{statement}
@@ -11,8 +11,4 @@ condition-ok-spec =
     (tie.spec
     (λ c κs. search needs)
     (λ c κs. search needs)
-    (λ c κs. search needs)
-    (λ c κs. search needs)
-    (λ c κs. search needs)
-    (λ c κs. search needs)
-    (λ c. rw (c .condition-value .ensures, c .before .step-length .ensures .0, c .before .before .condition-from .ensures .0, c .before .before .before .before .condition-fact .ensures, c .before .before .before .before .before .before .condition-to .ensures .0, c .before .before .before .before .before .before .before .condition-step .ensures)))
+    (λ c. rw (c .before .before .step-length .ensures .0, c .before .before .before .before .before .before .before .before .condition-of .ensures)))

@@ -1,4 +1,4 @@
--- The fields that are read are those that `effectOk` tests.
+-- The record that is read is the one that `effectOk` tests.
 use Rattle.job.specs.Ranges.{effectOk}
 use borrow.Author.Needs.{needs}
 use Rattle.job.proofs.ranges.effect_ok.Statement.{statement}
@@ -11,7 +11,4 @@ effect-ok-spec =
     (tie.spec
     (λ c κs. search needs)
     (λ c κs. search needs)
-    (λ c κs. search needs)
-    (λ c κs. search needs)
-    (λ c κs. search needs)
-    (λ c. rw (c .effect-value .ensures, c .before .step-length .ensures .0, c .before .before .effect-at .ensures .0, c .before .before .before .before .effect-fact .ensures, c .before .before .before .before .before .before .effect-step .ensures)))
+    (λ c. rw (c .before .before .step-length .ensures .0, c .before .before .before .before .before .before .before .effect-of .ensures)))

@@ -1,4 +1,4 @@
--- The fields that are read are those that `useOk` tests.
+-- The record that is read is the one that `useOk` tests.
 use Rattle.job.specs.Ranges.{useOk}
 use borrow.Author.Needs.{needs}
 use Rattle.job.proofs.ranges.use_ok.Statement.{statement}
@@ -11,7 +11,4 @@ use-ok-spec =
     (tie.spec
     (λ c κs. search needs)
     (λ c κs. search needs)
-    (λ c κs. search needs)
-    (λ c κs. search needs)
-    (λ c κs. search needs)
-    (λ c. rw (c .step-length .ensures .0, c .before .use-at .ensures .0, c .before .before .before .use-level .ensures, c .before .before .before .before .before .use-amount .ensures .0, c .before .before .before .before .before .before .use-step .ensures)))
+    (λ c. rw (c .before .before .before .before .step-length .ensures .0, c .before .before .before .before .before .before .before .before .before .use-of .ensures)))
