@@ -2,7 +2,9 @@
 pub mod Loops
 pub mod Chosen
 pub mod Raised
-pub mod Walked
+pub mod Reached
+pub mod Grouped
+pub mod Rules
 pub mod LinkList
 pub mod Supporters
 pub mod Latest

@@ -21,7 +21,7 @@ use Rattle.partialize.proofs.Chosen.{eqb-same}
 pub single-at : (i k gap : ℕ) → single i k gap i k ≡ gap
 single-at i k gap = ap (λ t. cond t gap 0) (ap₂ _&&_ (eqb-same i) (eqb-same k))
 
-single-off : (i k gap a b : ℕ) → (i ≡ a → k ≡ b → ⊥) → single i k gap a b ≡ 0
+pub single-off : (i k gap a b : ℕ) → (i ≡ a → k ≡ b → ⊥) → single i k gap a b ≡ 0
 single-off i k gap a b d =
     elim (ℕ-discrete i a) [
       | yes e ↦ ap (λ t. cond t gap 0) (ap (λ t. eqb i a && t) (ne-eqb k b (d e)) ∙ and-false (eqb i a))
@@ -149,6 +149,14 @@ module _ (n : ℕ) (f g : ℕ → ℕ → ℕ) (before : List ℕ) where
             joins (gapIn after i k) (gapIn before i k) (gapIn mid i k) (f i k) (g i k) (eqb i k) (v .below i k h l) (w .below i k h l);
         rest = λ i k h d. w .rest i k h d ∙ v .rest i k h d;
       }
+
+-- first by f, then by two at once
+pub raised-both :
+    (n : ℕ) (f g h : ℕ → ℕ → ℕ) (before mid after : List ℕ) → Raised n f before mid → Raised n (λ i k. max (g i k) (h i k)) mid after
+    → Raised n (λ i k. max (max (f i k) (g i k)) (h i k)) before after
+raised-both n f g h before mid after v w =
+    raised-is n (λ i k. max (f i k) (max (g i k) (h i k))) (λ i k. max (max (f i k) (g i k)) (h i k)) before after
+    (raised-then n f (λ i k. max (g i k) (h i k)) before mid after v w) (λ i k _ _. omega arith)
 
 -- by one order, which f names
 pub raised-one :

@@ -1,6 +1,6 @@
 // The table of gaps, filled rule by rule (orders, rules 1 to 5). Of several gaps for one entry the largest stays.
 ghost use mathlib.Core.Path.{_≡_};
-ghost use mathlib.Core.Bool.{_&&_, _||_, not, cond};
+ghost use mathlib.Core.Bool.{_&&_, _||_, not};
 ghost use Prim.Native.Nat.{ℕ, _+_, _≤_, _<_, max};
 ghost use lib.Dec.{eqb, leb, ltb};
 ghost use lib.ListN.{length, getD};
@@ -9,63 +9,29 @@ ghost use Rattle.job.specs.Model.{view};
 ghost use Rattle.job.specs.WellFormed.{WellFormed};
 ghost use Rattle.schedule.specs.Ticks as ticks;
 ghost use Rattle.schedule.specs.Ticks.{scheduleOf};
-ghost use Rattle.schedule.specs.Known.{EffectsKnown, UsesKnown};
+ghost use Rattle.schedule.specs.Known.{EffectsSorted, ConditionsSorted, UsesSorted};
 ghost use Rattle.schedule.specs.Valid.{Valid};
-ghost use Rattle.orders.specs.Gaps as spec;
-ghost use Rattle.orders.specs.Gaps.{supportOrder, supportGap, opposingOrder, opposingGap, beforeOrder, afterOrder, conditionGap, levelOrder, levelGap, serialGap, gapOf};
+ghost use Rattle.orders.specs.Gaps.{supportOrder, supportGap, opposingGap, conditionGap, levelGap, serialGap, gapOf};
 ghost use Rattle.partialize.specs.Table.{Gaps, single, Raised, TableOf, LinksOf, Named};
+use crate::rows::Point;
+use crate::rows::raise;
+use crate::rows::raise_group;
+use crate::rows::strictly;
 use crate::starts::BIAS;
 use crate::starts::NONE;
-use crate::starts::WIDTH;
 use crate::support::INITIAL;
 use job::index::Linking;
-use job::index::fact_key;
-use job::index::first_of;
-use job::index::index_of;
-use job::index::level_key;
-use job::index::next_of;
 use job::layout::Job;
-use job::records::condition_fact;
 use job::records::condition_from;
 use job::records::condition_step;
-use job::records::condition_to;
-use job::records::condition_value;
 use job::records::effect_at;
-use job::records::effect_fact;
 use job::records::effect_step;
-use job::records::effect_value;
 use job::records::step_length;
-use job::records::use_at;
-use job::records::use_level;
-use job::records::use_step;
 use schedule::ticks::finish;
-use schedule::ticks::first_tick;
-use schedule::ticks::last_tick;
+use schedule::ticks::first_ticks;
 use schedule::ticks::start_of;
 use schedule::ticks::use_ticks;
-use schedule::values::other;
-
-// The gap of "p strictly before q", plus the bias.
-fn strictly(p: usize, q: usize) -> u32
-    requires { ⌜ (p ≤ 100000) × (q ≤ 100000) ⌝ }
-    ensures { λ r. ⌜ (r ≡ spec.strictly p q) × (r ≤ 200001) ⌝ }
-{
-    (p + 100001 - q) as u32
-}
-
-// Keeps the larger of a gap and the one in the table; only different steps are ordered.
-fn raise(gaps: &mut [u32], i: u16, k: u16, gap: u32)
-    requires { ⌜ Gaps (now gaps) × (i < 64) × (k < 64) × (gap ≤ 200001) ⌝ }
-    ensures { λ _. ⌜ Raised 64 (single i k gap) (now (gaps .entry)) (now (gaps .exit)) ⌝ }
-{
-    if i == k {
-        return;
-    }
-    let at = WIDTH * i as usize + k as usize;
-    if gaps[at] < gap {
-        gaps[at] = gap;
-    }
-}
+use timeline::sorted_of;
 
 // Rule 1 for condition c, by its link.
 fn raise_support(s: &[u8], job: Job, links: &[u16], gaps: &mut [u32], c: u16)
@@ -99,172 +65,101 @@ fn fill_support(s: &[u8], job: Job, links: &[u16], gaps: &mut [u32])
     }
 }
 
-// Orders effect f after what lies at `at` of step `first`, if that is due; f's own numbers are read only then.
-fn raise_to_effect(s: &[u8], job: Job, gaps: &mut [u32], due: bool, first: u16, at: usize, f: u16)
-    requires { ⌜ WellFormed (view job (now s)) × Gaps (now gaps) × (first < job .count .steps) × (at ≤ 100000) × (f < job .count .effects) ⌝ }
-    ensures { λ _. ⌜ Raised (job .count .steps) (single first (view job (now (s .entry)) .effectStep f) (cond due (spec.strictly at (view job (now (s .entry)) .effectAt f)) 0)) (now (gaps .entry)) (now (gaps .exit)) ⌝ }
-{
-    if due {
-        let gap = strictly(at, effect_at(s, job, f));
-        raise(gaps, first, effect_step(s, job, f), gap);
-    }
-}
-
-// Orders effect e before what lies at `at` of step `second`, if that is due.
-fn raise_from_effect(
-    s: &[u8],
-    job: Job,
-    gaps: &mut [u32],
-    due: bool,
-    e: u16,
-    second: u16,
-    at: usize,
-)
-    requires { ⌜ WellFormed (view job (now s)) × Gaps (now gaps) × (e < job .count .effects) × (second < job .count .steps) × (at ≤ 100000) ⌝ }
-    ensures { λ _. ⌜ Raised (job .count .steps) (single (view job (now (s .entry)) .effectStep e) second (cond due (spec.strictly (view job (now (s .entry)) .effectAt e) at) 0)) (now (gaps .entry)) (now (gaps .exit)) ⌝ }
-{
-    if due {
-        let gap = strictly(effect_at(s, job, e), at);
-        raise(gaps, effect_step(s, job, e), second, gap);
-    }
-}
-
-// Rule 2 for the opposing effects after effect e.
-fn raise_opposing(
+// Rules 2 and 3 for each fact and value. A condition's last tick is looked for from its first: what opposes it and is not before the one
+// is after the other, as the schedule is valid.
+fn fill_facts(
     s: &[u8],
     job: Job,
     starts: &[u32],
     ticks: &[usize],
-    index: &[u16],
+    sorted: &[u16],
+    firsts: &[usize],
+    conditions: &[u16],
     gaps: &mut [u32],
-    e: u16,
 )
-    requires { ⌜ EffectsKnown (view job (now s)) (scheduleOf (now starts)) (now ticks) (now index) × Gaps (now gaps) × (e < job .count .effects) ⌝ }
-    ensures { λ _. ⌜ Raised (job .count .steps) (λ i k. largest (job .count .effects) (opposingOrder (view job (now (s .entry))) (scheduleOf (now (starts .entry))) i k e)) (now (gaps .entry)) (now (gaps .exit)) ⌝ }
+    requires { ⌜ EffectsSorted (view job (now s)) (scheduleOf (now starts)) (now ticks) (now sorted) × ConditionsSorted (view job (now s)) (scheduleOf (now starts)) (now firsts) (now conditions) × Valid (view job (now s)) (scheduleOf (now starts)) × Gaps (now gaps) ⌝ }
+    ensures { λ _. ⌜ Raised (job .count .steps) (λ i k. max (opposingGap (view job (now (s .entry))) (scheduleOf (now (starts .entry))) i k) (conditionGap (view job (now (s .entry))) (scheduleOf (now (starts .entry))) i k)) (now (gaps .entry)) (now (gaps .exit)) ⌝ }
 {
-    let first = effect_step(s, job, e);
-    let at = effect_at(s, job, e);
-    let tick = ticks[e as usize];
-    let key = fact_key(effect_fact(s, job, e), other(effect_value(s, job, e)));
-    let mut f = first_of(index, key);
-    while f < job.count.effects {
-        raise_to_effect(s, job, gaps, tick < ticks[f as usize], first, at, f);
-        f = next_of(index, f);
+    let n = 2 * job.count.facts as usize;
+    let mut key = 0;
+    while key < n {
+        let other = key + 1 - 2 * (key % 2);
+        raise_group(
+            s,
+            job,
+            Point::Effect,
+            ticks,
+            sorted,
+            key,
+            Point::Effect,
+            ticks,
+            sorted,
+            other,
+            1,
+            gaps,
+        );
+        raise_group(
+            s,
+            job,
+            Point::Effect,
+            ticks,
+            sorted,
+            key,
+            Point::First,
+            firsts,
+            conditions,
+            other,
+            1,
+            gaps,
+        );
+        raise_group(
+            s,
+            job,
+            Point::Last,
+            firsts,
+            conditions,
+            key,
+            Point::Effect,
+            ticks,
+            sorted,
+            other,
+            0,
+            gaps,
+        );
+        key += 1;
     }
 }
 
-// Rule 2.
-fn fill_opposing(
+// Rule 4 for each level.
+fn fill_levels(
     s: &[u8],
     job: Job,
     starts: &[u32],
     ticks: &[usize],
-    index: &[u16],
+    sorted: &[u16],
     gaps: &mut [u32],
 )
-    requires { ⌜ EffectsKnown (view job (now s)) (scheduleOf (now starts)) (now ticks) (now index) × Gaps (now gaps) ⌝ }
-    ensures { λ _. ⌜ Raised (job .count .steps) (opposingGap (view job (now (s .entry))) (scheduleOf (now (starts .entry)))) (now (gaps .entry)) (now (gaps .exit)) ⌝ }
-{
-    let n = job.count.effects;
-    let mut e = 0;
-    while e < n {
-        raise_opposing(s, job, starts, ticks, index, gaps, e);
-        e += 1;
-    }
-}
-
-// Rule 3 for the opposing effects before and after condition c.
-fn raise_around(
-    s: &[u8],
-    job: Job,
-    starts: &[u32],
-    ticks: &[usize],
-    index: &[u16],
-    gaps: &mut [u32],
-    c: u16,
-)
-    requires { ⌜ EffectsKnown (view job (now s)) (scheduleOf (now starts)) (now ticks) (now index) × Gaps (now gaps) × (c < job .count .conditions) ⌝ }
-    ensures { λ _. ⌜ Raised (job .count .steps) (λ i k. largest (job .count .effects) (λ e. max (beforeOrder (view job (now (s .entry))) (scheduleOf (now (starts .entry))) i k c e) (afterOrder (view job (now (s .entry))) (scheduleOf (now (starts .entry))) i k c e))) (now (gaps .entry)) (now (gaps .exit)) ⌝ }
-{
-    let step = condition_step(s, job, c);
-    let from = condition_from(s, job, c);
-    let to = condition_to(s, job, c);
-    let first = first_tick(s, job, starts, c);
-    let last = last_tick(s, job, starts, c);
-    let key = fact_key(condition_fact(s, job, c), other(condition_value(s, job, c)));
-    let mut e = first_of(index, key);
-    while e < job.count.effects {
-        let tick = ticks[e as usize];
-        raise_from_effect(s, job, gaps, tick < first, e, step, from);
-        raise_to_effect(s, job, gaps, last < tick, step, to, e);
-        e = next_of(index, e);
-    }
-}
-
-// Rule 3.
-fn fill_conditions(
-    s: &[u8],
-    job: Job,
-    starts: &[u32],
-    ticks: &[usize],
-    index: &[u16],
-    gaps: &mut [u32],
-)
-    requires { ⌜ EffectsKnown (view job (now s)) (scheduleOf (now starts)) (now ticks) (now index) × Gaps (now gaps) ⌝ }
-    ensures { λ _. ⌜ Raised (job .count .steps) (conditionGap (view job (now (s .entry))) (scheduleOf (now (starts .entry)))) (now (gaps .entry)) (now (gaps .exit)) ⌝ }
-{
-    let n = job.count.conditions;
-    let mut c = 0;
-    while c < n {
-        raise_around(s, job, starts, ticks, index, gaps, c);
-        c += 1;
-    }
-}
-
-// Orders use v after what lies at `at` of step `first`, if that is due.
-fn raise_to_use(s: &[u8], job: Job, gaps: &mut [u32], due: bool, first: u16, at: usize, v: u16)
-    requires { ⌜ WellFormed (view job (now s)) × Gaps (now gaps) × (first < job .count .steps) × (at ≤ 100000) × (v < job .count .uses) ⌝ }
-    ensures { λ _. ⌜ Raised (job .count .steps) (single first (view job (now (s .entry)) .useStep v) (cond due (spec.strictly at (view job (now (s .entry)) .useAt v)) 0)) (now (gaps .entry)) (now (gaps .exit)) ⌝ }
-{
-    if due {
-        let gap = strictly(at, use_at(s, job, v));
-        raise(gaps, first, use_step(s, job, v), gap);
-    }
-}
-
-// Rule 4 for the uses after use u.
-fn raise_uses(
-    s: &[u8],
-    job: Job,
-    starts: &[u32],
-    ticks: &[usize],
-    index: &[u16],
-    gaps: &mut [u32],
-    u: u16,
-)
-    requires { ⌜ UsesKnown (view job (now s)) (scheduleOf (now starts)) (now ticks) (now index) × Gaps (now gaps) × (u < job .count .uses) ⌝ }
-    ensures { λ _. ⌜ Raised (job .count .steps) (λ i k. largest (job .count .uses) (levelOrder (view job (now (s .entry))) (scheduleOf (now (starts .entry))) i k u)) (now (gaps .entry)) (now (gaps .exit)) ⌝ }
-{
-    let first = use_step(s, job, u);
-    let at = use_at(s, job, u);
-    let tick = ticks[u as usize];
-    let mut v = first_of(index, level_key(use_level(s, job, u)));
-    while v < job.count.uses {
-        raise_to_use(s, job, gaps, tick < ticks[v as usize], first, at, v);
-        v = next_of(index, v);
-    }
-}
-
-// Rule 4.
-fn fill_levels(s: &[u8], job: Job, starts: &[u32], ticks: &[usize], index: &[u16], gaps: &mut [u32])
-    requires { ⌜ UsesKnown (view job (now s)) (scheduleOf (now starts)) (now ticks) (now index) × Gaps (now gaps) ⌝ }
+    requires { ⌜ UsesSorted (view job (now s)) (scheduleOf (now starts)) (now ticks) (now sorted) × Gaps (now gaps) ⌝ }
     ensures { λ _. ⌜ Raised (job .count .steps) (levelGap (view job (now (s .entry))) (scheduleOf (now (starts .entry)))) (now (gaps .entry)) (now (gaps .exit)) ⌝ }
 {
-    let n = job.count.uses;
-    let mut u = 0;
-    while u < n {
-        raise_uses(s, job, starts, ticks, index, gaps, u);
-        u += 1;
+    let n = job.count.levels as usize;
+    let mut key = 0;
+    while key < n {
+        raise_group(
+            s,
+            job,
+            Point::Use,
+            ticks,
+            sorted,
+            key,
+            Point::Use,
+            ticks,
+            sorted,
+            key,
+            1,
+            gaps,
+        );
+        key += 1;
     }
 }
 
@@ -324,18 +219,21 @@ pub fn fill_gaps(
     job: Job,
     starts: &[u32],
     ticks: &[usize],
-    index: &[u16],
+    sorted: &[u16],
     links: &[u16],
     gaps: &mut [u32],
 )
-    requires { ⌜ EffectsKnown (view job (now s)) (scheduleOf (now starts)) (now ticks) (now index) × Valid (view job (now s)) (scheduleOf (now starts)) × LinksOf (view job (now s)) (scheduleOf (now starts)) (now links) × (job .count .conditions + job .count .goals ≤ length (now links)) × (length (now gaps) ≡ 4096) × ((p : ℕ) → getD (now gaps) p 0 ≡ 0) ⌝ }
+    requires { ⌜ EffectsSorted (view job (now s)) (scheduleOf (now starts)) (now ticks) (now sorted) × Valid (view job (now s)) (scheduleOf (now starts)) × LinksOf (view job (now s)) (scheduleOf (now starts)) (now links) × (job .count .conditions + job .count .goals ≤ length (now links)) × (length (now gaps) ≡ 4096) × ((p : ℕ) → getD (now gaps) p 0 ≡ 0) ⌝ }
     ensures { λ _. ⌜ TableOf (job .count .steps) (gapOf (view job (now (s .entry))) (scheduleOf (now (starts .entry)))) (now (gaps .exit)) ⌝ }
 {
     fill_support(s, job, links, gaps);
-    fill_opposing(s, job, starts, ticks, index, gaps);
-    fill_conditions(s, job, starts, ticks, index, gaps);
+    let keys = 2 * job.count.facts as usize;
+    let firsts = first_ticks(s, job, starts);
+    let conditions = sorted_of(s, job, Linking::ConditionsByFact, keys, &firsts);
+    fill_facts(s, job, starts, ticks, sorted, &firsts, &conditions, gaps);
     let uses = use_ticks(s, job, starts);
-    let by_level = index_of(s, job, Linking::UsesByLevel, job.count.uses);
+    let levels = job.count.levels as usize;
+    let by_level = sorted_of(s, job, Linking::UsesByLevel, levels, &uses);
     fill_levels(s, job, starts, &uses, &by_level, gaps);
     fill_serial(s, job, starts, gaps);
 }

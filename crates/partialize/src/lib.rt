@@ -14,6 +14,7 @@ ghost use Rattle.partialize.specs.Demands.{Written, Promise};
 
 pub mod answer;
 mod fill;
+mod rows;
 mod starts;
 mod support;
 mod window;
@@ -26,6 +27,7 @@ use job::layout::Job;
 use job::verdict::number;
 use schedule::ticks::effect_ticks;
 use starts::NONE;
+use timeline::sorted_of;
 
 // Files what the links and the gaps of a valid schedule say, if the buffer is long enough for it.
 fn file_found(s: &[u8], job: Job, links: &[u16], gaps: &[u32], out: &mut [u8]) -> Answer
@@ -70,8 +72,10 @@ fn file_schedule(s: &[u8], job: Job, starts: &[u32], out: &mut [u8]) -> Answer
     let by_fact = index_of(s, job, Linking::EffectsByFact, job.count.effects);
     let mut links = [0u16; 544];
     support::find_links(s, job, starts, &ticks, &by_fact, &mut links);
+    let keys = 2 * job.count.facts as usize;
+    let sorted = sorted_of(s, job, Linking::EffectsByFact, keys, &ticks);
     let mut gaps = [NONE; 4096];
-    fill::fill_gaps(s, job, starts, &ticks, &by_fact, &links, &mut gaps);
+    fill::fill_gaps(s, job, starts, &ticks, &sorted, &links, &mut gaps);
     file_found(s, job, &links, &gaps, out)
 }
 

@@ -38,7 +38,7 @@ fn demanded(gaps: &[u32], i: usize, k: usize, t: u32) -> u32
     if gap == NONE { 0 } else { t + gap }
 }
 
-fn higher(a: u32, b: u32) -> u32
+pub fn higher(a: u32, b: u32) -> u32
     ensures { λ r. ⌜ r ≡ max a b ⌝ }
 {
     if a < b { b } else { a }

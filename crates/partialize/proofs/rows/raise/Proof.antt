@@ -1,8 +1,8 @@
 -- Nothing, or a larger gap, goes into the table.
 use Rattle.partialize.proofs.Raised.{raised-own, raised-less, raised-set}
 use borrow.Author.Needs.{needs}
-use Rattle.partialize.proofs.fill.raise.Statement.{statement}
-use Rattle.partialize.proofs.fill.raise.Tie as tie
+use Rattle.partialize.proofs.rows.raise.Statement.{statement}
+use Rattle.partialize.proofs.rows.raise.Tie as tie
 
 pub raise-spec : {M : Type 1} → statement M
 raise-spec =

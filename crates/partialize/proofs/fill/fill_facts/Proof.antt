@@ -1,0 +1,31 @@
+-- Each fact and value in turn.
+use Prim.Native.Nat.{_+_, _*_, _-_, _≤_, _<_}
+use native.Mathlib.Omega.{arith}
+use Rattle.job.specs.Model.{view}
+use Rattle.partialize.specs.Points.{Reached, Within}
+use Rattle.partialize.proofs.Reached.{reached-either, within-up, within-to, within-empty}
+use Rattle.partialize.proofs.Rules.{FactOrder, effects-group, firsts-group, lasts-group, facts-raised}
+use borrow.Author.Needs.{needs}
+use Rattle.partialize.proofs.fill.fill_facts.Statement.{statement}
+use Rattle.partialize.proofs.fill.fill_facts.Tie as tie
+
+pub fill-facts-spec : {M : Type 1} → statement M
+fill-facts-spec =
+    tie.close
+    (tie.spec
+    (λ s job starts ticks sorted firsts conditions gaps₀ n key₀ gaps key. (key ≤ n) × Reached (job .count .steps) (Within 0 key (FactOrder (view job s) ticks sorted firsts conditions)) gaps₀ gaps)
+    (λ s job starts ticks sorted firsts conditions gaps₀ n key₀ gaps key. n - key)
+    (λ c. search needs)
+    (λ c. search needs)
+    (λ c. (omega arith, within-empty _ _ _ _ _ (omega arith)))
+    (λ c. omega (arith, c .loop-test .taken, c .before .before .before .before .before .before .before .before .before .before .pre .0 .form .factCount))
+    (λ c. omega arith)
+    (λ c. omega arith)
+    (λ c κs. let d = c .before .before .before .before .before .before .before .before .before .before .before in let l = c .before .before .loop in (effects-group (d .pre .0) _ (c .before .loop-test .taken), effects-group (d .pre .0) _ (omega (arith, c .before .loop-test .taken)), l .inv .1 .whole (d .pre .3), d .pre .0 .form .stepCount, omega arith))
+    (λ c κs. let d = c .before .before .before .before .before .before .before .before .before .before .before .before .before .before .before in let l = c .before .before .before .before .before .before .loop in (effects-group (d .pre .0) _ (c .before .before .before .before .before .loop-test .taken), firsts-group (d .pre .0) (d .pre .1) _ (omega (arith, c .before .before .before .before .before .loop-test .taken)), c .before .before .before .raise-group .ensures .whole (l .inv .1 .whole (d .pre .3)), d .pre .0 .form .stepCount, omega arith))
+    (λ c κs. let d = c .before .before .before .before .before .before .before .before .before .before .before .before .before .before .before .before .before .before .before in let l = c .before .before .before .before .before .before .before .before .before .before .loop in (lasts-group (d .pre .0) (d .pre .1) _ (c .before .before .before .before .before .before .before .before .before .loop-test .taken), effects-group (d .pre .0) _ (omega (arith, c .before .before .before .before .before .before .before .before .before .loop-test .taken)), c .before .before .before .raise-group2 .ensures .whole (c .before .before .before .before .before .before .before .raise-group .ensures .whole (l .inv .1 .whole (d .pre .3))), d .pre .0 .form .stepCount, omega arith))
+    (λ c. omega (arith, c .before .before .before .before .before .before .before .before .before .before .before .before .loop-test .taken, c .before .before .before .before .before .before .before .before .before .before .before .before .before .before .before .before .before .before .before .before .before .before .pre .0 .form .factCount))
+    (λ c. omega (arith, c .before .before .before .before .before .before .before .before .before .before .before .before .loop-test .taken))
+    (λ c. (omega (arith, c .before .before .before .before .before .before .before .before .before .before .before .before .loop-test .taken), within-up _ _ _ _ _ _ _ (omega arith) (c .before .before .before .before .before .before .before .before .before .before .before .before .before .loop .inv .1) (reached-either _ _ _ _ _ _ (c .before .before .before .before .before .before .before .before .before .before .raise-group .ensures) (reached-either _ _ _ _ _ _ (c .before .before .before .before .before .before .raise-group2 .ensures) (c .before .before .raise-group3 .ensures)))))
+    (λ c. let d = c .before .before .before .before .before .before .before .before .before .before in omega (arith, c .before .loop .inv .1 .whole (d .pre .3) .size, d .pre .3 .size))
+    (λ c. let d = c .before .before .before .before .before .before .before .before .before .before in facts-raised (d .pre .0) (d .pre .1) (d .pre .2) _ _ (within-to _ _ _ _ _ _ _ (omega (arith, c .before .loop .inv .0, c .loop-test .left)) (c .before .loop .inv .1))))
