@@ -18,7 +18,7 @@ use Rattle.job.specs.WellFormed.{WellFormed}
 use Rattle.job.specs.Indexed.{factKey, levelKey, keyOf}
 use Rattle.timeline.specs.Sorted.{recordIn, tickIn, Sorted}
 use Rattle.schedule.specs.Ticks.{effectTick, firstTick, lastTick, useTick, opposes}
-use Rattle.schedule.specs.Known.{EffectsSorted, ConditionsSorted, UsesSorted}
+use Rattle.schedule.specs.Known.{EffectsKnown, ConditionsKnown, UsesKnown}
 use Rattle.schedule.specs.Valid.{Valid}
 use Rattle.orders.specs.Gaps.{strictly, opposingOrder, opposingGap, beforeOrder, afterOrder, conditionGap, levelOrder, levelGap}
 use Rattle.orders.proofs.Near.{effect-near, from-near, to-near, use-near}
@@ -247,7 +247,7 @@ opposes-back fact value fact' value' t =
     let differ : value ≡ value' → ⊥ = eqb-false _ _ (not-true _ (both .1)) in
     ap₂ _&&_ (eq-eqb fact' fact (sym (eqb-true _ _ (both .0)))) (ap not (ne-eqb value' value (λ q. differ (sym q))))
 
-module _ {m : Model} {x : ℕ → ℕ} {ticks sorted : List ℕ} (effects : EffectsSorted m x ticks sorted) where
+module _ {m : Model} {x : ℕ → ℕ} {ticks sorted : List ℕ} (effects : EffectsKnown m x ticks sorted) where
   pub effects-group : (key : ℕ) → key < 2 * m .facts → Group m Effect ticks sorted key
   unfolding pointStep pointAt
   effects-group =
@@ -302,7 +302,7 @@ module _ {m : Model} {x : ℕ → ℕ} {ticks sorted : List ℕ} (effects : Effe
       (omega (arith, effects .timed .at e h, effects .timed .at f l)) p q refl))))
 
   -- Rule 3.
-  module _ {firsts conditions : List ℕ} (wanted : ConditionsSorted m x firsts conditions) where
+  module _ {firsts conditions : List ℕ} (wanted : ConditionsKnown m x firsts conditions) where
     pub firsts-group : (key : ℕ) → key < 2 * m .facts → Group m First firsts conditions key
     unfolding pointStep pointAt
     firsts-group =
@@ -447,7 +447,7 @@ module _ {m : Model} {x : ℕ → ℕ} {ticks sorted : List ℕ} (effects : Effe
         ))
 
 -- Rule 4.
-module _ {m : Model} {x : ℕ → ℕ} {ticks sorted : List ℕ} (uses : UsesSorted m x ticks sorted) where
+module _ {m : Model} {x : ℕ → ℕ} {ticks sorted : List ℕ} (uses : UsesKnown m x ticks sorted) where
   pub uses-group : (key : ℕ) → key < m .levels → Group m Use ticks sorted key
   unfolding pointStep pointAt
   uses-group =

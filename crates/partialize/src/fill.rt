@@ -9,7 +9,7 @@ ghost use Rattle.job.specs.Model.{view};
 ghost use Rattle.job.specs.WellFormed.{WellFormed};
 ghost use Rattle.schedule.specs.Ticks as ticks;
 ghost use Rattle.schedule.specs.Ticks.{scheduleOf};
-ghost use Rattle.schedule.specs.Known.{EffectsSorted, ConditionsSorted, UsesSorted};
+ghost use Rattle.schedule.specs.Known.{EffectsKnown, ConditionsKnown, UsesKnown};
 ghost use Rattle.schedule.specs.Valid.{Valid};
 ghost use Rattle.orders.specs.Gaps.{supportOrder, supportGap, opposingGap, conditionGap, levelGap, serialGap, gapOf};
 ghost use Rattle.partialize.specs.Table.{Gaps, single, Raised, TableOf, LinksOf, Named};
@@ -20,18 +20,16 @@ use crate::rows::strictly;
 use crate::starts::BIAS;
 use crate::starts::NONE;
 use crate::support::INITIAL;
-use job::index::Linking;
 use job::layout::Job;
 use job::records::condition_from;
 use job::records::condition_step;
 use job::records::effect_at;
 use job::records::effect_step;
 use job::records::step_length;
+use schedule::listed::conditions_in_order;
 use schedule::ticks::finish;
 use schedule::ticks::first_ticks;
 use schedule::ticks::start_of;
-use schedule::ticks::use_ticks;
-use timeline::sorted_of;
 
 // Rule 1 for condition c, by its link.
 fn raise_support(s: &[u8], job: Job, links: &[u16], gaps: &mut [u32], c: u16)
@@ -77,7 +75,7 @@ fn fill_facts(
     conditions: &[u16],
     gaps: &mut [u32],
 )
-    requires { ⌜ EffectsSorted (view job (now s)) (scheduleOf (now starts)) (now ticks) (now sorted) × ConditionsSorted (view job (now s)) (scheduleOf (now starts)) (now firsts) (now conditions) × Valid (view job (now s)) (scheduleOf (now starts)) × Gaps (now gaps) ⌝ }
+    requires { ⌜ EffectsKnown (view job (now s)) (scheduleOf (now starts)) (now ticks) (now sorted) × ConditionsKnown (view job (now s)) (scheduleOf (now starts)) (now firsts) (now conditions) × Valid (view job (now s)) (scheduleOf (now starts)) × Gaps (now gaps) ⌝ }
     ensures { λ _. ⌜ Raised (job .count .steps) (λ i k. max (opposingGap (view job (now (s .entry))) (scheduleOf (now (starts .entry))) i k) (conditionGap (view job (now (s .entry))) (scheduleOf (now (starts .entry))) i k)) (now (gaps .entry)) (now (gaps .exit)) ⌝ }
 {
     let n = 2 * job.count.facts as usize;
@@ -139,7 +137,7 @@ fn fill_levels(
     sorted: &[u16],
     gaps: &mut [u32],
 )
-    requires { ⌜ UsesSorted (view job (now s)) (scheduleOf (now starts)) (now ticks) (now sorted) × Gaps (now gaps) ⌝ }
+    requires { ⌜ UsesKnown (view job (now s)) (scheduleOf (now starts)) (now ticks) (now sorted) × Gaps (now gaps) ⌝ }
     ensures { λ _. ⌜ Raised (job .count .steps) (levelGap (view job (now (s .entry))) (scheduleOf (now (starts .entry)))) (now (gaps .entry)) (now (gaps .exit)) ⌝ }
 {
     let n = job.count.levels as usize;
@@ -219,21 +217,19 @@ pub fn fill_gaps(
     job: Job,
     starts: &[u32],
     ticks: &[usize],
-    sorted: &[u16],
+    facts: &[u16],
+    uses: &[usize],
+    levels: &[u16],
     links: &[u16],
     gaps: &mut [u32],
 )
-    requires { ⌜ EffectsSorted (view job (now s)) (scheduleOf (now starts)) (now ticks) (now sorted) × Valid (view job (now s)) (scheduleOf (now starts)) × LinksOf (view job (now s)) (scheduleOf (now starts)) (now links) × (job .count .conditions + job .count .goals ≤ length (now links)) × (length (now gaps) ≡ 4096) × ((p : ℕ) → getD (now gaps) p 0 ≡ 0) ⌝ }
+    requires { ⌜ EffectsKnown (view job (now s)) (scheduleOf (now starts)) (now ticks) (now facts) × UsesKnown (view job (now s)) (scheduleOf (now starts)) (now uses) (now levels) × Valid (view job (now s)) (scheduleOf (now starts)) × LinksOf (view job (now s)) (scheduleOf (now starts)) (now links) × (job .count .conditions + job .count .goals ≤ length (now links)) × (length (now gaps) ≡ 4096) × ((p : ℕ) → getD (now gaps) p 0 ≡ 0) ⌝ }
     ensures { λ _. ⌜ TableOf (job .count .steps) (gapOf (view job (now (s .entry))) (scheduleOf (now (starts .entry)))) (now (gaps .exit)) ⌝ }
 {
     fill_support(s, job, links, gaps);
-    let keys = 2 * job.count.facts as usize;
     let firsts = first_ticks(s, job, starts);
-    let conditions = sorted_of(s, job, Linking::ConditionsByFact, keys, &firsts);
-    fill_facts(s, job, starts, ticks, sorted, &firsts, &conditions, gaps);
-    let uses = use_ticks(s, job, starts);
-    let levels = job.count.levels as usize;
-    let by_level = sorted_of(s, job, Linking::UsesByLevel, levels, &uses);
-    fill_levels(s, job, starts, &uses, &by_level, gaps);
+    let conditions = conditions_in_order(s, job, starts, &firsts);
+    fill_facts(s, job, starts, ticks, facts, &firsts, &conditions, gaps);
+    fill_levels(s, job, starts, uses, levels, gaps);
     fill_serial(s, job, starts, gaps);
 }

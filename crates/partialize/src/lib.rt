@@ -2,9 +2,13 @@
 ghost use Prim.Native.Nat.{ℕ};
 ghost use mathlib.Core.Path.{_≡_};
 ghost use lib.ListN.{length};
+ghost use Rattle.job.specs.Layout.{jobOf};
 ghost use Rattle.job.specs.Model.{view};
+ghost use Rattle.job.specs.Refusals.{formCheck};
+ghost use Rattle.job.specs.Verdict.{number as numberOf};
 ghost use Rattle.job.specs.WellFormed.{WellFormed};
-ghost use Rattle.schedule.specs.Ticks.{scheduleOf};
+ghost use Rattle.schedule.specs.Ticks.{scheduleOf, plannedStarts};
+ghost use Rattle.schedule.specs.Known.{EffectsKnown, UsesKnown};
 ghost use Rattle.schedule.specs.Valid.{Valid};
 ghost use Rattle.orders.specs.Gaps.{gapOf};
 ghost use Rattle.partialize.specs.Table.{Gaps, TableOf, LinksOf};
@@ -21,13 +25,13 @@ mod window;
 mod write;
 
 use answer::Answer;
-use job::index::Linking;
-use job::index::index_of;
 use job::layout::Job;
 use job::verdict::number;
+use schedule::listed::effects_in_order;
+use schedule::listed::uses_in_order;
 use schedule::ticks::effect_ticks;
+use schedule::ticks::use_ticks;
 use starts::NONE;
-use timeline::sorted_of;
 
 // Files what the links and the gaps of a valid schedule say, if the buffer is long enough for it.
 fn file_found(s: &[u8], job: Job, links: &[u16], gaps: &[u32], out: &mut [u8]) -> Answer
@@ -63,20 +67,51 @@ fn file_found(s: &[u8], job: Job, links: &[u16], gaps: &[u32], out: &mut [u8]) -
     Answer::Filed(length as u32)
 }
 
-// Finds the links and the gaps of a valid schedule, and files them.
-fn file_schedule(s: &[u8], job: Job, starts: &[u32], out: &mut [u8]) -> Answer
-    requires { ⌜ WellFormed (view job (now s)) × Valid (view job (now s)) (scheduleOf (now starts)) ⌝ }
+// Finds the links and the gaps of a valid schedule whose points are listed, and files them.
+fn file_schedule(
+    s: &[u8],
+    job: Job,
+    starts: &[u32],
+    ticks: &[usize],
+    facts: &[u16],
+    uses: &[usize],
+    levels: &[u16],
+    out: &mut [u8],
+) -> Answer
+    requires { ⌜ EffectsKnown (view job (now s)) (scheduleOf (now starts)) (now ticks) (now facts) × UsesKnown (view job (now s)) (scheduleOf (now starts)) (now uses) (now levels) × Valid (view job (now s)) (scheduleOf (now starts)) ⌝ }
     ensures { λ r. ⌜ Written (fileOf (view job (now (s .entry))) (scheduleOf (now (starts .entry)))) (now (out .entry)) (now (out .exit)) r ⌝ }
 {
-    let ticks = effect_ticks(s, job, starts);
-    let by_fact = index_of(s, job, Linking::EffectsByFact, job.count.effects);
     let mut links = [0u16; 544];
-    support::find_links(s, job, starts, &ticks, &by_fact, &mut links);
-    let keys = 2 * job.count.facts as usize;
-    let sorted = sorted_of(s, job, Linking::EffectsByFact, keys, &ticks);
+    support::find_links(s, job, starts, ticks, facts, &mut links);
     let mut gaps = [NONE; 4096];
-    fill::fill_gaps(s, job, starts, &ticks, &sorted, &links, &mut gaps);
+    fill::fill_gaps(
+        s,
+        job,
+        starts,
+        ticks,
+        facts,
+        uses,
+        levels,
+        &links,
+        &mut gaps,
+    );
     file_found(s, job, &links, &gaps, out)
+}
+
+// Checks the planned starts of a job of good form, and files them. What the check lists of the points serves the file too.
+fn loosen(s: &[u8], job: Job, starts: &[u32], out: &mut [u8]) -> Answer
+    requires { ⌜ (numberOf (formCheck (now s)) ≡ 0) × WellFormed (view job (now s)) × (job ≡ jobOf (now s)) × (now starts ≡ plannedStarts (view job (now s))) ⌝ }
+    ensures { λ r. ⌜ Promise (now (s .entry)) (now (out .entry)) (now (out .exit)) r ⌝ }
+{
+    let ticks = effect_ticks(s, job, starts);
+    let facts = effects_in_order(s, job, starts, &ticks);
+    let uses = use_ticks(s, job, starts);
+    let levels = uses_in_order(s, job, starts, &uses);
+    let v = schedule::check_listed(s, job, starts, &ticks, &facts, &uses, &levels);
+    if number(v) != 0 {
+        return Answer::Refused(v);
+    }
+    file_schedule(s, job, starts, &ticks, &facts, &uses, &levels, out)
 }
 
 // Loosens a job into an order file: the file's length, with the file at the front of the buffer and every byte past it as it was; or
@@ -85,12 +120,12 @@ fn file_schedule(s: &[u8], job: Job, starts: &[u32], out: &mut [u8]) -> Answer
 pub fn partialize(s: &[u8], out: &mut [u8]) -> Answer
     ensures { λ r. ⌜ Promise (now (s .entry)) (now (out .entry)) (now (out .exit)) r ⌝ }
 {
-    let v = schedule::check_job(s);
-    if number(v) != 0 {
-        return Answer::Refused(v);
+    let form = job::check_form(s);
+    if number(form) != 0 {
+        return Answer::Refused(form);
     }
     let job = Job::read(s);
     let n = job.count.steps as usize;
     let starts = schedule::planned_starts(s, job, n);
-    file_schedule(s, job, &starts[..n], out)
+    loosen(s, job, &starts[..n], out)
 }

@@ -1,11 +1,10 @@
--- The ticks and the index, the links, the effects in order, the gaps, then the file.
+-- The links, the gaps, then the file.
 use Prim.Native.Nat.{ℕ}
 use mathlib.Core.Path.{_≡_, refl}
 use native.Mathlib.Decide.{decLt}
 use native.Mathlib.Omega.{arith}
 use denote.Ref.{now}
 use lib.ListN.{getD, replicate, length-replicate, getD-replicate, List·getD-eq-default}
-use Rattle.timeline.specs.Sorted.{countOf}
 use Rattle.schedule.specs.Ticks.{scheduleOf}
 use Rattle.partialize.proofs.Found.{none-from}
 use borrow.Author.Needs.{needs}
@@ -21,27 +20,16 @@ zeros p =
     ]
 
 pub file-schedule-spec : {M : Type 1} → statement M
-unfolding countOf
 file-schedule-spec =
     tie.close
     (tie.spec
-    (λ c κs. c .before .before .before .pre .0 .effectCount)
-    (λ c κs. c .before .before .before .before .pre .0 .effectCount)
+    (λ c. search needs)
+    (λ c κs. search needs)
     (λ c. search needs)
     (λ c. search needs)
-    (λ c. search needs)
-    (λ c κs. let b = c .before .before .before .before .before .before .before .before in (record { form = b .pre .0; timed = c .before .before .before .before .effect-ticks .ensures; linked = c .before .before .before .index-of .ensures }, omega (arith, b .pre .0 .conditionCount, b .pre .0 .goalCount)))
-    (λ c. search needs)
+    (λ c κs. let d = c .before .before .before .before .before .before .before .before .before .before .before .before in let f = c .before .before .before .find-links .ensures in (d .pre .0, d .pre .1, d .pre .2, record { each = f .below }, omega (arith, f .size, length-replicate {A = ℕ} 544 0, d .pre .0 .form .conditionCount, d .pre .0 .form .goalCount), refl, zeros))
     (λ c. search needs)
     (λ c. search needs)
-    (λ c κs. let b = c .before .before .before .before .before .before .before .before .before .before .before .before in let t = c .before .before .before .before .before .before .before .before .effect-ticks .ensures in (record { size = t .size; low = t .low }, b .pre .0 .effectCount, omega (arith, b .pre .0 .factCount)))
+    (λ c κs. (c .before .before .before .before .before .before .before .before .before .before .before .before .before .before .before .before .before .pre .0 .form, search needs, search needs, none-from _ _ _ (c .before .before .before .before .fill-gaps .ensures)))
     (λ c. search needs)
-    (λ c. search needs)
-    (λ c. search needs)
-    (λ c. search needs)
-    (λ c κs. let b = c .before .before .before .before .before .before .before .before .before .before .before .before .before .before .before .before .before in let f = c .before .before .before .before .before .before .before .before .find-links .ensures in (record { form = b .pre .0; timed = c .before .before .before .before .before .before .before .before .before .before .before .before .before .effect-ticks .ensures; ordered = c .before .before .before .before .sorted-of .ensures }, b .pre .1, record { each = f .below }, omega (arith, f .size, length-replicate {A = ℕ} 544 0, b .pre .0 .conditionCount, b .pre .0 .goalCount), refl, zeros))
-    (λ c. search needs)
-    (λ c. search needs)
-    (λ c κs. (c .before .before .before .before .before .before .before .before .before .before .before .before .before .before .before .before .before .before .before .before .before .before .pre .0, c .before .before .before .before .fill-gaps .ensures .whole, search needs, none-from _ _ _ (c .before .before .before .before .fill-gaps .ensures)))
-    (λ c. search needs)
-    (λ c. let b = c .before .before .before .before .before .before .before .before .before .before .before .before .before .before .before .before .before .before .before .before .before .before .before .before .before in let f = c .before .before .before .before .before .before .before .before .before .before .before .before .before .before .before .before .find-links .ensures in c .before .before .file-found .ensures (scheduleOf (now (b .args .starts))) (record { each = f .below }) (c .before .before .before .before .before .before .before .fill-gaps .ensures)))
+    (λ c. c .before .before .file-found .ensures (scheduleOf (now (c .before .before .before .before .before .before .before .before .before .before .before .before .before .before .before .before .before .before .before .before .args .starts))) (record { each = c .before .before .before .before .before .before .before .before .before .before .before .find-links .ensures .below }) (c .before .before .before .before .before .before .before .fill-gaps .ensures)))
