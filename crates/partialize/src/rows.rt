@@ -25,7 +25,7 @@ use timeline::place_from;
 use timeline::record_at;
 
 // From how many points on a row is cheaper than the pairs.
-const MANY: usize = 24;
+const MANY: usize = 8;
 
 // What is ordered: an effect, a use, the first or the last tick of a condition.
 pub enum Point {

@@ -73,7 +73,7 @@ module _ {m : Model} {x : ℕ → ℕ} {ticks sorted : List ℕ} (known : Effect
 
   pub key-searched : (v : ℕ) → v < 2 * m .facts → (length sorted ≡ 1025) × (v < 512) × Rising ticks sorted (getD sorted v 0) (getD sorted (v + 1) 0)
   key-searched v h =
-      (known .ordered .size, omega (arith, known .form .factCount), key-rising (known .ordered) v h (known .form .effectCount) (known .timed .size))
+      (known .ordered .size, omega (arith, known .form .factCount), key-rising (known .ordered) v h (known .form .effectCount) (record { size = known .timed .size; low = known .timed .low }))
 
   -- the record at a place of a key is an effect
   pub place-counted : (v : ℕ) → v < 2 * m .facts → (p : ℕ) → getD sorted v 0 ≤ p → p < getD sorted (v + 1) 0 → {k : ℕ} → k ≡ recordIn sorted p → k < m .effects

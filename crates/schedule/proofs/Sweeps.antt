@@ -55,7 +55,7 @@ module _ {m : Model} {x : ℕ → ℕ} {ticks sorted : List ℕ} (known : UsesKn
   level-ends = omega (arith, known .ordered .ends l h, known .form .useCount)
 
   rising : Rising ticks sorted (getD sorted l 0) (getD sorted (l + 1) 0)
-  rising = key-rising (known .ordered) l h (omega (arith, known .form .useCount)) (known .timed .size)
+  rising = key-rising (known .ordered) l h (omega (arith, known .form .useCount)) (record { size = known .timed .size; low = known .timed .low })
 
   -- the record at a place of the level is a use of it
   pub use-counted : (p : ℕ) → getD sorted l 0 ≤ p → p < getD sorted (l + 1) 0 → {u : ℕ} → u ≡ recordIn sorted p → u < m .uses
