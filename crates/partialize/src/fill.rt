@@ -26,7 +26,7 @@ use job::records::condition_step;
 use job::records::effect_at;
 use job::records::effect_step;
 use job::records::step_length;
-use schedule::listed::conditions_in_order;
+use schedule::listed::list_conditions;
 use schedule::ticks::finish;
 use schedule::ticks::first_ticks;
 use schedule::ticks::start_of;
@@ -227,8 +227,10 @@ pub fn fill_gaps(
     ensures { λ _. ⌜ TableOf (job .count .steps) (gapOf (view job (now (s .entry))) (scheduleOf (now (starts .entry)))) (now (gaps .exit)) ⌝ }
 {
     fill_support(s, job, links, gaps);
-    let firsts = first_ticks(s, job, starts);
-    let conditions = conditions_in_order(s, job, starts, &firsts);
+    let mut firsts = [0; 512];
+    first_ticks(s, job, starts, &mut firsts);
+    let mut conditions = [0; 1025];
+    list_conditions(s, job, starts, &firsts, &mut conditions);
     fill_facts(s, job, starts, ticks, facts, &firsts, &conditions, gaps);
     fill_levels(s, job, starts, uses, levels, gaps);
     fill_serial(s, job, starts, gaps);

@@ -27,8 +27,8 @@ mod write;
 use answer::Answer;
 use job::layout::Job;
 use job::verdict::number;
-use schedule::listed::effects_in_order;
-use schedule::listed::uses_in_order;
+use schedule::listed::list_effects;
+use schedule::listed::list_uses;
 use schedule::ticks::effect_ticks;
 use schedule::ticks::use_ticks;
 use starts::NONE;
@@ -103,10 +103,14 @@ fn loosen(s: &[u8], job: Job, starts: &[u32], out: &mut [u8]) -> Answer
     requires { ⌜ (numberOf (formCheck (now s)) ≡ 0) × WellFormed (view job (now s)) × (job ≡ jobOf (now s)) × (now starts ≡ plannedStarts (view job (now s))) ⌝ }
     ensures { λ r. ⌜ Promise (now (s .entry)) (now (out .entry)) (now (out .exit)) r ⌝ }
 {
-    let ticks = effect_ticks(s, job, starts);
-    let facts = effects_in_order(s, job, starts, &ticks);
-    let uses = use_ticks(s, job, starts);
-    let levels = uses_in_order(s, job, starts, &uses);
+    let mut ticks = [0; 512];
+    effect_ticks(s, job, starts, &mut ticks);
+    let mut facts = [0; 1025];
+    list_effects(s, job, starts, &ticks, &mut facts);
+    let mut uses = [0; 256];
+    use_ticks(s, job, starts, &mut uses);
+    let mut levels = [0; 1025];
+    list_uses(s, job, starts, &uses, &mut levels);
     let v = schedule::check_listed(s, job, starts, &ticks, &facts, &uses, &levels);
     if number(v) != 0 {
         return Answer::Refused(v);

@@ -163,10 +163,14 @@ fn check_starts(s: &[u8], job: Job, starts: &[u32]) -> Verdict
     requires { ⌜ WellFormed (view job (now s)) ⌝ }
     ensures { λ r. ⌜ r ≡ startsCheck (view job (now (s .entry))) (now (starts .entry)) ⌝ }
 {
-    let ticks = ticks::effect_ticks(s, job, starts);
-    let facts = listed::effects_in_order(s, job, starts, &ticks);
-    let uses = ticks::use_ticks(s, job, starts);
-    let levels = listed::uses_in_order(s, job, starts, &uses);
+    let mut ticks = [0; 512];
+    ticks::effect_ticks(s, job, starts, &mut ticks);
+    let mut facts = [0; 1025];
+    listed::list_effects(s, job, starts, &ticks, &mut facts);
+    let mut uses = [0; 256];
+    ticks::use_ticks(s, job, starts, &mut uses);
+    let mut levels = [0; 1025];
+    listed::list_uses(s, job, starts, &uses, &mut levels);
     check_listed(s, job, starts, &ticks, &facts, &uses, &levels)
 }
 

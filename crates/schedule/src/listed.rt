@@ -1,33 +1,35 @@
-// A job's points listed in the order of their ticks: effects and conditions by fact and value, uses by level.
+// A job's points listed in the order of their ticks: effects and conditions by fact and value, uses by level. The lists are lent.
+ghost use mathlib.Core.Path.{_≡_};
+ghost use lib.ListN.{length};
 ghost use Rattle.job.specs.Model.{view};
 ghost use Rattle.job.specs.WellFormed.{WellFormed};
 ghost use Rattle.schedule.specs.Ticks.{scheduleOf, effectTick, firstTick, useTick};
 ghost use Rattle.schedule.specs.Known.{Timed, EffectsKnown, ConditionsKnown, UsesKnown};
 use job::index::Linking;
 use job::layout::Job;
-use timeline::sorted_of;
+use timeline::sort;
 
-pub fn effects_in_order(s: &[u8], job: Job, starts: &[u32], ticks: &[usize]) -> [u16; 1025]
-    requires { ⌜ WellFormed (view job (now s)) × Timed (job .count .effects) (effectTick (view job (now s)) (scheduleOf (now starts))) (now ticks) ⌝ }
-    ensures { λ r. ⌜ EffectsKnown (view job (now (s .entry))) (scheduleOf (now (starts .entry))) (now (ticks .entry)) r ⌝ }
+pub fn list_effects(s: &[u8], job: Job, starts: &[u32], ticks: &[usize], sorted: &mut [u16])
+    requires { ⌜ WellFormed (view job (now s)) × Timed (job .count .effects) (effectTick (view job (now s)) (scheduleOf (now starts))) (now ticks) × (length (now sorted) ≡ 1025) ⌝ }
+    ensures { λ _. ⌜ EffectsKnown (view job (now (s .entry))) (scheduleOf (now (starts .entry))) (now (ticks .entry)) (now (sorted .exit)) ⌝ }
 {
     let values = 2 * job.count.facts as usize;
-    sorted_of(s, job, Linking::EffectsByFact, values, ticks)
+    sort(s, job, Linking::EffectsByFact, values, ticks, sorted);
 }
 
 // By their first ticks.
-pub fn conditions_in_order(s: &[u8], job: Job, starts: &[u32], ticks: &[usize]) -> [u16; 1025]
-    requires { ⌜ WellFormed (view job (now s)) × Timed (job .count .conditions) (firstTick (view job (now s)) (scheduleOf (now starts))) (now ticks) ⌝ }
-    ensures { λ r. ⌜ ConditionsKnown (view job (now (s .entry))) (scheduleOf (now (starts .entry))) (now (ticks .entry)) r ⌝ }
+pub fn list_conditions(s: &[u8], job: Job, starts: &[u32], ticks: &[usize], sorted: &mut [u16])
+    requires { ⌜ WellFormed (view job (now s)) × Timed (job .count .conditions) (firstTick (view job (now s)) (scheduleOf (now starts))) (now ticks) × (length (now sorted) ≡ 1025) ⌝ }
+    ensures { λ _. ⌜ ConditionsKnown (view job (now (s .entry))) (scheduleOf (now (starts .entry))) (now (ticks .entry)) (now (sorted .exit)) ⌝ }
 {
     let values = 2 * job.count.facts as usize;
-    sorted_of(s, job, Linking::ConditionsByFact, values, ticks)
+    sort(s, job, Linking::ConditionsByFact, values, ticks, sorted);
 }
 
-pub fn uses_in_order(s: &[u8], job: Job, starts: &[u32], ticks: &[usize]) -> [u16; 1025]
-    requires { ⌜ WellFormed (view job (now s)) × Timed (job .count .uses) (useTick (view job (now s)) (scheduleOf (now starts))) (now ticks) ⌝ }
-    ensures { λ r. ⌜ UsesKnown (view job (now (s .entry))) (scheduleOf (now (starts .entry))) (now (ticks .entry)) r ⌝ }
+pub fn list_uses(s: &[u8], job: Job, starts: &[u32], ticks: &[usize], sorted: &mut [u16])
+    requires { ⌜ WellFormed (view job (now s)) × Timed (job .count .uses) (useTick (view job (now s)) (scheduleOf (now starts))) (now ticks) × (length (now sorted) ≡ 1025) ⌝ }
+    ensures { λ _. ⌜ UsesKnown (view job (now (s .entry))) (scheduleOf (now (starts .entry))) (now (ticks .entry)) (now (sorted .exit)) ⌝ }
 {
     let levels = job.count.levels as usize;
-    sorted_of(s, job, Linking::UsesByLevel, levels, ticks)
+    sort(s, job, Linking::UsesByLevel, levels, ticks, sorted);
 }

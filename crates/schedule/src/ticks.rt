@@ -2,6 +2,7 @@
 // starts are any u32, and sums are made in 64 bits.
 ghost use mathlib.Core.Path.{_≡_};
 ghost use Prim.Native.Nat.{_≤_, _<_};
+ghost use lib.ListN.{length};
 ghost use Rattle.job.specs.Model.{view};
 ghost use Rattle.schedule.specs.Ticks.{scheduleOf, effectTick, firstTick, lastTick, useTick};
 ghost use Rattle.schedule.specs.Ticks as spec;
@@ -46,49 +47,43 @@ pub fn use_tick(s: &[u8], job: Job, starts: &[u32], u: u16) -> usize
     start_of(starts, use_step(s, job, u)) + use_at(s, job, u)
 }
 
-// The tick of each effect, for searches that ask for it again and again.
-pub fn effect_ticks(s: &[u8], job: Job, starts: &[u32]) -> [usize; 512]
-    requires { ⌜ job .count .effects ≤ 512 ⌝ }
-    ensures { λ r. ⌜ Timed (job .count .effects) (effectTick (view job (now (s .entry))) (scheduleOf (now (starts .entry)))) r ⌝ }
+// Lists the tick of each effect, for searches that ask for it again and again.
+pub fn effect_ticks(s: &[u8], job: Job, starts: &[u32], ticks: &mut [usize])
+    requires { ⌜ job .count .effects ≤ length (now ticks) ⌝ }
+    ensures { λ _. ⌜ Timed (job .count .effects) (effectTick (view job (now (s .entry))) (scheduleOf (now (starts .entry)))) (now (ticks .exit)) ⌝ }
 {
     let n = job.count.effects;
-    let mut ticks = [0; 512];
     let mut e = 0;
     while e < n {
         ticks[e as usize] = effect_tick(s, job, starts, e);
         e += 1;
     }
-    ticks
 }
 
-// The first tick of each condition.
-pub fn first_ticks(s: &[u8], job: Job, starts: &[u32]) -> [usize; 512]
-    requires { ⌜ job .count .conditions ≤ 512 ⌝ }
-    ensures { λ r. ⌜ Timed (job .count .conditions) (firstTick (view job (now (s .entry))) (scheduleOf (now (starts .entry)))) r ⌝ }
+// Lists the first tick of each condition.
+pub fn first_ticks(s: &[u8], job: Job, starts: &[u32], ticks: &mut [usize])
+    requires { ⌜ job .count .conditions ≤ length (now ticks) ⌝ }
+    ensures { λ _. ⌜ Timed (job .count .conditions) (firstTick (view job (now (s .entry))) (scheduleOf (now (starts .entry)))) (now (ticks .exit)) ⌝ }
 {
     let n = job.count.conditions;
-    let mut ticks = [0; 512];
     let mut c = 0;
     while c < n {
         ticks[c as usize] = first_tick(s, job, starts, c);
         c += 1;
     }
-    ticks
 }
 
-// The tick of each use.
-pub fn use_ticks(s: &[u8], job: Job, starts: &[u32]) -> [usize; 256]
-    requires { ⌜ job .count .uses ≤ 256 ⌝ }
-    ensures { λ r. ⌜ Timed (job .count .uses) (useTick (view job (now (s .entry))) (scheduleOf (now (starts .entry)))) r ⌝ }
+// Lists the tick of each use.
+pub fn use_ticks(s: &[u8], job: Job, starts: &[u32], ticks: &mut [usize])
+    requires { ⌜ job .count .uses ≤ length (now ticks) ⌝ }
+    ensures { λ _. ⌜ Timed (job .count .uses) (useTick (view job (now (s .entry))) (scheduleOf (now (starts .entry)))) (now (ticks .exit)) ⌝ }
 {
     let n = job.count.uses;
-    let mut ticks = [0; 256];
     let mut u = 0;
     while u < n {
         ticks[u as usize] = use_tick(s, job, starts, u);
         u += 1;
     }
-    ticks
 }
 
 pub fn finish(s: &[u8], job: Job, starts: &[u32], k: u16) -> usize
