@@ -6,6 +6,7 @@ use lib.ListN.{length, getD}
 use Rattle.job.specs.Model.{Model}
 use Rattle.timeline.specs.Sorted.{recordIn, tickIn, Rising}
 use Rattle.orders.specs.Gaps.{strictly}
+use Rattle.partialize.specs.declared.rows.Groups.{Groups}
 use Rattle.partialize.specs.declared.rows.Point.{Point}
 use Rattle.partialize.specs.declared.rows.Point.the-variants.{Effect, Use, First, Last}
 use Rattle.partialize.specs.Table.{gapIn, Gaps}
@@ -26,6 +27,10 @@ pointAt m Last k = m .conditionTo k
 -- the key of the same fact with the other value
 abbrev pub otherKey : ℕ → ℕ
 otherKey key = key + 1 - 2 * (key % 2)
+
+-- a fact with a value against the same with the other value
+abbrev pub oppositeGroups : Point → ℕ → Point → ℕ → Groups
+oppositeGroups from key to wait = record { from = from; key = key; to = to; other = otherKey key; wait = wait }
 
 -- a key whose records are points of a job's steps, in the order of their ticks
 pub record Group (m : Model) (point : Point) (ticks sorted : List ℕ) (key : ℕ) : Type 0 where
