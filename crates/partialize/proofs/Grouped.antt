@@ -3,7 +3,7 @@ use Prim.Native.Nat.{ℕ, _+_, _*_, _-_, _≤_, _<_, max}
 use mathlib.Core.Path.{_≡_, refl, sym, ap, subst, _∙_}
 use mathlib.Core.Bool.{Bool, true, false, cond}
 use mathlib.Core.List.{List}
-use mathlib.Core.Logic.{_⊎_, inl, inr, ⊎-elim}
+use mathlib.Core.Logic.{inr}
 use native.Mathlib.Decide.{ℕ-discrete, decLt, decLe}
 use native.Mathlib.Omega.{arith}
 use borrow.Author.Tests.{eq-eqb, ne-eqb}
@@ -16,7 +16,7 @@ use Rattle.orders.specs.Gaps.{strictly}
 use Rattle.partialize.specs.declared.rows.Point.{Point}
 use Rattle.partialize.specs.Table.{gapIn, Gaps, single, Raised}
 use Rattle.partialize.specs.Points.{pointStep, pointAt, Group, Apart, Reached, Within, Later, After, From, Between, Leads, Ahead}
-use Rattle.partialize.proofs.Reached.{reached-none, reached-is, reached-one, within-empty}
+use Rattle.partialize.proofs.Reached.{reached-none, reached-is, reached-one}
 
 -- What is known of the record r at a place of a group.
 module _ {m : Model} {point : Point} {ticks sorted : List ℕ} {key : ℕ} (group : Group m point ticks sorted key) (p : ℕ) (from : getD sorted key 0 ≤ p) (to : p < getD sorted (key + 1) 0) {r : ℕ} (there : r ≡ recordIn sorted p) where

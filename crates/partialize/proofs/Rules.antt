@@ -12,20 +12,20 @@ use lib.ListN.{length, getD}
 use Rattle.laws.specs.Fold.{largest}
 use Rattle.laws.proofs.Fold.{largest-ge, largest-le}
 use Rattle.laws.proofs.Search.{and-both}
-use Rattle.job.specs.declared.index.Linking.the-variants.{EffectsByFact, ConditionsByFact, UsesByLevel}
+use Rattle.job.specs.declared.index.Linking.the-variants.{UsesByLevel}
 use Rattle.job.specs.Model.{Model}
-use Rattle.job.specs.WellFormed.{WellFormed}
 use Rattle.job.specs.Indexed.{factKey, levelKey, keyOf}
-use Rattle.timeline.specs.Sorted.{recordIn, tickIn, Sorted}
+use Rattle.timeline.specs.Sorted.{recordIn, Sorted}
 use Rattle.schedule.specs.Ticks.{effectTick, firstTick, lastTick, useTick, opposes}
 use Rattle.schedule.specs.Known.{EffectsKnown, ConditionsKnown, UsesKnown}
 use Rattle.schedule.specs.Valid.{Valid}
 use Rattle.orders.specs.Gaps.{strictly, opposingOrder, opposingGap, beforeOrder, afterOrder, conditionGap, levelOrder, levelGap}
 use Rattle.orders.proofs.Near.{effect-near, from-near, to-near, use-near}
+use Rattle.partialize.specs.declared.rows.Groups.{Groups}
 use Rattle.partialize.specs.declared.rows.Point.{Point}
 use Rattle.partialize.specs.declared.rows.Point.the-variants.{Effect, Use, First, Last}
 use Rattle.partialize.specs.Table.{Raised}
-use Rattle.partialize.specs.Points.{pointStep, pointAt, otherKey, Group, Apart, Reached, Within, Later, After, Between}
+use Rattle.partialize.specs.Points.{pointStep, pointAt, otherKey, oppositeGroups, Group, Reached, Within, After, Between}
 use Rattle.partialize.proofs.Reached.{reached-raised}
 
 -- the orders of a fact with a value against the other value: between effects, from effects to conditions, from conditions to effects
@@ -38,6 +38,24 @@ FactOrder m ticks sorted firsts conditions key i k gap =
 -- the orders of a level
 abbrev pub LevelOrder : Model → List ℕ → List ℕ → ℕ → ℕ → ℕ → ℕ → Type 0
 LevelOrder m ticks sorted key = Between m Use ticks sorted key Use ticks sorted key 1
+
+-- The groups that the code made of a fact's values.
+module _ {groups : Groups} (from : Point) (key : ℕ) (to : Point) (wait : ℕ) (e : groups ≡ oppositeGroups from key to wait) where
+  pub first-group : {m : Model} {ticks sorted : List ℕ} → Group m from ticks sorted key → Group m (groups .from) ticks sorted (groups .key)
+  first-group {m} {ticks} {sorted} w = subst (λ g. Group m (g .from) ticks sorted (g .key)) (sym e) w
+
+  pub second-group : {m : Model} {ticks sorted : List ℕ} → Group m to ticks sorted (otherKey key) → Group m (groups .to) ticks sorted (groups .other)
+  second-group {m} {ticks} {sorted} w = subst (λ g. Group m (g .to) ticks sorted (g .other)) (sym e) w
+
+  pub wait-short : wait ≤ 1 → groups .wait ≤ 1
+  wait-short h = subst (λ g. g .wait ≤ 1) (sym e) h
+
+  pub opposite-reached :
+      (n : ℕ) (m : Model) (ticks sorted others against before after : List ℕ)
+      → Reached n (Between m (groups .from) ticks sorted (groups .key) (groups .to) others against (groups .other) (groups .wait)) before after
+      → Reached n (Between m from ticks sorted key to others against (otherKey key) wait) before after
+  opposite-reached n m ticks sorted others against before after w =
+      subst (λ g. Reached n (Between m (g .from) ticks sorted (g .key) (g .to) others against (g .other) (g .wait)) before after) e w
 
 -- a test of four parts, all of which pass, or one of which fails
 four-pass : (a b c d : Bool) (v : ℕ) → a ≡ true → b ≡ true → c ≡ true → d ≡ true → cond (a && b && c && d) v 0 ≡ v

@@ -6,6 +6,7 @@ use lib.ListN.{length, getD}
 use Rattle.job.specs.Model.{Model}
 use Rattle.timeline.specs.Sorted.{recordIn, tickIn, Rising}
 use Rattle.orders.specs.Gaps.{strictly}
+use Rattle.partialize.specs.declared.rows.Groups.{Groups}
 use Rattle.partialize.specs.declared.rows.Point.{Point}
 use Rattle.partialize.specs.declared.rows.Point.the-variants.{Effect, Use, First, Last}
 use Rattle.partialize.specs.Table.{gapIn, Gaps}
@@ -27,6 +28,10 @@ pointAt m Last k = m .conditionTo k
 abbrev pub otherKey : ℕ → ℕ
 otherKey key = key + 1 - 2 * (key % 2)
 
+-- a fact with a value against the same with the other value
+abbrev pub oppositeGroups : Point → ℕ → Point → ℕ → Groups
+oppositeGroups from key to wait = record { from = from; key = key; to = to; other = otherKey key; wait = wait }
+
 -- a key whose records are points of a job's steps, in the order of their ticks
 pub record Group (m : Model) (point : Point) (ticks sorted : List ℕ) (key : ℕ) : Type 0 where
   pub low : key < 512
@@ -39,7 +44,7 @@ pub record Group (m : Model) (point : Point) (ticks sorted : List ℕ) (key : �
 abbrev pub Apart : ℕ → ℕ → ℕ → Type 0
 Apart n i k = (i < n) × (k < n) × (i ≡ k → ⊥)
 
--- a table raised to what orders say, each from i to k by a gap: an entry rises no further than one of them asks, and nothing else changes
+-- a table raised to what orders say, each from i to k by a gap: no entry rises further than one of them asks, and nothing else changes
 pub record Reached (n : ℕ) (Order : ℕ → ℕ → ℕ → Type 0) (before after : List ℕ) : Type 0 where
   pub whole : Gaps before → Gaps after
   pub rest : (i k : ℕ) → k < 64 → (Apart n i k → ⊥) → gapIn after i k ≡ gapIn before i k
@@ -72,7 +77,7 @@ abbrev pub Between : Model → Point → List ℕ → List ℕ → ℕ → Point
 Between m from ticks sorted key to others against other wait =
     Within (getD sorted key 0) (getD sorted (key + 1) 0) (From m from ticks sorted to others against other wait)
 
--- the leads of the steps: how much sooner than `at` + 100,001 the points from place `noted` to high let a step start at the latest
+-- the leads of the steps: the largest of 100,001 less how far in, over the points of a step from place `noted` to high; 0 for none
 pub record Leads (m : Model) (to : Point) (sorted : List ℕ) (noted high : ℕ) (leads : List ℕ) : Type 0 where
   pub size : length leads ≡ 64
   pub reaches :

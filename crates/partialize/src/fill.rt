@@ -13,6 +13,8 @@ ghost use Rattle.schedule.specs.Known.{EffectsKnown, ConditionsKnown, UsesKnown
 ghost use Rattle.schedule.specs.Valid.{Valid};
 ghost use Rattle.orders.specs.Gaps.{supportOrder, supportGap, opposingGap, conditionGap, levelGap, serialGap, gapOf};
 ghost use Rattle.partialize.specs.Table.{Gaps, single, Raised, TableOf, LinksOf, Named};
+ghost use Rattle.partialize.specs.Points.{oppositeGroups};
+use crate::rows::Groups;
 use crate::rows::Point;
 use crate::rows::raise;
 use crate::rows::raise_group;
@@ -63,6 +65,21 @@ fn fill_support(s: &[u8], job: Job, links: &[u16], gaps: &mut [u32])
     }
 }
 
+// A fact with a value against the same with the other value.
+fn opposite(from: Point, key: usize, to: Point, wait: usize) -> Groups
+    requires { ⌜ key < 512 ⌝ }
+    ensures { λ r. ⌜ r ≡ oppositeGroups from key to wait ⌝ }
+{
+    let other = key + 1 - 2 * (key % 2);
+    Groups {
+        from,
+        key,
+        to,
+        other,
+        wait,
+    }
+}
+
 // Rules 2 and 3 for each fact and value. A condition's last tick is looked for from its first: what opposes it and is not before the one
 // is after the other, as the schedule is valid.
 fn fill_facts(
@@ -81,49 +98,12 @@ fn fill_facts(
     let n = 2 * job.count.facts as usize;
     let mut key = 0;
     while key < n {
-        let other = key + 1 - 2 * (key % 2);
-        raise_group(
-            s,
-            job,
-            Point::Effect,
-            ticks,
-            sorted,
-            key,
-            Point::Effect,
-            ticks,
-            sorted,
-            other,
-            1,
-            gaps,
-        );
-        raise_group(
-            s,
-            job,
-            Point::Effect,
-            ticks,
-            sorted,
-            key,
-            Point::First,
-            firsts,
-            conditions,
-            other,
-            1,
-            gaps,
-        );
-        raise_group(
-            s,
-            job,
-            Point::Last,
-            firsts,
-            conditions,
-            key,
-            Point::Effect,
-            ticks,
-            sorted,
-            other,
-            0,
-            gaps,
-        );
+        let opposing = opposite(Point::Effect, key, Point::Effect, 1);
+        raise_group(s, job, opposing, ticks, sorted, ticks, sorted, gaps);
+        let before = opposite(Point::Effect, key, Point::First, 1);
+        raise_group(s, job, before, ticks, sorted, firsts, conditions, gaps);
+        let after = opposite(Point::Last, key, Point::Effect, 0);
+        raise_group(s, job, after, firsts, conditions, ticks, sorted, gaps);
         key += 1;
     }
 }
@@ -143,20 +123,14 @@ fn fill_levels(
     let n = job.count.levels as usize;
     let mut key = 0;
     while key < n {
-        raise_group(
-            s,
-            job,
-            Point::Use,
-            ticks,
-            sorted,
+        let groups = Groups {
+            from: Point::Use,
             key,
-            Point::Use,
-            ticks,
-            sorted,
-            key,
-            1,
-            gaps,
-        );
+            to: Point::Use,
+            other: key,
+            wait: 1,
+        };
+        raise_group(s, job, groups, ticks, sorted, ticks, sorted, gaps);
         key += 1;
     }
 }

@@ -2,11 +2,11 @@
 // group. Going back in time over it, what of the second lies far enough ahead only grows, and of a step only its largest lead matters.
 ghost use mathlib.Core.Path.{_≡_};
 ghost use mathlib.Core.Bool.{cond};
-ghost use Prim.Native.Nat.{ℕ, _+_, _-_, _≤_, _<_, max};
+ghost use Prim.Native.Nat.{ℕ, _+_, _-_, _≤_, _<_};
 ghost use lib.Dec.{eqb};
-ghost use lib.ListN.{length, getD, set};
+ghost use lib.ListN.{getD};
 ghost use Rattle.job.specs.Model.{view};
-ghost use Rattle.timeline.specs.Sorted.{tickIn, recordIn, Parts};
+ghost use Rattle.timeline.specs.Sorted.{tickIn, Parts};
 ghost use Rattle.orders.specs.Gaps as spec;
 ghost use Rattle.partialize.specs.Table.{Gaps, single, Raised};
 ghost use Rattle.partialize.specs.Points.{pointStep, pointAt, Group, Reached, After, Between, Leads, Ahead};
@@ -33,6 +33,15 @@ pub enum Point {
     Use,
     First,
     Last,
+}
+
+// Two groups: points of one kind and key, and points of another that are at least `wait` ticks later.
+pub struct Groups {
+    pub from: Point,
+    pub key: usize,
+    pub to: Point,
+    pub other: usize,
+    pub wait: usize,
 }
 
 fn step_of(s: &[u8], job: Job, point: Point, k: u16) -> u16
@@ -104,30 +113,29 @@ fn raise_after(
     }
 }
 
-// Each point of a key in turn.
+// Each point of the first group in turn.
 fn raise_pairs(
     s: &[u8],
     job: Job,
-    from: Point,
+    groups: Groups,
     ticks: &[usize],
     sorted: &[u16],
-    key: usize,
-    to: Point,
     others: &[usize],
     against: &[u16],
-    other: usize,
-    wait: usize,
     gaps: &mut [u32],
 )
-    requires { ⌜ Group (view job (now s)) from (now ticks) (now sorted) key × Group (view job (now s)) to (now others) (now against) other × Gaps (now gaps) × (job .count .steps ≤ 64) × (wait ≤ 1) ⌝ }
-    ensures { λ _. ⌜ Reached (job .count .steps) (Between (view job (now (s .entry))) from (now (ticks .entry)) (now (sorted .entry)) key to (now (others .entry)) (now (against .entry)) other wait) (now (gaps .entry)) (now (gaps .exit)) ⌝ }
+    requires { ⌜ Group (view job (now s)) (groups .from) (now ticks) (now sorted) (groups .key) × Group (view job (now s)) (groups .to) (now others) (now against) (groups .other) × Gaps (now gaps) × (job .count .steps ≤ 64) × (groups .wait ≤ 1) ⌝ }
+    ensures { λ _. ⌜ Reached (job .count .steps) (Between (view job (now (s .entry))) (groups .from) (now (ticks .entry)) (now (sorted .entry)) (groups .key) (groups .to) (now (others .entry)) (now (against .entry)) (groups .other) (groups .wait)) (now (gaps .entry)) (now (gaps .exit)) ⌝ }
 {
-    let mut p = begin_of(sorted, key);
-    while p < begin_of(sorted, key + 1) {
+    let from = groups.from;
+    let to = groups.to;
+    let other = groups.other;
+    let mut p = begin_of(sorted, groups.key);
+    while p < begin_of(sorted, groups.key + 1) {
         let k = record_at(sorted, p);
         let step = step_of(s, job, from, k);
         let at = at_of(s, job, from, k);
-        let t = ticks[k as usize] + wait;
+        let t = ticks[k as usize] + groups.wait;
         raise_after(s, job, step, at, to, others, against, other, t, gaps);
         p += 1;
     }
@@ -184,31 +192,30 @@ fn raise_row(gaps: &mut [u32], n: usize, step: usize, at: u32, leads: &[u32; 64]
     gaps[row + step] = own;
 }
 
-// Each point of a key, the latest first, by a row.
+// Each point of the first group, the latest first, by a row.
 fn raise_rows(
     s: &[u8],
     job: Job,
-    from: Point,
+    groups: Groups,
     ticks: &[usize],
     sorted: &[u16],
-    key: usize,
-    to: Point,
     others: &[usize],
     against: &[u16],
-    other: usize,
-    wait: usize,
     gaps: &mut [u32],
 )
-    requires { ⌜ Group (view job (now s)) from (now ticks) (now sorted) key × Group (view job (now s)) to (now others) (now against) other × Gaps (now gaps) × (job .count .steps ≤ 64) × (wait ≤ 1) ⌝ }
-    ensures { λ _. ⌜ Reached (job .count .steps) (Between (view job (now (s .entry))) from (now (ticks .entry)) (now (sorted .entry)) key to (now (others .entry)) (now (against .entry)) other wait) (now (gaps .entry)) (now (gaps .exit)) ⌝ }
+    requires { ⌜ Group (view job (now s)) (groups .from) (now ticks) (now sorted) (groups .key) × Group (view job (now s)) (groups .to) (now others) (now against) (groups .other) × Gaps (now gaps) × (job .count .steps ≤ 64) × (groups .wait ≤ 1) ⌝ }
+    ensures { λ _. ⌜ Reached (job .count .steps) (Between (view job (now (s .entry))) (groups .from) (now (ticks .entry)) (now (sorted .entry)) (groups .key) (groups .to) (now (others .entry)) (now (against .entry)) (groups .other) (groups .wait)) (now (gaps .entry)) (now (gaps .exit)) ⌝ }
 {
+    let from = groups.from;
+    let to = groups.to;
+    let other = groups.other;
     let mut leads = [0u32; 64];
     let mut noted = begin_of(against, other + 1);
-    let mut p = begin_of(sorted, key + 1);
-    while begin_of(sorted, key) < p {
+    let mut p = begin_of(sorted, groups.key + 1);
+    while begin_of(sorted, groups.key) < p {
         p -= 1;
         let k = record_at(sorted, p);
-        let t = ticks[k as usize] + wait;
+        let t = ticks[k as usize] + groups.wait;
         noted = note_from(s, job, to, others, against, other, noted, t, &mut leads);
         let step = step_of(s, job, from, k) as usize;
         let at = at_of(s, job, from, k) as u32;
@@ -216,58 +223,28 @@ fn raise_rows(
     }
 }
 
-// Orders each point of a key before those points of another that are at least `wait` ticks later.
+// Orders the points of the first group before those of the second.
 pub fn raise_group(
     s: &[u8],
     job: Job,
-    from: Point,
+    groups: Groups,
     ticks: &[usize],
     sorted: &[u16],
-    key: usize,
-    to: Point,
     others: &[usize],
     against: &[u16],
-    other: usize,
-    wait: usize,
     gaps: &mut [u32],
 )
-    requires { ⌜ Group (view job (now s)) from (now ticks) (now sorted) key × Group (view job (now s)) to (now others) (now against) other × Gaps (now gaps) × (job .count .steps ≤ 64) × (wait ≤ 1) ⌝ }
-    ensures { λ _. ⌜ Reached (job .count .steps) (Between (view job (now (s .entry))) from (now (ticks .entry)) (now (sorted .entry)) key to (now (others .entry)) (now (against .entry)) other wait) (now (gaps .entry)) (now (gaps .exit)) ⌝ }
+    requires { ⌜ Group (view job (now s)) (groups .from) (now ticks) (now sorted) (groups .key) × Group (view job (now s)) (groups .to) (now others) (now against) (groups .other) × Gaps (now gaps) × (job .count .steps ≤ 64) × (groups .wait ≤ 1) ⌝ }
+    ensures { λ _. ⌜ Reached (job .count .steps) (Between (view job (now (s .entry))) (groups .from) (now (ticks .entry)) (now (sorted .entry)) (groups .key) (groups .to) (now (others .entry)) (now (against .entry)) (groups .other) (groups .wait)) (now (gaps .entry)) (now (gaps .exit)) ⌝ }
 {
-    let begin = begin_of(against, other);
-    let end = begin_of(against, other + 1);
+    let begin = begin_of(against, groups.other);
+    let end = begin_of(against, groups.other + 1);
     if end <= begin {
         return;
     }
     if end - begin < MANY {
-        raise_pairs(
-            s,
-            job,
-            from,
-            ticks,
-            sorted,
-            key,
-            to,
-            others,
-            against,
-            other,
-            wait,
-            gaps,
-        );
+        raise_pairs(s, job, groups, ticks, sorted, others, against, gaps);
     } else {
-        raise_rows(
-            s,
-            job,
-            from,
-            ticks,
-            sorted,
-            key,
-            to,
-            others,
-            against,
-            other,
-            wait,
-            gaps,
-        );
+        raise_rows(s, job, groups, ticks, sorted, others, against, gaps);
     }
 }

@@ -1,10 +1,10 @@
 -- Each fact and value in turn.
-use Prim.Native.Nat.{_+_, _*_, _-_, _≤_, _<_}
+use Prim.Native.Nat.{_-_, _≤_}
 use native.Mathlib.Omega.{arith}
 use Rattle.job.specs.Model.{view}
 use Rattle.partialize.specs.Points.{Reached, Within}
 use Rattle.partialize.proofs.Reached.{reached-either, within-up, within-to, within-empty}
-use Rattle.partialize.proofs.Rules.{FactOrder, effects-group, firsts-group, lasts-group, facts-raised}
+use Rattle.partialize.proofs.Rules.{FactOrder, first-group, second-group, wait-short, opposite-reached, effects-group, firsts-group, lasts-group, facts-raised}
 use borrow.Author.Needs.{needs}
 use Rattle.partialize.proofs.fill.fill_facts.Statement.{statement}
 use Rattle.partialize.proofs.fill.fill_facts.Tie as tie
@@ -18,14 +18,14 @@ fill-facts-spec =
     (λ c. search needs)
     (λ c. search needs)
     (λ c. (omega arith, within-empty _ _ _ _ _ (omega arith)))
-    (λ c. omega (arith, c .loop-test .taken, c .before .before .before .before .before .before .before .before .before .before .pre .0 .form .factCount))
-    (λ c. omega arith)
-    (λ c. omega arith)
-    (λ c κs. let d = c .before .before .before .before .before .before .before .before .before .before .before in let l = c .before .before .loop in (effects-group (d .pre .0) _ (c .before .loop-test .taken), effects-group (d .pre .0) _ (omega (arith, c .before .loop-test .taken)), l .inv .1 .whole (d .pre .3), d .pre .0 .form .stepCount, omega arith))
-    (λ c κs. let d = c .before .before .before .before .before .before .before .before .before .before .before .before .before .before .before in let l = c .before .before .before .before .before .before .loop in (effects-group (d .pre .0) _ (c .before .before .before .before .before .loop-test .taken), firsts-group (d .pre .0) (d .pre .1) _ (omega (arith, c .before .before .before .before .before .loop-test .taken)), c .before .before .before .raise-group .ensures .whole (l .inv .1 .whole (d .pre .3)), d .pre .0 .form .stepCount, omega arith))
-    (λ c κs. let d = c .before .before .before .before .before .before .before .before .before .before .before .before .before .before .before .before .before .before .before in let l = c .before .before .before .before .before .before .before .before .before .before .loop in (lasts-group (d .pre .0) (d .pre .1) _ (c .before .before .before .before .before .before .before .before .before .loop-test .taken), effects-group (d .pre .0) _ (omega (arith, c .before .before .before .before .before .before .before .before .before .loop-test .taken)), c .before .before .before .raise-group2 .ensures .whole (c .before .before .before .before .before .before .before .raise-group .ensures .whole (l .inv .1 .whole (d .pre .3))), d .pre .0 .form .stepCount, omega arith))
-    (λ c. omega (arith, c .before .before .before .before .before .before .before .before .before .before .before .before .loop-test .taken, c .before .before .before .before .before .before .before .before .before .before .before .before .before .before .before .before .before .before .before .before .before .before .pre .0 .form .factCount))
-    (λ c. omega (arith, c .before .before .before .before .before .before .before .before .before .before .before .before .loop-test .taken))
-    (λ c. (omega (arith, c .before .before .before .before .before .before .before .before .before .before .before .before .loop-test .taken), within-up _ _ _ _ _ _ _ (omega arith) (c .before .before .before .before .before .before .before .before .before .before .before .before .before .loop .inv .1) (reached-either _ _ _ _ _ _ (c .before .before .before .before .before .before .before .before .before .before .raise-group .ensures) (reached-either _ _ _ _ _ _ (c .before .before .before .before .before .before .raise-group2 .ensures) (c .before .before .raise-group3 .ensures)))))
+    (λ c κs. omega (arith, c .loop-test .taken, c .before .before .before .before .before .before .before .before .before .before .pre .0 .form .factCount))
+    (λ c κs. let d = c .before .before .before .before .before .before .before .before .before .before .before .before in let l = c .before .before .before .loop in let e = c .before .opposite .ensures in (first-group _ _ _ _ e (effects-group (d .pre .0) _ (c .before .before .loop-test .taken)), second-group _ _ _ _ e (effects-group (d .pre .0) _ (omega (arith, c .before .before .loop-test .taken))), l .inv .1 .whole (d .pre .3), d .pre .0 .form .stepCount, wait-short _ _ _ _ e (omega arith)))
+    (λ c κs. omega (arith, c .before .before .before .before .before .loop-test .taken, c .before .before .before .before .before .before .before .before .before .before .before .before .before .before .before .pre .0 .form .factCount))
+    (λ c κs. let d = c .before .before .before .before .before .before .before .before .before .before .before .before .before .before .before .before .before in let l = c .before .before .before .before .before .before .before .before .loop in let e = c .before .opposite2 .ensures in (first-group _ _ _ _ e (effects-group (d .pre .0) _ (c .before .before .before .before .before .before .before .loop-test .taken)), second-group _ _ _ _ e (firsts-group (d .pre .0) (d .pre .1) _ (omega (arith, c .before .before .before .before .before .before .before .loop-test .taken))), c .before .before .before .before .raise-group .ensures .whole (l .inv .1 .whole (d .pre .3)), d .pre .0 .form .stepCount, wait-short _ _ _ _ e (omega arith)))
+    (λ c κs. omega (arith, c .before .before .before .before .before .before .before .before .before .before .loop-test .taken, c .before .before .before .before .before .before .before .before .before .before .before .before .before .before .before .before .before .before .before .before .pre .0 .form .factCount))
+    (λ c κs. let d = c .before .before .before .before .before .before .before .before .before .before .before .before .before .before .before .before .before .before .before .before .before .before in let l = c .before .before .before .before .before .before .before .before .before .before .before .before .before .loop in let e = c .before .opposite3 .ensures in (first-group _ _ _ _ e (lasts-group (d .pre .0) (d .pre .1) _ (c .before .before .before .before .before .before .before .before .before .before .before .before .loop-test .taken)), second-group _ _ _ _ e (effects-group (d .pre .0) _ (omega (arith, c .before .before .before .before .before .before .before .before .before .before .before .before .loop-test .taken))), c .before .before .before .before .raise-group2 .ensures .whole (c .before .before .before .before .before .before .before .before .before .raise-group .ensures .whole (l .inv .1 .whole (d .pre .3))), d .pre .0 .form .stepCount, wait-short _ _ _ _ e (omega arith)))
+    (λ c. omega (arith, c .before .before .before .before .before .before .before .before .before .before .before .before .before .before .before .loop-test .taken, c .before .before .before .before .before .before .before .before .before .before .before .before .before .before .before .before .before .before .before .before .before .before .before .before .before .pre .0 .form .factCount))
+    (λ c. omega (arith, c .before .before .before .before .before .before .before .before .before .before .before .before .before .before .before .loop-test .taken))
+    (λ c. let d = c .before .before .before .before .before .before .before .before .before .before .before .before .before .before .before .before .before .before .before .before .before .before .before .before .before in (omega (arith, c .before .before .before .before .before .before .before .before .before .before .before .before .before .before .before .loop-test .taken), within-up _ _ _ _ _ _ _ (omega arith) (c .before .before .before .before .before .before .before .before .before .before .before .before .before .before .before .before .loop .inv .1) (reached-either _ _ _ _ _ _ (opposite-reached _ _ _ _ (c .before .before .before .before .before .before .before .before .before .before .before .before .before .before .opposite .ensures) _ (view (d .args .job) (d .args .s .now)) (d .args .ticks .now) (d .args .sorted .now) (d .args .ticks .now) (d .args .sorted .now) _ _ (c .before .before .before .before .before .before .before .before .before .before .before .before .raise-group .ensures)) (reached-either _ _ _ _ _ _ (opposite-reached _ _ _ _ (c .before .before .before .before .before .before .before .before .before .opposite2 .ensures) _ (view (d .args .job) (d .args .s .now)) (d .args .ticks .now) (d .args .sorted .now) (d .args .firsts .now) (d .args .conditions .now) _ _ (c .before .before .before .before .before .before .before .raise-group2 .ensures)) (opposite-reached _ _ _ _ (c .before .before .before .before .opposite3 .ensures) _ (view (d .args .job) (d .args .s .now)) (d .args .firsts .now) (d .args .conditions .now) (d .args .ticks .now) (d .args .sorted .now) _ _ (c .before .before .raise-group3 .ensures))))))
     (λ c. let d = c .before .before .before .before .before .before .before .before .before .before in omega (arith, c .before .loop .inv .1 .whole (d .pre .3) .size, d .pre .3 .size))
     (λ c. let d = c .before .before .before .before .before .before .before .before .before .before in facts-raised (d .pre .0) (d .pre .1) (d .pre .2) _ _ (within-to _ _ _ _ _ _ _ (omega (arith, c .before .loop .inv .0, c .loop-test .left)) (c .before .loop .inv .1))))

@@ -1,5 +1,5 @@
 -- Each level in turn.
-use Prim.Native.Nat.{_+_, _-_, _≤_, _<_}
+use Prim.Native.Nat.{_-_, _≤_}
 use native.Mathlib.Omega.{arith}
 use Rattle.job.specs.Model.{view}
 use Rattle.partialize.specs.Points.{Reached, Within}
