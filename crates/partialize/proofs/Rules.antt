@@ -125,6 +125,7 @@ group-of m point {ticks = ticks} {sorted = sorted} s few most size low step near
             begins = o .begins;
             ends = omega (arith, s .ends f h);
             known = λ p a b. omega (arith, o .holds p a b .0);
+            early = λ p a b. low (recordIn sorted p) (o .holds p a b .0);
             rises = λ p q a b c. o .rises p q a b c .0;
           };
       timed = λ p a b. low (recordIn sorted p) (o .holds p a b .0);
