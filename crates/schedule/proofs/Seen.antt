@@ -79,9 +79,6 @@ module _ (m : Model) (x : ℕ → ℕ) (fact : ℕ) where
       (λ (w : LastGiver m x fact v t). omega (arith, h (w .0) (w .1) (w .2), w .3))
       (lastSet-at v t)
 
-  pub lastSet-le-tick : (v t : ℕ) → lastSet m x fact v t ≤ t
-  lastSet-le-tick v t = lastSet-le v t t (λ e g h. h)
-
   -- where every giver before t lies before t', the last one is no later there
   pub lastSet-grows :
       (v t t' : ℕ) → ((e : ℕ) → Giver m fact v e → effectTick m x e < t → effectTick m x e < t')
