@@ -15,13 +15,14 @@ use Rattle.job.specs.declared.index.Linking.the-variants.{EffectsByFact}
 use Rattle.job.specs.Model.{Model}
 use Rattle.job.specs.WellFormed.{WellFormed}
 use Rattle.job.specs.Indexed.{factKey, keyOf}
-use Rattle.timeline.specs.Sorted.{recordIn, Rising, Parts}
+use Rattle.timeline.specs.Sorted.{recordIn, tickIn, Rising, Parts}
 use Rattle.timeline.proofs.Searching.{parts-when}
 use Rattle.timeline.proofs.Scanning.{key-rising, key-holds, latest-none, latest-some, scanned-start, scanned-end}
 use Rattle.schedule.specs.Ticks.{effectTick, firstTick, lastTick, opposes, ofAnother, gives}
-use Rattle.schedule.specs.Seen.{setAt, lastSet}
+use Rattle.schedule.specs.Seen.{setAt, lastSet, seen}
 use Rattle.schedule.specs.Checks.{meets, breaks, undoes}
 use Rattle.schedule.specs.Known.{EffectsKnown}
+use Rattle.schedule.proofs.Seen.{seen-later, seen-tied}
 use Rattle.schedule.proofs.Known.{gives-key, key-gives, opposes-key, key-opposes, passed-over}
 
 -- What an effect with the key of a fact and a value, and what any other, adds to the latest tick at which that was given.
@@ -85,7 +86,7 @@ module _ {m : Model} {x : ℕ → ℕ} {ticks sorted : List ℕ} (known : Effect
       omega (arith, known .form .effectCount)
 
   -- the latest tick before t at which the fact is given the value
-  module _ (fact value : ℕ) (f : fact < m .facts) (b : value ≤ 1) (t : ℕ) {v r begin : ℕ} (key : v ≡ factKey fact value) (parts : Parts ticks sorted (getD sorted v 0) (getD sorted (v + 1) 0) t r) (first : begin ≡ getD sorted v 0) where
+  module _ (fact value : ℕ) (f : fact < m .facts) (b : value ≤ 1) (t : ℕ) {v r : ℕ} (key : v ≡ factKey fact value) (parts : Parts ticks sorted (getD sorted v 0) (getD sorted (v + 1) 0) t r) where
     listed : v < 2 * m .facts
     listed = key-listed fact value f b key
 
@@ -95,13 +96,32 @@ module _ {m : Model} {x : ℕ → ℕ} {ticks sorted : List ℕ} (known : Effect
     other : (k : ℕ) → k < m .effects → (keyOf m EffectsByFact k ≡ v → ⊥) → setAt m x fact value t k ≡ 0
     other k l e = not-given m x fact value t k (λ q. e (q ∙ sym key))
 
-    pub given-none : r ≤ begin → 0 ≡ lastSet m x fact value t
+    given-none : r ≤ getD sorted v 0 → 0 ≡ lastSet m x fact value t
     unfolding lastSet
-    given-none h = latest-none (known .ordered) v listed (setAt m x fact value t) t own other first parts h
+    given-none h = latest-none (known .ordered) v listed (setAt m x fact value t) t own other refl parts h
 
-    pub given-last : begin < r → {k : ℕ} → k ≡ recordIn sorted (r - 1) → getD ticks k 0 + 1 ≡ lastSet m x fact value t
+    given-last : getD sorted v 0 < r → tickIn ticks sorted (r - 1) + 1 ≡ lastSet m x fact value t
     unfolding lastSet
-    given-last h e = latest-some (known .ordered) v listed (setAt m x fact value t) t own other first parts h e
+    given-last h = latest-some (known .ordered) v listed (setAt m x fact value t) t own other refl parts h refl
+
+    pub given-at : {w : ℕ} → w ≡ cond (ltb (getD sorted v 0) r) (tickIn ticks sorted (r - 1) + 1) 0 → w ≡ lastSet m x fact value t
+    given-at e =
+        elim (decLt (getD sorted v 0) r) [
+          | yes h ↦ e ∙ ap (λ c. cond c (tickIn ticks sorted (r - 1) + 1) 0) (lt-ltb (getD sorted v 0) r h) ∙ given-last h
+          | no h ↦ e ∙ ap (λ c. cond c (tickIn ticks sorted (r - 1) + 1) 0) (le-ltb (getD sorted v 0) r (omega arith)) ∙ given-none (omega arith)
+        ]
+
+    -- what stands before the place is an effect, and its tick is known
+    pub given-ready : (length sorted ≡ 1025) × (v < 512) × (r ≤ 512) × (getD sorted v 0 < r → (recordIn sorted (r - 1) < length ticks) × (tickIn ticks sorted (r - 1) < 8589934592))
+    given-ready =
+        let searched = key-searched v listed in
+        let ends : getD sorted (v + 1) 0 ≤ 512 = searched .2 .ends in
+        let within : r ≤ getD sorted (v + 1) 0 = parts .to in (
+          searched .0,
+          searched .1,
+          omega arith,
+          λ h. (searched .2 .known (r - 1) (omega arith) (omega arith), searched .2 .early (r - 1) (omega arith) (omega arith)),
+        )
 
   -- what meets effect e has the key of its fact and the other value, and e's tick
   module _ (e : ℕ) (h : e < m .effects) {v tick : ℕ} (key : v ≡ factKey (m .effectFact e) (1 - m .effectValue e)) (at : tick ≡ getD ticks e 0) where
@@ -211,4 +231,26 @@ goal-search {m} {x} {ticks} {sorted} known g h {v} {deadline} {r} {end} key due 
     elim (decLt r end) [
       | yes l ↦ lt-ltb r end l ∙ undone known g h key at (omega arith)
       | no l ↦ le-ltb r end (omega arith) ∙ not-undone known g h key at (omega arith)
+    ]
+
+-- whether a fact has a value, by the last ticks at which it was given that value and the other
+pub held : (m : Model) (x : ℕ → ℕ) (fact value t : ℕ) → value ≤ 1 → {given opposed : ℕ} {r : Bool} → given ≡ lastSet m x fact value t → opposed ≡ lastSet m x fact (1 - value) t → r ≡ cond (ltb opposed given) true (cond (ltb given opposed) false (eqb (m .initial fact) value)) → r ≡ eqb (seen m x fact t) value
+held m x fact value t b {given} {opposed} g o e =
+    elim (decLt opposed given) [
+      | yes l ↦
+          let s : seen m x fact t ≡ value = seen-later m x fact value t b (omega arith) in
+          e ∙ ap (λ c. cond c true (cond (ltb given opposed) false (eqb (m .initial fact) value))) (lt-ltb opposed given l) ∙ sym (eq-eqb (seen m x fact t) value s)
+      | no l ↦
+          e
+          ∙ ap (λ c. cond c true (cond (ltb given opposed) false (eqb (m .initial fact) value))) (le-ltb opposed given (omega arith))
+          ∙ elim (decLt given opposed) [
+            | yes h ↦
+                let twice : 1 - (1 - value) ≡ value = omega arith in
+                let back : lastSet m x fact (1 - (1 - value)) t ≡ lastSet m x fact value t = ap (λ v. lastSet m x fact v t) twice in
+                let s : seen m x fact t ≡ 1 - value = seen-later m x fact (1 - value) t (omega arith) (omega arith) in
+                ap (λ c. cond c false (eqb (m .initial fact) value)) (lt-ltb given opposed h) ∙ sym (ne-eqb (seen m x fact t) value (λ q. omega arith))
+            | no h ↦
+                let s : seen m x fact t ≡ m .initial fact = seen-tied m x fact value t b (omega arith) in
+                ap (λ c. cond c false (eqb (m .initial fact) value)) (le-ltb given opposed (omega arith)) ∙ ap (λ v. eqb v value) (sym s)
+          ]
     ]

@@ -86,7 +86,7 @@ module _ (m : Model) (x : ℕ → ℕ) (fact : ℕ) where
   lastSet-grows v t t' h = lastSet-le v t (lastSet m x fact v t') (λ e g l. lastSet-ge v t' e g (h e g l))
 
   -- the later of the two values is seen, and the initial value where neither is later
-  seen-later : (v t : ℕ) → v ≤ 1 → lastSet m x fact (1 - v) t < lastSet m x fact v t → seen m x fact t ≡ v
+  pub seen-later : (v t : ℕ) → v ≤ 1 → lastSet m x fact (1 - v) t < lastSet m x fact v t → seen m x fact t ≡ v
   unfolding seen
   seen-later zero t b h = simp (lt-ltb _ _ h, le-ltb (lastSet m x fact 0 t) (lastSet m x fact 1 t) (omega arith))
   seen-later (suc zero) t b h = simp (lt-ltb _ _ h)
@@ -99,7 +99,7 @@ module _ (m : Model) (x : ℕ → ℕ) (fact : ℕ) where
       let o = lastSet m x fact 1 t in
       rw (le-ltb z o (omega arith), le-ltb o z (omega arith))
 
-  seen-tied : (v t : ℕ) → v ≤ 1 → lastSet m x fact (1 - v) t ≡ lastSet m x fact v t → seen m x fact t ≡ m .initial fact
+  pub seen-tied : (v t : ℕ) → v ≤ 1 → lastSet m x fact (1 - v) t ≡ lastSet m x fact v t → seen m x fact t ≡ m .initial fact
   seen-tied zero t b h = tied t (sym h)
   seen-tied (suc zero) t b h = tied t h
   seen-tied (suc (suc v)) t b h = absurd (omega arith)

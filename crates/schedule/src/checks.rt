@@ -1,9 +1,12 @@
 // The rules of a sound timing, one test each, and the search for the lowest that breaks one.
 ghost use mathlib.Core.Path.{_≡_};
-ghost use Prim.Native.Nat.{_<_};
+ghost use Prim.Native.Nat.{_+_, _-_, _<_};
+ghost use lib.ListN.{getD};
 ghost use Rattle.laws.specs.Search.{any, lowest};
 ghost use Rattle.job.specs.Model.{view};
-ghost use Rattle.schedule.specs.Ticks.{scheduleOf};
+ghost use Rattle.job.specs.Indexed.{factKey};
+ghost use Rattle.timeline.specs.Sorted.{Parts};
+ghost use Rattle.schedule.specs.Ticks.{scheduleOf, firstTick};
 ghost use Rattle.schedule.specs.Checks as spec;
 ghost use Rattle.schedule.specs.Checks.{conditionFails, levelFails, goalFails};
 ghost use Rattle.schedule.specs.Seen.{afterAll};
@@ -12,6 +15,8 @@ use crate::bounds::Changes;
 use crate::bounds::changes_at;
 use crate::bounds::in_bounds;
 use crate::ticks::*;
+use crate::values::given_before;
+use crate::values::holds;
 use crate::values::other;
 use crate::values::value_seen;
 use job::index::fact_key;
@@ -99,13 +104,22 @@ fn breaks(
     }
 }
 
-fn any_breaks(s: &[u8], job: Job, starts: &[u32], ticks: &[usize], sorted: &[u16], c: u16) -> bool
-    requires { ⌜ EffectsKnown (view job (now s)) (scheduleOf (now starts)) (now ticks) (now sorted) × (c < job .count .conditions) ⌝ }
+// Whether an effect breaks condition c, of those that oppose it from place `from` on, where its first tick begins.
+fn any_breaks(
+    s: &[u8],
+    job: Job,
+    starts: &[u32],
+    ticks: &[usize],
+    sorted: &[u16],
+    c: u16,
+    key: usize,
+    from: usize,
+) -> bool
+    requires { ⌜ EffectsKnown (view job (now s)) (scheduleOf (now starts)) (now ticks) (now sorted) × (c < job .count .conditions) × (key ≡ factKey (view job (now s) .conditionFact c) (1 - view job (now s) .conditionValue c)) × Parts (now ticks) (now sorted) (getD (now sorted) key 0) (getD (now sorted) (key + 1) 0) (firstTick (view job (now s)) (scheduleOf (now starts)) c) from ⌝ }
     ensures { λ r. ⌜ r ≡ any (job .count .effects) (spec.breaks (view job (now (s .entry))) (scheduleOf (now (starts .entry))) c) ⌝ }
 {
-    let key = fact_key(condition_fact(s, job, c), other(condition_value(s, job, c)));
     let last = last_tick(s, job, starts, c);
-    let mut p = place_from(ticks, sorted, key, first_tick(s, job, starts, c));
+    let mut p = from;
     while p < begin_of(sorted, key + 1) {
         let e = record_at(sorted, p);
         if last < ticks[e as usize] {
@@ -131,9 +145,16 @@ fn condition_fails(
     ensures { λ r. ⌜ r ≡ conditionFails (view job (now (s .entry))) (scheduleOf (now (starts .entry))) c ⌝ }
 {
     let fact = condition_fact(s, job, c);
+    let value = condition_value(s, job, c);
     let first = first_tick(s, job, starts, c);
-    (value_seen(s, job, starts, ticks, sorted, fact, first) != condition_value(s, job, c))
-        | any_breaks(s, job, starts, ticks, sorted, c)
+    let own = fact_key(fact, value);
+    let q = place_from(ticks, sorted, own, first);
+    let given = given_before(ticks, sorted, own, q);
+    let against = fact_key(fact, other(value));
+    let p = place_from(ticks, sorted, against, first);
+    let opposed = given_before(ticks, sorted, against, p);
+    !holds(s, job, fact, value, given, opposed)
+        | any_breaks(s, job, starts, ticks, sorted, c, against, p)
 }
 
 // Tick by tick, with what the level's uses at earlier ticks add and take.

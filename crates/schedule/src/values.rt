@@ -1,6 +1,10 @@
 // The value of a fact that is seen at a tick.
 ghost use mathlib.Core.Path.{_≡_};
-ghost use Prim.Native.Nat.{max, _-_, _≤_, _<_};
+ghost use Prim.Native.Nat.{max, _+_, _-_, _≤_, _<_};
+ghost use mathlib.Core.Bool.{true, false, cond};
+ghost use lib.Dec.{eqb, ltb};
+ghost use lib.ListN.{length, getD};
+ghost use Rattle.timeline.specs.Sorted.{recordIn, tickIn};
 ghost use Rattle.job.specs.Model.{view};
 ghost use Rattle.schedule.specs.Ticks.{scheduleOf, effectTick};
 ghost use Rattle.schedule.specs.Seen.{lastSet, seen, afterAll};
@@ -25,6 +29,18 @@ pub fn larger(a: usize, b: usize) -> usize
     if a < b { b } else { a }
 }
 
+// One more than the tick of what stands before place p of a key; 0 where nothing does.
+pub fn given_before(ticks: &[usize], sorted: &[u16], key: usize, p: usize) -> usize
+    requires { ⌜ (length (now sorted) ≡ 1025) × (key < 512) × (p ≤ 512) × (getD (now sorted) key 0 < p → (recordIn (now sorted) (p - 1) < length (now ticks)) × (tickIn (now ticks) (now sorted) (p - 1) < 8589934592)) ⌝ }
+    ensures { λ r. ⌜ r ≡ cond (ltb (getD (now (sorted .entry)) key 0) p) (tickIn (now (ticks .entry)) (now (sorted .entry)) (p - 1) + 1) 0 ⌝ }
+{
+    if begin_of(sorted, key) < p {
+        ticks[record_at(sorted, p - 1) as usize] + 1
+    } else {
+        0
+    }
+}
+
 // One more than the latest tick before t at which an effect gives the fact that value; 0 for none.
 pub fn last_given(
     s: &[u8],
@@ -41,11 +57,7 @@ pub fn last_given(
 {
     let key = fact_key(fact, value);
     let p = place_from(ticks, sorted, key, t);
-    if begin_of(sorted, key) < p {
-        ticks[record_at(sorted, p - 1) as usize] + 1
-    } else {
-        0
-    }
+    given_before(ticks, sorted, key, p)
 }
 
 // The value of a fact seen at tick t.
@@ -69,6 +81,19 @@ pub fn value_seen(
         0
     } else {
         fact_initial(s, job, fact)
+    }
+}
+
+// Whether a fact has a value, by one more than the last ticks at which it was given that value and the other.
+pub fn holds(s: &[u8], job: Job, fact: u16, value: u16, given: usize, opposed: usize) -> bool
+    ensures { λ r. ⌜ r ≡ cond (ltb opposed given) true (cond (ltb given opposed) false (eqb (view job (now (s .entry)) .initial fact) value)) ⌝ }
+{
+    if opposed < given {
+        true
+    } else if given < opposed {
+        false
+    } else {
+        fact_initial(s, job, fact) == value
     }
 }
 

@@ -1,14 +1,13 @@
 -- Of the effects that give the fact the other value, those from the condition's first tick to its last are looked at.
 use Prim.Native.Nat.{_+_, _-_}
-use mathlib.Core.Path.{refl, sym, _∙_}
+use mathlib.Core.Path.{refl}
 use native.Mathlib.Omega.{arith}
 use lib.ListN.{getD}
 use Rattle.job.specs.Model.{view}
-use Rattle.timeline.proofs.Searching.{parts-when}
 use Rattle.timeline.proofs.Scanning.{Scanned, scanned-start, scanned-more, scanned-hit, scanned-end, scanned-past}
 use Rattle.schedule.specs.Ticks.{scheduleOf, firstTick}
 use Rattle.schedule.specs.Checks as spec
-use Rattle.schedule.proofs.Searches.{key-listed, key-searched, place-counted, place-low, opposing-key, breaks-only, breaks-until}
+use Rattle.schedule.proofs.Searches.{key-listed, key-searched, place-counted, place-low, breaks-only, breaks-until}
 use borrow.Author.Needs.{needs}
 use Rattle.schedule.proofs.checks.any_breaks.Statement.{statement}
 use Rattle.schedule.proofs.checks.any_breaks.Tie as tie
@@ -17,26 +16,20 @@ pub any-breaks-spec : {M : Type 1} → statement M
 any-breaks-spec =
     tie.close
     (tie.spec
-    (λ s job starts ticks sorted c key last p₀ p. Scanned ticks sorted key (spec.breaks (view job s) (scheduleOf starts) c) (firstTick (view job s) (scheduleOf starts) c) p₀ p)
-    (λ s job starts ticks sorted c key last p₀ p. getD sorted (key + 1) 0 - p)
+    (λ s job starts ticks sorted c key from last p₀ p. Scanned ticks sorted key (spec.breaks (view job s) (scheduleOf starts) c) (firstTick (view job s) (scheduleOf starts) c) from p)
+    (λ s job starts ticks sorted c key from last p₀ p. getD sorted (key + 1) 0 - p)
     (λ c κs. search needs)
-    (λ c κs. search needs)
-    (λ c κs. search needs)
-    (λ c κs. search needs)
-    (λ c κs. search needs)
-    (λ c κs. search needs)
-    (λ c κs. let p = c .before .before .before .before .before .before .before .before .before .before .pre in let k = opposing-key (c .before .before .fact-key .ensures) (c .before .before .before .before .before .condition-fact .ensures) (c .before .before .before .other .ensures) (c .before .before .before .before .condition-value .ensures) in let l = key-listed (p .0) _ _ (p .0 .form .conditionFact _ (p .1)) (omega arith) (k .0) in key-searched (p .0) _ l)
-    (λ c. let p = c .before .before .before .before .before .before .before .before .before .before .before .pre in let k = opposing-key (c .before .before .before .fact-key .ensures) (c .before .before .before .before .before .before .condition-fact .ensures) (c .before .before .before .before .other .ensures) (c .before .before .before .before .before .condition-value .ensures) in let l = key-listed (p .0) _ _ (p .0 .form .conditionFact _ (p .1)) (omega arith) (k .0) in scanned-start (p .0 .ordered) _ l _ _ (parts-when (c .before .first-tick .ensures .0) (c .place-from .ensures)))
-    (λ c. search needs)
-    (λ c κs. (c .before .before .before .before .before .before .before .before .before .before .before .before .pre .0 .ordered .size, omega (arith, c .before .before .before .before .fact-key .ensures .1)))
-    (λ c κs. let p = c .before .before .before .before .before .before .before .before .before .before .before .before .before .before .pre in let k = opposing-key (c .before .before .before .before .before .before .fact-key .ensures) (c .before .before .before .before .before .before .before .before .before .condition-fact .ensures) (c .before .before .before .before .before .before .before .other .ensures) (c .before .before .before .before .before .before .before .before .condition-value .ensures) in let l = key-listed (p .0) _ _ (p .0 .form .conditionFact _ (p .1)) (omega arith) (k .0) in (p .0 .ordered .size, place-low (p .0) _ l _ (omega (arith, c .if1 .taken, c .before .begin-of .ensures))))
+    (λ c. let p = c .before .before .before .before .before .pre in let l = key-listed (p .0) _ _ (p .0 .form .conditionFact _ (p .1)) (omega arith) (p .2) in scanned-start (p .0 .ordered) _ l _ _ (p .3))
+    (λ c. let p = c .before .before .before .before .before .before .pre in let l = key-listed (p .0) _ _ (p .0 .form .conditionFact _ (p .1)) (omega arith) (p .2) in search (needs, key-searched (p .0) (c .before .before .before .before .before .before .args .key) l .1))
+    (λ c κs. let p = c .before .before .before .before .before .before .pre in let l = key-listed (p .0) _ _ (p .0 .form .conditionFact _ (p .1)) (omega arith) (p .2) in (p .0 .ordered .size, omega (arith, key-searched (p .0) _ l .1)))
+    (λ c κs. let p = c .before .before .before .before .before .before .before .before .pre in let l = key-listed (p .0) _ _ (p .0 .form .conditionFact _ (p .1)) (omega arith) (p .2) in (p .0 .ordered .size, place-low (p .0) _ l _ (omega (arith, c .if1 .taken, c .before .begin-of .ensures))))
     (λ c. search needs)
     (λ c. search needs)
-    (λ c. let p = c .before .before .before .before .before .before .before .before .before .before .before .before .before .before .before .before .pre in let k = opposing-key (c .before .before .before .before .before .before .before .before .fact-key .ensures) (c .before .before .before .before .before .before .before .before .before .before .before .condition-fact .ensures) (c .before .before .before .before .before .before .before .before .before .other .ensures) (c .before .before .before .before .before .before .before .before .before .before .condition-value .ensures) in let l = key-listed (p .0) _ _ (p .0 .form .conditionFact _ (p .1)) (omega arith) (k .0) in omega (arith, p .0 .timed .size, (place-counted (p .0) _ l _ (omega (arith, c .before .before .before .before .loop .inv .parts .from, c .before .before .before .before .loop .inv .begins)) (omega (arith, c .before .before .if1 .taken, c .before .before .before .begin-of .ensures)) (c .before .record-at .ensures))))
-    (λ c. let p = c .before .before .before .before .before .before .before .before .before .before .before .before .before .before .before .before .before .pre in let k = opposing-key (c .before .before .before .before .before .before .before .before .before .fact-key .ensures) (c .before .before .before .before .before .before .before .before .before .before .before .before .condition-fact .ensures) (c .before .before .before .before .before .before .before .before .before .before .other .ensures) (c .before .before .before .before .before .before .before .before .before .before .before .condition-value .ensures) in let l = key-listed (p .0) _ _ (p .0 .form .conditionFact _ (p .1)) (omega arith) (k .0) in scanned-past (p .0 .ordered) _ l _ _ (breaks-only (p .0) _ (p .1) (k .0) refl (c .before .before .before .before .before .before .before .before .last-tick .ensures .0)) _ _ (breaks-until (p .0) _ (p .1) (k .0) refl (c .before .before .before .before .before .before .before .before .last-tick .ensures .0)) (c .before .before .before .before .before .loop .inv) (omega (arith, c .before .before .before .if1 .taken, c .before .before .before .before .begin-of .ensures)) (c .before .before .record-at .ensures) (c .if2 .taken))
-    (λ c κs. let p = c .before .before .before .before .before .before .before .before .before .before .before .before .before .before .before .before .before .pre in let k = opposing-key (c .before .before .before .before .before .before .before .before .before .fact-key .ensures) (c .before .before .before .before .before .before .before .before .before .before .before .before .condition-fact .ensures) (c .before .before .before .before .before .before .before .before .before .before .other .ensures) (c .before .before .before .before .before .before .before .before .before .before .before .condition-value .ensures) in let l = key-listed (p .0) _ _ (p .0 .form .conditionFact _ (p .1)) (omega arith) (k .0) in (p .0, (place-counted (p .0) _ l _ (omega (arith, c .before .before .before .before .before .loop .inv .parts .from, c .before .before .before .before .before .loop .inv .begins)) (omega (arith, c .before .before .before .if1 .taken, c .before .before .before .before .begin-of .ensures)) (c .before .before .record-at .ensures))))
-    (λ c. let p = c .before .before .before .before .before .before .before .before .before .before .before .before .before .before .before .before .before .before .before .pre in let k = opposing-key (c .before .before .before .before .before .before .before .before .before .before .before .fact-key .ensures) (c .before .before .before .before .before .before .before .before .before .before .before .before .before .before .condition-fact .ensures) (c .before .before .before .before .before .before .before .before .before .before .before .before .other .ensures) (c .before .before .before .before .before .before .before .before .before .before .before .before .before .condition-value .ensures) in let l = key-listed (p .0) _ _ (p .0 .form .conditionFact _ (p .1)) (omega arith) (k .0) in scanned-hit (p .0 .ordered) _ l _ _ _ (c .before .before .before .before .before .before .before .loop .inv) (omega (arith, c .before .before .before .before .before .if1 .taken, c .before .before .before .before .before .before .begin-of .ensures)) (c .before .before .before .before .record-at .ensures) (c .before .breaks .ensures) (c .if3 .taken))
-    (λ c. let p = c .before .before .before .before .before .before .before .before .before .before .before .before .before .before .before .before .before .before .before .pre in let k = opposing-key (c .before .before .before .before .before .before .before .before .before .before .before .fact-key .ensures) (c .before .before .before .before .before .before .before .before .before .before .before .before .before .before .condition-fact .ensures) (c .before .before .before .before .before .before .before .before .before .before .before .before .other .ensures) (c .before .before .before .before .before .before .before .before .before .before .before .before .before .condition-value .ensures) in let l = key-listed (p .0) _ _ (p .0 .form .conditionFact _ (p .1)) (omega arith) (k .0) in search (needs, place-low (p .0) _ l (c .before .before .before .before .before .before .before .loop .p) (omega (arith, c .before .before .before .before .before .if1 .taken, c .before .before .before .before .before .before .begin-of .ensures))))
+    (λ c. let p = c .before .before .before .before .before .before .before .before .before .before .pre in let l = key-listed (p .0) _ _ (p .0 .form .conditionFact _ (p .1)) (omega arith) (p .2) in omega (arith, p .0 .timed .size, (place-counted (p .0) _ l _ (omega (arith, c .before .before .before .before .loop .inv .parts .from, c .before .before .before .before .loop .inv .begins)) (omega (arith, c .before .before .if1 .taken, c .before .before .before .begin-of .ensures)) (c .before .record-at .ensures))))
+    (λ c. let p = c .before .before .before .before .before .before .before .before .before .before .before .pre in let l = key-listed (p .0) _ _ (p .0 .form .conditionFact _ (p .1)) (omega arith) (p .2) in scanned-past (p .0 .ordered) _ l _ _ (breaks-only (p .0) _ (p .1) (p .2) refl (c .before .before .before .before .before .before .last-tick .ensures .0)) _ _ (breaks-until (p .0) _ (p .1) (p .2) refl (c .before .before .before .before .before .before .last-tick .ensures .0)) (c .before .before .before .before .before .loop .inv) (omega (arith, c .before .before .before .if1 .taken, c .before .before .before .before .begin-of .ensures)) (c .before .before .record-at .ensures) (c .if2 .taken))
+    (λ c κs. let p = c .before .before .before .before .before .before .before .before .before .before .before .pre in let l = key-listed (p .0) _ _ (p .0 .form .conditionFact _ (p .1)) (omega arith) (p .2) in (p .0, (place-counted (p .0) _ l _ (omega (arith, c .before .before .before .before .before .loop .inv .parts .from, c .before .before .before .before .before .loop .inv .begins)) (omega (arith, c .before .before .before .if1 .taken, c .before .before .before .before .begin-of .ensures)) (c .before .before .record-at .ensures))))
+    (λ c. let p = c .before .before .before .before .before .before .before .before .before .before .before .before .before .pre in let l = key-listed (p .0) _ _ (p .0 .form .conditionFact _ (p .1)) (omega arith) (p .2) in scanned-hit (p .0 .ordered) _ l _ _ _ (c .before .before .before .before .before .before .before .loop .inv) (omega (arith, c .before .before .before .before .before .if1 .taken, c .before .before .before .before .before .before .begin-of .ensures)) (c .before .before .before .before .record-at .ensures) (c .before .breaks .ensures) (c .if3 .taken))
+    (λ c. let p = c .before .before .before .before .before .before .before .before .before .before .before .before .before .pre in let l = key-listed (p .0) _ _ (p .0 .form .conditionFact _ (p .1)) (omega arith) (p .2) in search (needs, place-low (p .0) _ l (c .before .before .before .before .before .before .before .loop .p) (omega (arith, c .before .before .before .before .before .if1 .taken, c .before .before .before .before .before .before .begin-of .ensures))))
     (λ c. omega (arith, c .before .before .before .before .before .if1 .taken, c .before .before .before .before .before .before .begin-of .ensures))
-    (λ c. let p = c .before .before .before .before .before .before .before .before .before .before .before .before .before .before .before .before .before .before .before .pre in let k = opposing-key (c .before .before .before .before .before .before .before .before .before .before .before .fact-key .ensures) (c .before .before .before .before .before .before .before .before .before .before .before .before .before .before .condition-fact .ensures) (c .before .before .before .before .before .before .before .before .before .before .before .before .other .ensures) (c .before .before .before .before .before .before .before .before .before .before .before .before .before .condition-value .ensures) in let l = key-listed (p .0) _ _ (p .0 .form .conditionFact _ (p .1)) (omega arith) (k .0) in scanned-more (p .0 .ordered) _ l _ _ _ (c .before .before .before .before .before .before .before .loop .inv) (c .before .before .before .before .record-at .ensures) (c .before .breaks .ensures) (c .if3 .left))
-    (λ c. let p = c .before .before .before .before .before .before .before .before .before .before .before .before .before .before .pre in let k = opposing-key (c .before .before .before .before .before .before .fact-key .ensures) (c .before .before .before .before .before .before .before .before .before .condition-fact .ensures) (c .before .before .before .before .before .before .before .other .ensures) (c .before .before .before .before .before .before .before .before .condition-value .ensures) in let l = key-listed (p .0) _ _ (p .0 .form .conditionFact _ (p .1)) (omega arith) (k .0) in scanned-end (p .0 .ordered) _ l _ _ (breaks-only (p .0) _ (p .1) (k .0) refl (c .before .before .before .before .before .last-tick .ensures .0)) _ (c .before .before .loop .inv) (omega (arith, c .if1 .left, c .before .begin-of .ensures))))
+    (λ c. let p = c .before .before .before .before .before .before .before .before .before .before .before .before .before .pre in let l = key-listed (p .0) _ _ (p .0 .form .conditionFact _ (p .1)) (omega arith) (p .2) in scanned-more (p .0 .ordered) _ l _ _ _ (c .before .before .before .before .before .before .before .loop .inv) (c .before .before .before .before .record-at .ensures) (c .before .breaks .ensures) (c .if3 .left))
+    (λ c. let p = c .before .before .before .before .before .before .before .before .pre in let l = key-listed (p .0) _ _ (p .0 .form .conditionFact _ (p .1)) (omega arith) (p .2) in scanned-end (p .0 .ordered) _ l _ _ (breaks-only (p .0) _ (p .1) (p .2) refl (c .before .before .before .last-tick .ensures .0)) _ (c .before .before .loop .inv) (omega (arith, c .if1 .left, c .before .begin-of .ensures))))
