@@ -111,7 +111,7 @@ fn loosen(s: &[u8], job: Job, starts: &[u32], out: &mut [u8]) -> Answer
     use_ticks(s, job, starts, &mut uses);
     let mut levels = [0; 1025];
     list_uses(s, job, starts, &uses, &mut levels);
-    let v = schedule::check_listed(s, job, starts, &ticks, &facts, &uses, &levels);
+    let v = schedule::check_planned(s, job, starts, &ticks, &facts, &uses, &levels);
     if number(v) != 0 {
         return Answer::Refused(v);
     }

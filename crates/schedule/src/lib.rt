@@ -3,10 +3,12 @@ ghost use mathlib.Core.Path.{_≡_};
 ghost use lib.ListN.{length, take};
 ghost use Prim.Native.Nat.{_≤_};
 ghost use Rattle.laws.specs.Listed.{tabulate};
+ghost use Rattle.job.specs.Layout.{jobOf};
 ghost use Rattle.job.specs.Model.{view};
-ghost use Rattle.job.specs.Verdict.{_then_};
+ghost use Rattle.job.specs.Refusals.{formCheck};
+ghost use Rattle.job.specs.Verdict.{_then_, number as numberOf};
 ghost use Rattle.job.specs.WellFormed.{WellFormed};
-ghost use Rattle.schedule.specs.Ticks.{scheduleOf};
+ghost use Rattle.schedule.specs.Ticks.{scheduleOf, plannedStarts};
 ghost use Rattle.schedule.specs.declared.checks.Rule.the-variants.{FixedSteps};
 ghost use Rattle.schedule.specs.Checks.{countUnder, refusalOf, ruleCheck, timingCheck, startsCheck};
 ghost use Rattle.schedule.specs.Known.{EffectsKnown, UsesKnown, Known};
@@ -140,7 +142,7 @@ fn rules_after(
 }
 
 // Refusals 8 to 14, of points that are listed in the order of their ticks.
-pub fn check_listed(
+fn check_listed(
     s: &[u8],
     job: Job,
     starts: &[u32],
@@ -186,6 +188,22 @@ pub fn planned_starts(s: &[u8], job: Job, n: usize) -> [u32; 64]
         k += 1;
     }
     starts
+}
+
+// The job check of a file of good form whose points at its written starts are listed: for whoever needs the lists as well.
+pub fn check_planned(
+    s: &[u8],
+    job: Job,
+    starts: &[u32],
+    ticks: &[usize],
+    facts: &[u16],
+    uses: &[usize],
+    levels: &[u16],
+) -> Verdict
+    requires { ⌜ (numberOf (formCheck (now s)) ≡ 0) × (job ≡ jobOf (now s)) × (now starts ≡ plannedStarts (view job (now s))) × EffectsKnown (view job (now s)) (scheduleOf (now starts)) (now ticks) (now facts) × UsesKnown (view job (now s)) (scheduleOf (now starts)) (now uses) (now levels) ⌝ }
+    ensures { λ r. ⌜ JobPromise (now (s .entry)) r ⌝ }
+{
+    check_listed(s, job, starts, ticks, facts, uses, levels)
 }
 
 // Whether a job is sound: accepted, or the first of refusals 1 to 7 and 10 to 14 that fits, on the written starts.
