@@ -150,14 +150,6 @@ module _ (n : ℕ) (f g : ℕ → ℕ → ℕ) (before : List ℕ) where
         rest = λ i k h d. w .rest i k h d ∙ v .rest i k h d;
       }
 
--- first by f, then by two at once
-pub raised-both :
-    (n : ℕ) (f g h : ℕ → ℕ → ℕ) (before mid after : List ℕ) → Raised n f before mid → Raised n (λ i k. max (g i k) (h i k)) mid after
-    → Raised n (λ i k. max (max (f i k) (g i k)) (h i k)) before after
-raised-both n f g h before mid after v w =
-    raised-is n (λ i k. max (f i k) (max (g i k) (h i k))) (λ i k. max (max (f i k) (g i k)) (h i k)) before after
-    (raised-then n f (λ i k. max (g i k) (h i k)) before mid after v w) (λ i k _ _. omega arith)
-
 -- by one order, which f names
 pub raised-one :
     (n : ℕ) (f : ℕ → ℕ → ℕ) (a b gap : ℕ) (before after : List ℕ) → n ≤ 64 → a < n → b < n → Raised 64 (single a b gap) before after

@@ -28,12 +28,14 @@ use Rattle.partialize.specs.Table.{Raised}
 use Rattle.partialize.specs.Points.{pointStep, pointAt, otherKey, oppositeGroups, Group, Reached, Within, After, Between}
 use Rattle.partialize.proofs.Reached.{reached-raised}
 
--- the orders of a fact with a value against the other value: between effects, from effects to conditions, from conditions to effects
-abbrev pub FactOrder : Model → List ℕ → List ℕ → List ℕ → List ℕ → ℕ → ℕ → ℕ → ℕ → Type 0
-FactOrder m ticks sorted firsts conditions key i k gap =
-    Between m Effect ticks sorted key Effect ticks sorted (otherKey key) 1 i k gap
-    ⊎ (Between m Effect ticks sorted key First firsts conditions (otherKey key) 1 i k gap
-    ⊎ Between m Last firsts conditions key Effect ticks sorted (otherKey key) 0 i k gap)
+-- the orders of a fact with a value against the other value: between effects; from effects to conditions, and from conditions to effects
+abbrev pub OpposingOrder : Model → List ℕ → List ℕ → ℕ → ℕ → ℕ → ℕ → Type 0
+OpposingOrder m ticks sorted key = Between m Effect ticks sorted key Effect ticks sorted (otherKey key) 1
+
+abbrev pub ConditionOrder : Model → List ℕ → List ℕ → List ℕ → List ℕ → ℕ → ℕ → ℕ → ℕ → Type 0
+ConditionOrder m ticks sorted firsts conditions key i k gap =
+    Between m Effect ticks sorted key First firsts conditions (otherKey key) 1 i k gap
+    ⊎ Between m Last firsts conditions key Effect ticks sorted (otherKey key) 0 i k gap
 
 -- the orders of a level
 abbrev pub LevelOrder : Model → List ℕ → List ℕ → ℕ → ℕ → ℕ → ℕ → Type 0
@@ -320,6 +322,14 @@ module _ {m : Model} {x : ℕ → ℕ} {ticks sorted : List ℕ} (effects : Effe
       (effects .form .effectValue e h) (effect-fact f l) (effects .form .effectValue f l) r)
       (omega (arith, effects .timed .at e h, effects .timed .at f l)) p q refl))))
 
+  pub opposing-raised :
+      (before after : List ℕ) → Reached (m .steps) (Within 0 (2 * m .facts) (OpposingOrder m ticks sorted)) before after
+      → Raised (m .steps) (opposingGap m x) before after
+  opposing-raised before after w =
+      reached-raised (m .steps) (Within 0 (2 * m .facts) (OpposingOrder m ticks sorted)) (opposingGap m x) before after (effects .form .stepCount) w
+      (λ i k gap a o. opposing-under (o .0) i k gap (o .2) (o .3))
+      (λ i k bound a all. opposing-over i k bound (λ key gap h o. all gap (key, omega arith, h, o)))
+
   -- Rule 3.
   module _ {firsts conditions : List ℕ} (wanted : ConditionsKnown m x firsts conditions) where
     pub firsts-group : (key : ℕ) → key < 2 * m .facts → Group m First firsts conditions key
@@ -441,29 +451,20 @@ module _ {m : Model} {x : ℕ → ℕ} {ticks sorted : List ℕ} (effects : Effe
               (omega (arith, t, wanted .timed .at c h, effects .timed .at e l, effects .form .conditionSpan c h)) p q refl))),
         ))
 
-    -- Rules 2 and 3, all keys.
-    pub facts-raised :
-        Valid m x → (before after : List ℕ) → Reached (m .steps) (Within 0 (2 * m .facts) (FactOrder m ticks sorted firsts conditions)) before after
-        → Raised (m .steps) (λ i k. max (opposingGap m x i k) (conditionGap m x i k)) before after
-    facts-raised valid before after w =
-        reached-raised (m .steps) (Within 0 (2 * m .facts) (FactOrder m ticks sorted firsts conditions))
-        (λ i k. max (opposingGap m x i k) (conditionGap m x i k)) before after (effects .form .stepCount) w
+    pub conditions-raised :
+        Valid m x → (before after : List ℕ)
+        → Reached (m .steps) (Within 0 (2 * m .facts) (ConditionOrder m ticks sorted firsts conditions)) before after
+        → Raised (m .steps) (conditionGap m x) before after
+    conditions-raised valid before after w =
+        reached-raised (m .steps) (Within 0 (2 * m .facts) (ConditionOrder m ticks sorted firsts conditions)) (conditionGap m x) before after
+        (effects .form .stepCount) w
         (λ i k gap a o.
         ⊎-elim
-        (λ (s : Between m Effect ticks sorted (o .0) Effect ticks sorted (otherKey (o .0)) 1 i k gap). omega (arith, opposing-under (o .0) i k gap (o .2) s))
-        (λ (s : Between m Effect ticks sorted (o .0) First firsts conditions (otherKey (o .0)) 1 i k gap
-        ⊎ Between m Last firsts conditions (o .0) Effect ticks sorted (otherKey (o .0)) 0 i k gap).
-        ⊎-elim
-        (λ (r : Between m Effect ticks sorted (o .0) First firsts conditions (otherKey (o .0)) 1 i k gap). omega (arith, before-under (o .0) i k gap (o .2) r))
-        (λ (r : Between m Last firsts conditions (o .0) Effect ticks sorted (otherKey (o .0)) 0 i k gap). omega (arith, after-under valid (o .0) i k gap (o .2) (a .2) r))
-        s)
+        (λ (r : Between m Effect ticks sorted (o .0) First firsts conditions (otherKey (o .0)) 1 i k gap). before-under (o .0) i k gap (o .2) r)
+        (λ (r : Between m Last firsts conditions (o .0) Effect ticks sorted (otherKey (o .0)) 0 i k gap). after-under valid (o .0) i k gap (o .2) (a .2) r)
         (o .3))
         (λ i k bound a all.
-        omega (
-          arith,
-          opposing-over i k bound (λ key gap h o. all gap (key, omega arith, h, inl o)),
-          condition-over i k bound (λ key gap h o. all gap (key, omega arith, h, inr (inl o))) (λ key gap h o. all gap (key, omega arith, h, inr (inr o))),
-        ))
+        condition-over i k bound (λ key gap h o. all gap (key, omega arith, h, inl o)) (λ key gap h o. all gap (key, omega arith, h, inr o)))
 
 -- Rule 4.
 module _ {m : Model} {x : ℕ → ℕ} {ticks sorted : List ℕ} (uses : UsesKnown m x ticks sorted) where

@@ -1,7 +1,7 @@
 // The table of gaps, filled rule by rule (orders, rules 1 to 5). Of several gaps for one entry the largest stays.
 ghost use mathlib.Core.Path.{_≡_};
 ghost use mathlib.Core.Bool.{_&&_, _||_, not};
-ghost use Prim.Native.Nat.{ℕ, _+_, _≤_, _<_, max};
+ghost use Prim.Native.Nat.{ℕ, _+_, _≤_, _<_};
 ghost use lib.Dec.{eqb, leb, ltb};
 ghost use lib.ListN.{length, getD};
 ghost use Rattle.laws.specs.Fold.{largest};
@@ -80,9 +80,30 @@ fn opposite(from: Point, key: usize, to: Point, wait: usize) -> Groups
     }
 }
 
-// Rules 2 and 3 for each fact and value. A condition's last tick is looked for from its first: what opposes it and is not before the one
-// is after the other, as the schedule is valid.
-fn fill_facts(
+// Rule 2 for each fact and value.
+fn fill_opposing(
+    s: &[u8],
+    job: Job,
+    starts: &[u32],
+    ticks: &[usize],
+    sorted: &[u16],
+    gaps: &mut [u32],
+)
+    requires { ⌜ EffectsKnown (view job (now s)) (scheduleOf (now starts)) (now ticks) (now sorted) × Gaps (now gaps) ⌝ }
+    ensures { λ _. ⌜ Raised (job .count .steps) (opposingGap (view job (now (s .entry))) (scheduleOf (now (starts .entry)))) (now (gaps .entry)) (now (gaps .exit)) ⌝ }
+{
+    let n = 2 * job.count.facts as usize;
+    let mut key = 0;
+    while key < n {
+        let groups = opposite(Point::Effect, key, Point::Effect, 1);
+        raise_group(s, job, groups, ticks, sorted, ticks, sorted, gaps);
+        key += 1;
+    }
+}
+
+// Rule 3 for each fact and value. A condition's last tick is looked for from its first: what opposes it and is not before the one is
+// after the other, as the schedule is valid.
+fn fill_conditions(
     s: &[u8],
     job: Job,
     starts: &[u32],
@@ -93,13 +114,11 @@ fn fill_facts(
     gaps: &mut [u32],
 )
     requires { ⌜ EffectsKnown (view job (now s)) (scheduleOf (now starts)) (now ticks) (now sorted) × ConditionsKnown (view job (now s)) (scheduleOf (now starts)) (now firsts) (now conditions) × Valid (view job (now s)) (scheduleOf (now starts)) × Gaps (now gaps) ⌝ }
-    ensures { λ _. ⌜ Raised (job .count .steps) (λ i k. max (opposingGap (view job (now (s .entry))) (scheduleOf (now (starts .entry))) i k) (conditionGap (view job (now (s .entry))) (scheduleOf (now (starts .entry))) i k)) (now (gaps .entry)) (now (gaps .exit)) ⌝ }
+    ensures { λ _. ⌜ Raised (job .count .steps) (conditionGap (view job (now (s .entry))) (scheduleOf (now (starts .entry)))) (now (gaps .entry)) (now (gaps .exit)) ⌝ }
 {
     let n = 2 * job.count.facts as usize;
     let mut key = 0;
     while key < n {
-        let opposing = opposite(Point::Effect, key, Point::Effect, 1);
-        raise_group(s, job, opposing, ticks, sorted, ticks, sorted, gaps);
         let before = opposite(Point::Effect, key, Point::First, 1);
         raise_group(s, job, before, ticks, sorted, firsts, conditions, gaps);
         let after = opposite(Point::Last, key, Point::Effect, 0);
@@ -201,11 +220,12 @@ pub fn fill_gaps(
     ensures { λ _. ⌜ TableOf (job .count .steps) (gapOf (view job (now (s .entry))) (scheduleOf (now (starts .entry)))) (now (gaps .exit)) ⌝ }
 {
     fill_support(s, job, links, gaps);
+    fill_opposing(s, job, starts, ticks, facts, gaps);
     let mut firsts = [0; 512];
     first_ticks(s, job, starts, &mut firsts);
     let mut conditions = [0; 1025];
     list_conditions(s, job, starts, &firsts, &mut conditions);
-    fill_facts(s, job, starts, ticks, facts, &firsts, &conditions, gaps);
+    fill_conditions(s, job, starts, ticks, facts, &firsts, &conditions, gaps);
     fill_levels(s, job, starts, uses, levels, gaps);
     fill_serial(s, job, starts, gaps);
 }
