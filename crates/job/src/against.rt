@@ -1,5 +1,6 @@
-// Refusal 7: a step against itself, found in three searches. Each walks an index, so that a record meets only those of its own step
-// and fact or level, and the few others that share the key. The field that most often tells two such records apart is read first.
+// Refusal 7: a step against itself, found in one pass over the effects and one over the uses. Each record walks an index, so that it
+// meets only those of its own step and fact or level, and the few others that share the key. The field that most often tells two such
+// records apart is read first.
 ghost use mathlib.Core.Path.{_≡_};
 ghost use mathlib.Core.Bool.{_&&_, cond};
 ghost use Prim.Native.Nat.{ℕ, min, _≤_, _<_};

@@ -20,6 +20,7 @@ pub enum Linking {
 // The keys of an index.
 pub const KEYS: usize = 512;
 
+// What stands for none in an index that grows.
 pub const NONE: u16 = 65535;
 
 // The key of a step with a fact or level.
@@ -72,7 +73,7 @@ pub fn index_of(s: &[u8], job: Job, linking: Linking, n: u16) -> [u16; 1024]
     index
 }
 
-// The first record of a key.
+// The first record of a key; in an index that grows, the last.
 pub fn first_of(index: &[u16], key: usize) -> u16
     requires { ⌜ (length (now index) ≡ 1024) × (key < 512) ⌝ }
     ensures { λ r. ⌜ r ≡ getD (now (index .entry)) key 0 ⌝ }
@@ -80,7 +81,7 @@ pub fn first_of(index: &[u16], key: usize) -> u16
     index[key]
 }
 
-// The next record after k of its key.
+// The next record after k of its key; in an index that grows, the last before k.
 pub fn next_of(index: &[u16], k: u16) -> u16
     requires { ⌜ (length (now index) ≡ 1024) × (k < 512) ⌝ }
     ensures { λ r. ⌜ r ≡ getD (now (index .entry)) (512 + k) 0 ⌝ }

@@ -24,7 +24,7 @@ module _ {m : Model} {point : Point} {ticks sorted : List ℕ} {key : ℕ} (grou
   place-listed = subst (λ k. k < length ticks) (sym there) (group .rising .known p from to)
 
   pub place-timed : getD ticks r 0 < 8589934592
-  place-timed = subst (λ k. getD ticks k 0 < 8589934592) (sym there) (group .timed p from to)
+  place-timed = subst (λ k. getD ticks k 0 < 8589934592) (sym there) (group .rising .early p from to)
 
   pub place-step : {step : ℕ} → step ≡ pointStep m point r → step < m .steps
   place-step e = subst (λ k. k < m .steps) (sym (e ∙ ap (pointStep m point) there)) (group .step p from to)

@@ -16,6 +16,7 @@ use Rattle.job.specs.declared.index.Linking.the-variants.{UsesByLevel}
 use Rattle.job.specs.Model.{Model}
 use Rattle.job.specs.Indexed.{factKey, levelKey, keyOf}
 use Rattle.timeline.specs.Sorted.{recordIn, Sorted}
+use Rattle.timeline.proofs.Scanning.{key-rising}
 use Rattle.schedule.specs.Ticks.{effectTick, firstTick, lastTick, useTick, opposes}
 use Rattle.schedule.specs.Known.{EffectsKnown, ConditionsKnown, UsesKnown}
 use Rattle.schedule.specs.Valid.{Valid}
@@ -121,16 +122,7 @@ group-of m point {ticks = ticks} {sorted = sorted} s few most size low step near
     let o = s .each f h in
     record {
       low = omega arith;
-      rising =
-          record {
-            size = s .size;
-            begins = o .begins;
-            ends = omega (arith, s .ends f h);
-            known = λ p a b. omega (arith, o .holds p a b .0);
-            early = λ p a b. low (recordIn sorted p) (o .holds p a b .0);
-            rises = λ p q a b c. o .rises p q a b c .0;
-          };
-      timed = λ p a b. low (recordIn sorted p) (o .holds p a b .0);
+      rising = key-rising s f h few (record { size = size; low = low });
       step = λ p a b. step (recordIn sorted p) (o .holds p a b .0);
       near = λ p a b. near (recordIn sorted p) (o .holds p a b .0);
     }

@@ -36,7 +36,6 @@ oppositeGroups from key to wait = record { from = from; key = key; to = to; othe
 pub record Group (m : Model) (point : Point) (ticks sorted : List ℕ) (key : ℕ) : Type 0 where
   pub low : key < 512
   pub rising : Rising ticks sorted (getD sorted key 0) (getD sorted (key + 1) 0)
-  pub timed : (p : ℕ) → getD sorted key 0 ≤ p → p < getD sorted (key + 1) 0 → tickIn ticks sorted p < 8589934592
   pub step : (p : ℕ) → getD sorted key 0 ≤ p → p < getD sorted (key + 1) 0 → pointStep m point (recordIn sorted p) < m .steps
   pub near : (p : ℕ) → getD sorted key 0 ≤ p → p < getD sorted (key + 1) 0 → pointAt m point (recordIn sorted p) ≤ 100000
 

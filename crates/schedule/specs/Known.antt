@@ -1,4 +1,4 @@
--- What is known of a job's points before they are searched: their ticks, and which of them share a fact or a level.
+-- What is known of a job's points before they are searched: their ticks, and their order among those of one fact or level.
 use Prim.Native.Nat.{ℕ, _+_, _*_, _≤_, _<_}
 use mathlib.Core.Path.{_≡_}
 use mathlib.Core.List.{List}

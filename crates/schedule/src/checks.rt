@@ -18,7 +18,7 @@ use crate::ticks::*;
 use crate::values::given_before;
 use crate::values::holds;
 use crate::values::other;
-use crate::values::value_seen;
+use crate::values::seen_as;
 use job::index::fact_key;
 use job::layout::Job;
 use job::records::*;
@@ -196,7 +196,8 @@ fn late(s: &[u8], job: Job, starts: &[u32], ticks: &[usize], sorted: &[u16], g: 
         return false;
     }
     let fact = goal_fact(s, job, g);
-    (value_seen(s, job, starts, ticks, sorted, fact, deadline + 1) != goal_value(s, job, g))
+    let value = goal_value(s, job, g);
+    !seen_as(s, job, starts, ticks, sorted, fact, value, deadline + 1)
         | any_undoes(s, job, starts, ticks, sorted, g)
 }
 
@@ -213,7 +214,8 @@ fn goal_fails(
     ensures { λ r. ⌜ r ≡ goalFails (view job (now (s .entry))) (scheduleOf (now (starts .entry))) g ⌝ }
 {
     let fact = goal_fact(s, job, g);
-    (value_seen(s, job, starts, ticks, sorted, fact, end) != goal_value(s, job, g))
+    let value = goal_value(s, job, g);
+    !seen_as(s, job, starts, ticks, sorted, fact, value, end)
         | late(s, job, starts, ticks, sorted, g)
 }
 

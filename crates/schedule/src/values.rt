@@ -60,30 +60,6 @@ pub fn last_given(
     given_before(ticks, sorted, key, p)
 }
 
-// The value of a fact seen at tick t.
-pub fn value_seen(
-    s: &[u8],
-    job: Job,
-    starts: &[u32],
-    ticks: &[usize],
-    sorted: &[u16],
-    fact: u16,
-    t: usize,
-) -> u16
-    requires { ⌜ EffectsKnown (view job (now s)) (scheduleOf (now starts)) (now ticks) (now sorted) × (fact < job .count .facts) ⌝ }
-    ensures { λ r. ⌜ r ≡ seen (view job (now (s .entry))) (scheduleOf (now (starts .entry))) fact t ⌝ }
-{
-    let ones = last_given(s, job, starts, ticks, sorted, fact, 1, t);
-    let zeros = last_given(s, job, starts, ticks, sorted, fact, 0, t);
-    if zeros < ones {
-        1
-    } else if ones < zeros {
-        0
-    } else {
-        fact_initial(s, job, fact)
-    }
-}
-
 // Whether a fact has a value, by one more than the last ticks at which it was given that value and the other.
 pub fn holds(s: &[u8], job: Job, fact: u16, value: u16, given: usize, opposed: usize) -> bool
     ensures { λ r. ⌜ r ≡ cond (ltb opposed given) true (cond (ltb given opposed) false (eqb (view job (now (s .entry)) .initial fact) value)) ⌝ }
@@ -95,6 +71,25 @@ pub fn holds(s: &[u8], job: Job, fact: u16, value: u16, given: usize, opposed: u
     } else {
         fact_initial(s, job, fact) == value
     }
+}
+
+// Whether a fact is seen with a value at tick t.
+pub fn seen_as(
+    s: &[u8],
+    job: Job,
+    starts: &[u32],
+    ticks: &[usize],
+    sorted: &[u16],
+    fact: u16,
+    value: u16,
+    t: usize,
+) -> bool
+    requires { ⌜ EffectsKnown (view job (now s)) (scheduleOf (now starts)) (now ticks) (now sorted) × (fact < job .count .facts) × (value ≤ 1) ⌝ }
+    ensures { λ r. ⌜ r ≡ eqb (seen (view job (now (s .entry))) (scheduleOf (now (starts .entry))) fact t) value ⌝ }
+{
+    let given = last_given(s, job, starts, ticks, sorted, fact, value, t);
+    let opposed = last_given(s, job, starts, ticks, sorted, fact, other(value), t);
+    holds(s, job, fact, value, given, opposed)
 }
 
 // A tick after all effects.
