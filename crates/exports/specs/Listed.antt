@@ -5,10 +5,10 @@ use mathlib.Core.List.{List, [], _∷_, _++_}
 use lib.Dec.{eqb}
 use lib.IntN.{ℤ, pos, negsuc}
 use lib.ListN.{length, take, drop}
-use Rattle.order_file.specs.declared.HeaderRead.{HeaderRead}
-use Rattle.order_file.specs.Answers.{headerNumber, headerValues}
-use Rattle.order_file.specs.declared.RecordRead.{RecordRead}
-use Rattle.order_file.specs.declared.RecordRead.the-variants as recorded
+use Rattle.order_reader.specs.declared.HeaderRead.{HeaderRead}
+use Rattle.order_reader.specs.Answers.{headerNumber, headerValues}
+use Rattle.order_reader.specs.declared.RecordRead.{RecordRead}
+use Rattle.order_reader.specs.declared.RecordRead.the-variants as recorded
 
 -- the numbers cut to the list's length, followed by the rest of the list
 unfoldable pub filled : List ℕ → List ℕ → List ℕ

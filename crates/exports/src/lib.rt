@@ -2,10 +2,10 @@
 ghost use mathlib.Core.Path.{_≡_};
 ghost use mathlib.Core.Bool.{cond};
 ghost use lib.ListN.{length};
-ghost use Rattle.job.specs.Verdict as verdict;
-ghost use Rattle.schedule.specs.Checks.{jobCheck, scheduleCheck};
-ghost use Rattle.schedule.specs.Promise.{JobPromise, SchedulePromise};
-ghost use Rattle.order_file.specs.Answers as read;
+ghost use Rattle.verdict.specs.Verdict as verdict;
+ghost use Rattle.validity.specs.Checks.{jobCheck, scheduleCheck};
+ghost use Rattle.validity.specs.Promise.{JobPromise, SchedulePromise};
+ghost use Rattle.order_reader.specs.Answers as read;
 ghost use Rattle.partialize.specs.Answer as loosened;
 ghost use Rattle.partialize.specs.Partialization.{answerTo, bufferAfter};
 ghost use Rattle.partialize.specs.Demands.{Promise};
@@ -15,8 +15,7 @@ ghost use Rattle.exports.specs.Listed.{filled, headerList, recordList};
 mod listed;
 mod packed;
 
-use job::verdict;
-use order_file::numbers;
+use order_reader::numbers;
 use packed::packed;
 use partialize::answer;
 
@@ -53,7 +52,7 @@ pub extern "C" fn jobs_partialize(job: &[u8], out: &mut [u8]) -> u64
 pub extern "C" fn jobs_alike(a: &[u8], b: &[u8]) -> u64
     ensures { λ r. ⌜ (let x = read.alikeAnswer (now (a .entry)) (now (b .entry)) in (r ≡ packed (cond (read.alikeYes x) 1 0) (read.alikeNumber x) (read.alikePlace x)) × read.AlikePromise (now (a .entry)) (now (b .entry)) x) ⌝ }
 {
-    let x = order_file::alike(a, b);
+    let x = order_reader::alike(a, b);
     packed(
         numbers::alike_yes(x) as u32,
         numbers::alike_number(x),
@@ -67,7 +66,7 @@ pub extern "C" fn jobs_order_header(file: &[u8], list: &mut [u32]) -> u64
     ensures { λ r. ⌜ (let a = read.headerRead (now (file .entry)) in (r ≡ packed 0 (read.headerNumber a) (read.headerPlace a)) × read.HeaderPromise (now (file .entry)) a) ⌝ }
     ensures { λ _. ⌜ now (list .exit) ≡ filled (now (list .entry)) (headerList (read.headerRead (now (file .entry)))) ⌝ }
 {
-    let a = order_file::read_header(file);
+    let a = order_reader::read_header(file);
     listed::list_header(list, a);
     packed(0, numbers::header_number(a), numbers::header_place(a))
 }
@@ -78,7 +77,7 @@ pub extern "C" fn jobs_order_record(file: &[u8], table: u32, number: u32, list: 
     ensures { λ r. ⌜ (let a = read.recordRead (now (file .entry)) table number in (r ≡ packed 0 (read.recordNumber a) (read.recordPlace a)) × read.RecordPromise (now (file .entry)) table number a) ⌝ }
     ensures { λ _. ⌜ now (list .exit) ≡ filled (now (list .entry)) (recordList (read.recordRead (now (file .entry)) table number)) ⌝ }
 {
-    let a = order_file::read_record(file, table, number);
+    let a = order_reader::read_record(file, table, number);
     listed::list_record(list, a);
     packed(0, numbers::record_number(a), numbers::record_place(a))
 }

@@ -2,8 +2,8 @@
 ghost use mathlib.Core.Path.{_≡_};
 ghost use lib.ListN.{set};
 ghost use Rattle.exports.specs.Listed as spec;
-use order_file::HeaderRead;
-use order_file::RecordRead;
+use order_reader::HeaderRead;
+use order_reader::RecordRead;
 
 // Puts a number at an entry, if the list has that entry.
 fn put(list: &mut [u32], at: usize, n: u32)

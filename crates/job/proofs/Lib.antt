@@ -1,6 +1,2 @@
--- Laws of the definitions in specs/, and what the proofs of the job reader share.
-pub mod Chain
-pub mod WellFormed
-pub mod Indexing
-pub mod Steps
+-- What the proofs over the job reader share.
 pub mod Held

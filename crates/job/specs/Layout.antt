@@ -5,10 +5,17 @@ use mathlib.Core.List.{List, [], _∷_}
 use lib.ListN.{length, getD}
 use lib.Dec.{ltb, eqb}
 use Rattle.laws.specs.Search.{any}
-use Rattle.laws.specs.Bytes.{u16At, u32At}
+use Rattle.little_endian.specs.Bytes.{u16At, u32At}
 use Rattle.job.specs.declared.layout.Counts.{Counts}
 use Rattle.job.specs.declared.layout.Positions.{Positions}
 use Rattle.job.specs.declared.layout.Job.{Job}
+
+-- the edition that is read, and the bytes of its header
+abbrev pub edition : ℕ
+edition = 1
+
+abbrev pub headerWidth : ℕ
+headerWidth = 48
 
 -- "Widths in bytes", in the tables' order: facts, levels, steps, conditions, effects, uses, goals
 abbrev pub widths : List ℕ
@@ -36,7 +43,7 @@ countList c = c .facts ∷ c .levels ∷ c .steps ∷ c .conditions ∷ c .effec
 
 -- "The tables follow the header without gaps": where table t starts; for t = 7, where the file ends
 unfoldable pub tableAt : Counts → ℕ → ℕ
-tableAt c zero = 48
+tableAt c zero = headerWidth
 tableAt c (suc t) = tableAt c t + getD widths t 0 * getD (countList c) t 0
 
 -- the positions of the seven tables and of the file's end
@@ -55,17 +62,3 @@ positionsOf c = record {
 -- what the header says, and where it puts the tables
 unfoldable pub jobOf : List ℕ → Job
 jobOf s = record { serial = u16At s 2; count = countsOf s; at = positionsOf (countsOf s) }
-
--- refusal 4: a count exceeds its highest
-unfoldable pub countTooHigh : Counts → Bool
-countTooHigh c = any 7 (λ t. ltb (getD highest t 0) (getD (countList c) t 0))
-
--- refusal 5, the other way round: every offset and the file's length agree with the tables
-unfoldable pub layoutAgrees : List ℕ → Positions → Bool
-layoutAgrees s p =
-    eqb (u32At s 20) (p .facts) && eqb (u32At s 24) (p .levels) && eqb (u32At s 28) (p .steps)
-    && eqb (u32At s 32) (p .conditions)
-    && eqb (u32At s 36) (p .effects)
-    && eqb (u32At s 40) (p .uses)
-    && eqb (u32At s 44) (p .goals)
-    && eqb (length s) (p .end)

@@ -1,13 +1,17 @@
 -- The job that a file holds: counts, and functions of an index. Its meaning is stated over this record alone.
 use Prim.Native.Nat.{ℕ, _+_, _*_, _-_}
 use mathlib.Core.List.{List}
-use Rattle.laws.specs.Bytes.{byteAt, u16At, u32At, biasedAt}
+use Rattle.little_endian.specs.Bytes.{byteAt, u16At, u32At, biasedAt}
 use Rattle.job.specs.declared.layout.Job.{Job}
 use Rattle.job.specs.declared.records.Level.{Level}
 use Rattle.job.specs.declared.records.Condition.{Condition}
 use Rattle.job.specs.declared.records.Effect.{Effect}
 use Rattle.job.specs.declared.records.Use.{Use}
 use Rattle.job.specs.Layout.{jobOf}
+
+-- the deadline of a goal that has none
+abbrev pub noDeadline : ℕ
+noDeadline = 4294967295
 
 pub record Model : Type 0 where
   -- the serial mark

@@ -3,7 +3,7 @@ use Prim.Native.Nat.{ℕ, _≤_, _<_}
 use mathlib.Core.Path.{_≡_}
 use mathlib.Core.Logic.{_⊎_}
 use Rattle.job.specs.Model.{Model}
-use Rattle.job.specs.Ranges.{noDeadline}
+use Rattle.job.specs.Model.{noDeadline}
 
 pub record WellFormed (m : Model) : Type 0 where
   -- marks and counts

@@ -1,9 +1,6 @@
 // The job file's header: counts, limits, and where the tables lie.
 ghost use mathlib.Core.Path.{_≡_};
-ghost use Rattle.job.specs.Layout.{countsOf, positionsOf, jobOf, countTooHigh, layoutAgrees};
-ghost use Rattle.job.specs.Refusals.{headerCheck};
-use crate::verdict::Verdict;
-use crate::verdict::refuse_if;
+ghost use Rattle.job.specs.Layout.{countsOf, positionsOf, jobOf};
 
 // The tables, in their order in the file.
 pub enum Table {
@@ -46,6 +43,11 @@ pub struct Job {
     pub at: Positions,
 }
 
+// The edition that is read, and the bytes of its header.
+pub const EDITION: usize = 1;
+
+pub const HEADER: usize = 48;
+
 // Record widths in bytes, in the tables' order.
 pub const WIDTHS: [usize; 7] = [1, 12, 10, 14, 10, 12, 8];
 
@@ -82,7 +84,7 @@ impl Job {
     pub fn read(s: &[u8]) -> Job
         ensures { λ r. ⌜ r ≡ jobOf (now (s .entry)) ⌝ }
     {
-        let serial = laws::u16_at(s, 2) as u16;
+        let serial = little_endian::u16_at(s, 2) as u16;
         let count = Counts::read(s);
         let at = Positions::of(count);
         Job { serial, count, at }
@@ -95,13 +97,13 @@ impl Counts {
         ensures { λ r. ⌜ r ≡ countsOf (now (s .entry)) ⌝ }
     {
         Counts {
-            facts: laws::u16_at(s, 4) as u16,
-            levels: laws::u16_at(s, 6) as u16,
-            steps: laws::u16_at(s, 8) as u16,
-            goals: laws::u16_at(s, 10) as u16,
-            conditions: laws::u16_at(s, 12) as u16,
-            effects: laws::u16_at(s, 14) as u16,
-            uses: laws::u16_at(s, 16) as u16,
+            facts: little_endian::u16_at(s, 4) as u16,
+            levels: little_endian::u16_at(s, 6) as u16,
+            steps: little_endian::u16_at(s, 8) as u16,
+            goals: little_endian::u16_at(s, 10) as u16,
+            conditions: little_endian::u16_at(s, 12) as u16,
+            effects: little_endian::u16_at(s, 14) as u16,
+            uses: little_endian::u16_at(s, 16) as u16,
         }
     }
 }
@@ -111,7 +113,7 @@ impl Positions {
     pub fn of(count: Counts) -> Positions
         ensures { λ r. ⌜ r ≡ positionsOf count ⌝ }
     {
-        let facts = 48;
+        let facts = HEADER;
         let levels = facts + WIDTHS[FACT] * count.facts as usize;
         let steps = levels + WIDTHS[LEVEL] * count.levels as usize;
         let conditions = steps + WIDTHS[STEP] * count.steps as usize;
@@ -130,47 +132,4 @@ impl Positions {
             end: end as u32,
         }
     }
-}
-
-fn count_too_high(count: Counts) -> bool
-    ensures { λ r. ⌜ r ≡ countTooHigh count ⌝ }
-{
-    (Job::FACTS < count.facts)
-        | (Job::LEVELS < count.levels)
-        | (Job::STEPS < count.steps)
-        | (Job::CONDITIONS < count.conditions)
-        | (Job::EFFECTS < count.effects)
-        | (Job::USES < count.uses)
-        | (Job::GOALS < count.goals)
-}
-
-fn layout_agrees(s: &[u8], at: Positions) -> bool
-    ensures { λ r. ⌜ r ≡ layoutAgrees (now (s .entry)) at ⌝ }
-{
-    (laws::u32_at(s, 20) == at.facts as usize)
-        & (laws::u32_at(s, 24) == at.levels as usize)
-        & (laws::u32_at(s, 28) == at.steps as usize)
-        & (laws::u32_at(s, 32) == at.conditions as usize)
-        & (laws::u32_at(s, 36) == at.effects as usize)
-        & (laws::u32_at(s, 40) == at.uses as usize)
-        & (laws::u32_at(s, 44) == at.goals as usize)
-        & (s.len() == at.end as usize)
-}
-
-// Refusals 1 to 5.
-pub fn check_header(s: &[u8]) -> Verdict
-    ensures { λ r. ⌜ r ≡ headerCheck (now (s .entry)) ⌝ }
-{
-    let short = s.len() < 48;
-    let edition = laws::u16_at(s, 0) != 1;
-    let marks = (1 < laws::u16_at(s, 2)) | (laws::u16_at(s, 18) != 0);
-    let count = Counts::read(s);
-    let high = count_too_high(count);
-    let at = Positions::of(count);
-    let layout = !layout_agrees(s, at);
-    let v = refuse_if(Verdict::Accepted, short, Verdict::FileTooShort);
-    let v = refuse_if(v, edition, Verdict::UnknownEdition);
-    let v = refuse_if(v, marks, Verdict::MarkOutOfRange);
-    let v = refuse_if(v, high, Verdict::CountTooHigh);
-    refuse_if(v, layout, Verdict::LayoutDisagrees)
 }

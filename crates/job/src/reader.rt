@@ -1,8 +1,7 @@
 // A job as its readings hold it: the caller's own bytes by reference, and what their header says, read once. The borrow checker
 // covers no function over a struct that holds a reference, so each takes it apart and calls a covered one on the slice and the
-// numbers; and whoever has a plain slice calls a function of plain parameters above them, as `level_at` or `tables::check_file`.
+// numbers; and whoever has a plain slice calls a function of plain parameters above them, as `level_at`.
 ghost use mathlib.Core.Path.{_≡_};
-ghost use Rattle.job.specs.Layout.{jobOf};
 ghost use Rattle.job.specs.Model.{view, levelOf};
 use crate::layout::Job;
 use crate::records::Level;
@@ -11,15 +10,6 @@ use crate::records::level_of;
 pub struct JobReader<'a> {
     pub bytes: &'a [u8],
     pub job: Job,
-}
-
-pub fn open<'a>(bytes: &'a [u8]) -> JobReader<'a>
-    ensures { λ r. ⌜ (r .bytes ≡ bytes .entry) × (r .job ≡ jobOf (now (bytes .entry))) ⌝ }
-{
-    JobReader {
-        bytes,
-        job: Job::read(bytes),
-    }
 }
 
 pub fn level<'a>(r: JobReader<'a>, k: u16) -> Level

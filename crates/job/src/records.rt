@@ -16,25 +16,25 @@ use crate::layout::WIDTHS;
 pub fn fact_initial(s: &[u8], job: Job, k: u16) -> u16
     ensures { λ r. ⌜ r ≡ view job (now (s .entry)) .initial k ⌝ }
 {
-    laws::byte_at(s, job.at.facts as usize + WIDTHS[FACT] * k as usize) as u16
+    little_endian::byte_at(s, job.at.facts as usize + WIDTHS[FACT] * k as usize) as u16
 }
 
 pub fn level_initial(s: &[u8], job: Job, k: u16) -> usize
     ensures { λ r. ⌜ (r ≡ view job (now (s .entry)) .levelInitial k) × (r < 4294967296) ⌝ }
 {
-    laws::biased_at(s, job.at.levels as usize + WIDTHS[LEVEL] * k as usize)
+    little_endian::biased_at(s, job.at.levels as usize + WIDTHS[LEVEL] * k as usize)
 }
 
 pub fn level_least(s: &[u8], job: Job, k: u16) -> usize
     ensures { λ r. ⌜ (r ≡ view job (now (s .entry)) .levelLeast k) × (r < 4294967296) ⌝ }
 {
-    laws::biased_at(s, job.at.levels as usize + WIDTHS[LEVEL] * k as usize + 4)
+    little_endian::biased_at(s, job.at.levels as usize + WIDTHS[LEVEL] * k as usize + 4)
 }
 
 pub fn level_most(s: &[u8], job: Job, k: u16) -> usize
     ensures { λ r. ⌜ (r ≡ view job (now (s .entry)) .levelMost k) × (r < 4294967296) ⌝ }
 {
-    laws::biased_at(s, job.at.levels as usize + WIDTHS[LEVEL] * k as usize + 8)
+    little_endian::biased_at(s, job.at.levels as usize + WIDTHS[LEVEL] * k as usize + 8)
 }
 
 // A level's record: its three numbers, each plus 2147483648.
@@ -60,25 +60,25 @@ pub fn level_of(s: &[u8], job: Job, k: u16) -> Level
 pub fn step_start(s: &[u8], job: Job, k: u16) -> usize
     ensures { λ r. ⌜ (r ≡ view job (now (s .entry)) .start k) × (r < 4294967296) ⌝ }
 {
-    laws::u32_at(s, job.at.steps as usize + WIDTHS[STEP] * k as usize)
+    little_endian::u32_at(s, job.at.steps as usize + WIDTHS[STEP] * k as usize)
 }
 
 pub fn step_length(s: &[u8], job: Job, k: u16) -> usize
     ensures { λ r. ⌜ (r ≡ view job (now (s .entry)) .stepLength k) × (r < 4294967296) ⌝ }
 {
-    laws::u32_at(s, job.at.steps as usize + WIDTHS[STEP] * k as usize + 4)
+    little_endian::u32_at(s, job.at.steps as usize + WIDTHS[STEP] * k as usize + 4)
 }
 
 pub fn step_fixed(s: &[u8], job: Job, k: u16) -> u16
     ensures { λ r. ⌜ r ≡ view job (now (s .entry)) .fixed k ⌝ }
 {
-    laws::u16_at(s, job.at.steps as usize + WIDTHS[STEP] * k as usize + 8) as u16
+    little_endian::u16_at(s, job.at.steps as usize + WIDTHS[STEP] * k as usize + 8) as u16
 }
 
 pub fn condition_step(s: &[u8], job: Job, k: u16) -> u16
     ensures { λ r. ⌜ r ≡ view job (now (s .entry)) .conditionStep k ⌝ }
 {
-    laws::u16_at(
+    little_endian::u16_at(
         s,
         job.at.conditions as usize + WIDTHS[CONDITION] * k as usize,
     ) as u16
@@ -87,7 +87,7 @@ pub fn condition_step(s: &[u8], job: Job, k: u16) -> u16
 pub fn condition_fact(s: &[u8], job: Job, k: u16) -> u16
     ensures { λ r. ⌜ r ≡ view job (now (s .entry)) .conditionFact k ⌝ }
 {
-    laws::u16_at(
+    little_endian::u16_at(
         s,
         job.at.conditions as usize + WIDTHS[CONDITION] * k as usize + 2,
     ) as u16
@@ -96,7 +96,7 @@ pub fn condition_fact(s: &[u8], job: Job, k: u16) -> u16
 pub fn condition_from(s: &[u8], job: Job, k: u16) -> usize
     ensures { λ r. ⌜ (r ≡ view job (now (s .entry)) .conditionFrom k) × (r < 4294967296) ⌝ }
 {
-    laws::u32_at(
+    little_endian::u32_at(
         s,
         job.at.conditions as usize + WIDTHS[CONDITION] * k as usize + 4,
     )
@@ -105,7 +105,7 @@ pub fn condition_from(s: &[u8], job: Job, k: u16) -> usize
 pub fn condition_to(s: &[u8], job: Job, k: u16) -> usize
     ensures { λ r. ⌜ (r ≡ view job (now (s .entry)) .conditionTo k) × (r < 4294967296) ⌝ }
 {
-    laws::u32_at(
+    little_endian::u32_at(
         s,
         job.at.conditions as usize + WIDTHS[CONDITION] * k as usize + 8,
     )
@@ -114,7 +114,7 @@ pub fn condition_to(s: &[u8], job: Job, k: u16) -> usize
 pub fn condition_value(s: &[u8], job: Job, k: u16) -> u16
     ensures { λ r. ⌜ r ≡ view job (now (s .entry)) .conditionValue k ⌝ }
 {
-    laws::u16_at(
+    little_endian::u16_at(
         s,
         job.at.conditions as usize + WIDTHS[CONDITION] * k as usize + 12,
     ) as u16
@@ -123,67 +123,67 @@ pub fn condition_value(s: &[u8], job: Job, k: u16) -> u16
 pub fn effect_step(s: &[u8], job: Job, k: u16) -> u16
     ensures { λ r. ⌜ r ≡ view job (now (s .entry)) .effectStep k ⌝ }
 {
-    laws::u16_at(s, job.at.effects as usize + WIDTHS[EFFECT] * k as usize) as u16
+    little_endian::u16_at(s, job.at.effects as usize + WIDTHS[EFFECT] * k as usize) as u16
 }
 
 pub fn effect_fact(s: &[u8], job: Job, k: u16) -> u16
     ensures { λ r. ⌜ r ≡ view job (now (s .entry)) .effectFact k ⌝ }
 {
-    laws::u16_at(s, job.at.effects as usize + WIDTHS[EFFECT] * k as usize + 2) as u16
+    little_endian::u16_at(s, job.at.effects as usize + WIDTHS[EFFECT] * k as usize + 2) as u16
 }
 
 pub fn effect_at(s: &[u8], job: Job, k: u16) -> usize
     ensures { λ r. ⌜ (r ≡ view job (now (s .entry)) .effectAt k) × (r < 4294967296) ⌝ }
 {
-    laws::u32_at(s, job.at.effects as usize + WIDTHS[EFFECT] * k as usize + 4)
+    little_endian::u32_at(s, job.at.effects as usize + WIDTHS[EFFECT] * k as usize + 4)
 }
 
 pub fn effect_value(s: &[u8], job: Job, k: u16) -> u16
     ensures { λ r. ⌜ r ≡ view job (now (s .entry)) .effectValue k ⌝ }
 {
-    laws::u16_at(s, job.at.effects as usize + WIDTHS[EFFECT] * k as usize + 8) as u16
+    little_endian::u16_at(s, job.at.effects as usize + WIDTHS[EFFECT] * k as usize + 8) as u16
 }
 
 pub fn use_step(s: &[u8], job: Job, k: u16) -> u16
     ensures { λ r. ⌜ r ≡ view job (now (s .entry)) .useStep k ⌝ }
 {
-    laws::u16_at(s, job.at.uses as usize + WIDTHS[USE] * k as usize) as u16
+    little_endian::u16_at(s, job.at.uses as usize + WIDTHS[USE] * k as usize) as u16
 }
 
 pub fn use_level(s: &[u8], job: Job, k: u16) -> u16
     ensures { λ r. ⌜ r ≡ view job (now (s .entry)) .useLevel k ⌝ }
 {
-    laws::u16_at(s, job.at.uses as usize + WIDTHS[USE] * k as usize + 2) as u16
+    little_endian::u16_at(s, job.at.uses as usize + WIDTHS[USE] * k as usize + 2) as u16
 }
 
 pub fn use_at(s: &[u8], job: Job, k: u16) -> usize
     ensures { λ r. ⌜ (r ≡ view job (now (s .entry)) .useAt k) × (r < 4294967296) ⌝ }
 {
-    laws::u32_at(s, job.at.uses as usize + WIDTHS[USE] * k as usize + 4)
+    little_endian::u32_at(s, job.at.uses as usize + WIDTHS[USE] * k as usize + 4)
 }
 
 pub fn use_amount(s: &[u8], job: Job, k: u16) -> usize
     ensures { λ r. ⌜ (r ≡ view job (now (s .entry)) .useAmount k) × (r < 4294967296) ⌝ }
 {
-    laws::biased_at(s, job.at.uses as usize + WIDTHS[USE] * k as usize + 8)
+    little_endian::biased_at(s, job.at.uses as usize + WIDTHS[USE] * k as usize + 8)
 }
 
 pub fn goal_fact(s: &[u8], job: Job, k: u16) -> u16
     ensures { λ r. ⌜ r ≡ view job (now (s .entry)) .goalFact k ⌝ }
 {
-    laws::u16_at(s, job.at.goals as usize + WIDTHS[GOAL] * k as usize) as u16
+    little_endian::u16_at(s, job.at.goals as usize + WIDTHS[GOAL] * k as usize) as u16
 }
 
 pub fn goal_value(s: &[u8], job: Job, k: u16) -> u16
     ensures { λ r. ⌜ r ≡ view job (now (s .entry)) .goalValue k ⌝ }
 {
-    laws::u16_at(s, job.at.goals as usize + WIDTHS[GOAL] * k as usize + 2) as u16
+    little_endian::u16_at(s, job.at.goals as usize + WIDTHS[GOAL] * k as usize + 2) as u16
 }
 
 pub fn goal_deadline(s: &[u8], job: Job, k: u16) -> usize
     ensures { λ r. ⌜ (r ≡ view job (now (s .entry)) .goalDeadline k) × (r < 4294967296) ⌝ }
 {
-    laws::u32_at(s, job.at.goals as usize + WIDTHS[GOAL] * k as usize + 4)
+    little_endian::u32_at(s, job.at.goals as usize + WIDTHS[GOAL] * k as usize + 4)
 }
 
 // Whole records. One test shows that a record lies within the bytes, and no field is then tested again.
@@ -213,13 +213,13 @@ pub fn condition_of(s: &[u8], job: Job, k: u16) -> Condition
     ensures { λ r. ⌜ r ≡ conditionOf (view job (now (s .entry))) k ⌝ }
 {
     let at = job.at.conditions as usize + WIDTHS[CONDITION] * k as usize;
-    if laws::has_room(s, at, 14) {
+    if little_endian::has_room(s, at, 14) {
         return Condition {
-            step: laws::u16_within(s, at) as u16,
-            fact: laws::u16_within(s, at + 2) as u16,
-            from: laws::u32_within(s, at + 4),
-            to: laws::u32_within(s, at + 8),
-            value: laws::u16_within(s, at + 12) as u16,
+            step: little_endian::u16_within(s, at) as u16,
+            fact: little_endian::u16_within(s, at + 2) as u16,
+            from: little_endian::u32_within(s, at + 4),
+            to: little_endian::u32_within(s, at + 8),
+            value: little_endian::u16_within(s, at + 12) as u16,
         };
     }
     Condition {
@@ -235,12 +235,12 @@ pub fn effect_of(s: &[u8], job: Job, k: u16) -> Effect
     ensures { λ r. ⌜ r ≡ effectOf (view job (now (s .entry))) k ⌝ }
 {
     let at = job.at.effects as usize + WIDTHS[EFFECT] * k as usize;
-    if laws::has_room(s, at, 10) {
+    if little_endian::has_room(s, at, 10) {
         return Effect {
-            step: laws::u16_within(s, at) as u16,
-            fact: laws::u16_within(s, at + 2) as u16,
-            at: laws::u32_within(s, at + 4),
-            value: laws::u16_within(s, at + 8) as u16,
+            step: little_endian::u16_within(s, at) as u16,
+            fact: little_endian::u16_within(s, at + 2) as u16,
+            at: little_endian::u32_within(s, at + 4),
+            value: little_endian::u16_within(s, at + 8) as u16,
         };
     }
     Effect {
@@ -255,12 +255,12 @@ pub fn use_of(s: &[u8], job: Job, k: u16) -> Use
     ensures { λ r. ⌜ r ≡ useOf (view job (now (s .entry))) k ⌝ }
 {
     let at = job.at.uses as usize + WIDTHS[USE] * k as usize;
-    if laws::has_room(s, at, 12) {
+    if little_endian::has_room(s, at, 12) {
         return Use {
-            step: laws::u16_within(s, at) as u16,
-            level: laws::u16_within(s, at + 2) as u16,
-            at: laws::u32_within(s, at + 4),
-            amount: laws::biased_within(s, at + 8),
+            step: little_endian::u16_within(s, at) as u16,
+            level: little_endian::u16_within(s, at + 2) as u16,
+            at: little_endian::u32_within(s, at + 4),
+            amount: little_endian::biased_within(s, at + 8),
         };
     }
     Use {

@@ -3,5 +3,5 @@ pub mod Search
 pub mod Fold
 pub mod Nth
 pub mod Listed
-pub mod Bytes
 pub mod Linked
+pub mod Chosen

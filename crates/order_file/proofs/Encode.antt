@@ -4,7 +4,7 @@ use mathlib.Core.Path.{_≡_, refl, sym, ap, ap₂, _∙_}
 use mathlib.Core.List.{_++_, append-nil, append-assoc}
 use lib.ListN.{length, length-append}
 use Rattle.laws.specs.Listed.{concatenate}
-use Rattle.laws.specs.Bytes.{u16Bytes, u32Bytes}
+use Rattle.little_endian.specs.Bytes.{u16Bytes, u32Bytes}
 use Rattle.laws.proofs.Listed.{concatenate-more}
 use Rattle.order_file.specs.Contents.{Contents}
 use Rattle.order_file.specs.Layout.{windowAt, orderAt, linkAt, fileLength}

@@ -1,9 +1,6 @@
--- The laws of order files.
+-- What is encoded reads back whole, and what is written is what is encoded.
 pub mod Stands
 pub mod Encode
 pub mod RoundTrip
-pub mod WellFormed
-pub mod Answers
-pub mod Ascending
-pub mod ReadBack
-pub mod Signed
+pub mod Put
+pub mod Whole

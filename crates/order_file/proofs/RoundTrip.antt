@@ -7,9 +7,9 @@ use native.Mathlib.Nat.{zero-add, add-zero}
 use native.Mathlib.Omega.{arith}
 use lib.ListN.{length, getD}
 use Rattle.laws.specs.Listed.{concatenate}
-use Rattle.laws.specs.Bytes.{u16At, u32At, biasedAt, u16Bytes, u32Bytes}
+use Rattle.little_endian.specs.Bytes.{u16At, u32At, biasedAt, u16Bytes, u32Bytes}
 use Rattle.order_file.specs.Contents.{Contents, initialState}
-use Rattle.order_file.specs.Layout.{windowsAt, windowAt, ordersAt, orderAt, linksAt, linkAt, gapOf, contentsOf}
+use Rattle.order_file.specs.Layout.{windowsAt, windowAt, ordersAt, orderAt, linksAt, linkAt, gapRead, contentsOf}
 use Rattle.order_file.specs.Encode.{headerBytes, windowBytes, orderBytes, linkBytes, gapBits, upToWindow, upToOrder, upToLink, encode}
 use Rattle.order_file.specs.Within.{Within}
 use Rattle.order_file.specs.Agree.{Agree}
@@ -182,7 +182,7 @@ module _ (c : Contents) where
     second-back : (k : ℕ) → k < c .orders → u16At (encode c) (orderAt (c .steps) k + 2) ≡ c .second k
     second-back k h = order-u16 k h 2 (omega arith) ∙ second-bytes k (omega (arith, w .secondCounted k h, w .steps))
 
-    gap-back : (k : ℕ) → k < c .orders → gapOf (biasedAt (encode c) (orderAt (c .steps) k + 4)) ≡ c .gap k
+    gap-back : (k : ℕ) → k < c .orders → gapRead (biasedAt (encode c) (orderAt (c .steps) k + 4)) ≡ c .gap k
     unfolding biasedAt
     gap-back k h =
         let e : u32At (encode c) (orderAt (c .steps) k + 4) ≡ gapBits (c .gap k) = order-u32 k h ∙ gap-bytes k in
@@ -209,6 +209,6 @@ module _ (c : Contents) where
           earliest = earliest-back;
           first = λ k h. ap (λ n. u16At (encode c) (orderAt n k)) steps-back ∙ first-back k h;
           second = λ k h. ap (λ n. u16At (encode c) (orderAt n k + 2)) steps-back ∙ second-back k h;
-          gap = λ k h. ap (λ n. gapOf (biasedAt (encode c) (orderAt n k + 4))) steps-back ∙ gap-back k h;
+          gap = λ k h. ap (λ n. gapRead (biasedAt (encode c) (orderAt n k + 4))) steps-back ∙ gap-back k h;
           link = λ k h. ap₂ (λ m n. u16At (encode c) (linkAt m n k)) steps-back orders-back ∙ link-back k h;
         }

@@ -1,25 +1,54 @@
 // Where an order file holds what it says, and its fields read from there.
 ghost use mathlib.Core.Path.{_≡_};
-ghost use Prim.Native.Nat.{_<_, _+_};
-ghost use Rattle.order_file.specs.Layout.{windowAt, orderAt, linkAt, gapOf, contentsOf};
+ghost use Prim.Native.Nat.{_<_};
+ghost use Rattle.order_file.specs.Layout.{windowAt, orderAt, linkAt, gapRead, contentsOf};
 
-// The widths of a window, an order and a link.
-const WIDTHS: [usize; 3] = [12, 8, 2];
+// The edition of every order file.
+pub const EDITION: usize = 1;
 
 // Where the windows begin.
 pub const WINDOWS_AT: usize = 24;
 
-// What a gap here has more than the paper's gap, and what an i32 has that is read without a sign.
+// Record widths in bytes, in the tables' order.
+pub const WIDTHS: [usize; 3] = [12, 8, 2];
+
+pub const WINDOW: usize = 0;
+
+pub const ORDER: usize = 1;
+
+pub const LINK: usize = 2;
+
+// The highest counts.
+pub const MOST_STEPS: usize = 64;
+
+pub const MOST_ORDERS: usize = 4032;
+
+pub const MOST_LINKS: usize = 544;
+
+// The latest start of a step that has none.
+pub const NO_LATEST: u32 = 4294967295;
+
+// What a gap here has more than the paper's gap, so that it has no sign, and the range of an order's gap with that.
 pub const GAP_BIAS: usize = 100000;
 
-const SIGN_BIAS: usize = 2147483648;
+pub const LEAST_GAP: usize = GAP_BIAS - 99999;
+
+pub const MOST_GAP: usize = GAP_BIAS + 100001;
+
+// What an i32 has more where it is read without a sign.
+pub const SIGN_BIAS: usize = 2147483648;
+
+// The highest number of an effect, and the link to the initial state.
+pub const LAST_EFFECT: usize = 511;
+
+pub const INITIAL_STATE: u16 = 65535;
 
 // Where a window begins; that of the number past the last is where the orders begin.
 pub fn window_at(k: usize) -> usize
     requires { ⌜ k < 65536 ⌝ }
     ensures { λ r. ⌜ (r ≡ windowAt k) × (r < 1000000) ⌝ }
 {
-    WINDOWS_AT + WIDTHS[0] * k
+    WINDOWS_AT + WIDTHS[WINDOW] * k
 }
 
 // Where an order begins; that of the number past the last is where the links begin.
@@ -27,7 +56,7 @@ pub fn order_at(steps: usize, k: usize) -> usize
     requires { ⌜ (steps < 65536) × (k < 65536) ⌝ }
     ensures { λ r. ⌜ (r ≡ orderAt steps k) × (r < 2000000) ⌝ }
 {
-    window_at(steps) + WIDTHS[1] * k
+    window_at(steps) + WIDTHS[ORDER] * k
 }
 
 // Where a link begins; that of the number past the last is where the file ends.
@@ -35,32 +64,32 @@ pub fn link_at(steps: usize, orders: usize, k: usize) -> usize
     requires { ⌜ (steps < 65536) × (orders < 65536) × (k < 65536) ⌝ }
     ensures { λ r. ⌜ (r ≡ linkAt steps orders k) × (r < 3000000) ⌝ }
 {
-    order_at(steps, orders) + WIDTHS[2] * k
+    order_at(steps, orders) + WIDTHS[LINK] * k
 }
 
 // How many steps, orders and links the file counts.
 pub fn steps(file: &[u8]) -> usize
     ensures { λ r. ⌜ (r ≡ contentsOf (now (file .entry)) .steps) × (r < 65536) ⌝ }
 {
-    laws::u16_at(file, 2)
+    little_endian::u16_at(file, 2)
 }
 
 pub fn orders(file: &[u8]) -> usize
     ensures { λ r. ⌜ (r ≡ contentsOf (now (file .entry)) .orders) × (r < 65536) ⌝ }
 {
-    laws::u16_at(file, 4)
+    little_endian::u16_at(file, 4)
 }
 
 pub fn links(file: &[u8]) -> usize
     ensures { λ r. ⌜ (r ≡ contentsOf (now (file .entry)) .links) × (r < 65536) ⌝ }
 {
-    laws::u16_at(file, 6)
+    little_endian::u16_at(file, 6)
 }
 
 pub fn rounds(file: &[u8]) -> usize
     ensures { λ r. ⌜ (r ≡ contentsOf (now (file .entry)) .rounds) × (r < 4294967296) ⌝ }
 {
-    laws::u32_at(file, 8)
+    little_endian::u32_at(file, 8)
 }
 
 // The fields of a step's window.
@@ -68,27 +97,27 @@ pub fn limit(file: &[u8], k: usize) -> usize
     requires { ⌜ k < 65536 ⌝ }
     ensures { λ r. ⌜ (r ≡ contentsOf (now (file .entry)) .limit k) × (r < 4294967296) ⌝ }
 {
-    laws::u32_at(file, window_at(k))
+    little_endian::u32_at(file, window_at(k))
 }
 
 pub fn latest(file: &[u8], k: usize) -> usize
     requires { ⌜ k < 65536 ⌝ }
     ensures { λ r. ⌜ (r ≡ contentsOf (now (file .entry)) .latest k) × (r < 4294967296) ⌝ }
 {
-    laws::u32_at(file, window_at(k) + 4)
+    little_endian::u32_at(file, window_at(k) + 4)
 }
 
 pub fn earliest(file: &[u8], k: usize) -> usize
     requires { ⌜ k < 65536 ⌝ }
     ensures { λ r. ⌜ (r ≡ contentsOf (now (file .entry)) .earliest k) × (r < 4294967296) ⌝ }
 {
-    laws::u32_at(file, window_at(k) + 8)
+    little_endian::u32_at(file, window_at(k) + 8)
 }
 
 // The gap plus 100000, of the i32 plus 2147483648.
-fn gap_of(biased: usize) -> usize
+fn gap_read(biased: usize) -> usize
     requires { ⌜ biased < 4294967296 ⌝ }
-    ensures { λ r. ⌜ (r ≡ gapOf biased) × (r < 2147583648) ⌝ }
+    ensures { λ r. ⌜ (r ≡ gapRead biased) × (r < 2147583648) ⌝ }
 {
     if biased < SIGN_BIAS - GAP_BIAS {
         0
@@ -102,21 +131,21 @@ pub fn first(file: &[u8], k: usize) -> usize
     requires { ⌜ k < 65536 ⌝ }
     ensures { λ r. ⌜ (r ≡ contentsOf (now (file .entry)) .first k) × (r < 65536) ⌝ }
 {
-    laws::u16_at(file, order_at(steps(file), k))
+    little_endian::u16_at(file, order_at(steps(file), k))
 }
 
 pub fn second(file: &[u8], k: usize) -> usize
     requires { ⌜ k < 65536 ⌝ }
     ensures { λ r. ⌜ (r ≡ contentsOf (now (file .entry)) .second k) × (r < 65536) ⌝ }
 {
-    laws::u16_at(file, order_at(steps(file), k) + 2)
+    little_endian::u16_at(file, order_at(steps(file), k) + 2)
 }
 
 pub fn gap(file: &[u8], k: usize) -> usize
     requires { ⌜ k < 65536 ⌝ }
     ensures { λ r. ⌜ (r ≡ contentsOf (now (file .entry)) .gap k) × (r < 2147583648) ⌝ }
 {
-    gap_of(laws::biased_at(file, order_at(steps(file), k) + 4))
+    gap_read(little_endian::biased_at(file, order_at(steps(file), k) + 4))
 }
 
 // A link.
@@ -124,5 +153,5 @@ pub fn link(file: &[u8], k: usize) -> usize
     requires { ⌜ k < 65536 ⌝ }
     ensures { λ r. ⌜ (r ≡ contentsOf (now (file .entry)) .link k) × (r < 65536) ⌝ }
 {
-    laws::u16_at(file, link_at(steps(file), orders(file), k))
+    little_endian::u16_at(file, link_at(steps(file), orders(file), k))
 }

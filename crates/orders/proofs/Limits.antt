@@ -15,9 +15,10 @@ use Rattle.laws.specs.Fold.{least}
 use Rattle.laws.proofs.Fold.{least-none}
 use Rattle.laws.proofs.Search.{either, contrary, and-both}
 use Rattle.job.specs.Model.{Model}
-use Rattle.job.specs.Ranges.{noDeadline}
-use Rattle.orders.specs.Links.{initialState, goalLink}
-use Rattle.orders.specs.Windows.{noLatest, limitOf, allowed, latestOf}
+use Rattle.job.specs.Model.{noDeadline}
+use Rattle.order_file.specs.Contents.{initialState, noLatest}
+use Rattle.orders.specs.Links.{goalLink}
+use Rattle.orders.specs.Windows.{limitOf, allowed, latestOf}
 
 module _ (m : Model) (x : ℕ → ℕ) where
   pub limit-fixed : (k : ℕ) → m .fixed k ≡ 1 → limitOf m k ≡ m .start k

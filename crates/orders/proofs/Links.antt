@@ -14,13 +14,14 @@ use Rattle.laws.specs.Fold.{least}
 use Rattle.laws.proofs.Search.{either, contrary, and-both, lowest-facts, lowest-lt}
 use Rattle.laws.proofs.Fold.{least-le}
 use Rattle.job.specs.Model.{Model}
-use Rattle.job.specs.Ranges.{noDeadline}
+use Rattle.job.specs.Model.{noDeadline}
 use Rattle.job.specs.WellFormed.{WellFormed}
-use Rattle.schedule.specs.Ticks.{effectTick, firstTick}
-use Rattle.schedule.specs.Seen.{lastSet, seen, afterAll}
-use Rattle.schedule.specs.Valid.{Valid}
-use Rattle.schedule.proofs.Seen.{Giver, LaterGiver, lastSet-ge, lastSet-grows, seen-other, seen-why-apart, afterAll-ge}
-use Rattle.orders.specs.Links.{initialState, producer, earliestProduced, supporter, linkOf, conditionLink, goalLink}
+use Rattle.validity.specs.Ticks.{effectTick, firstTick}
+use Rattle.validity.specs.Seen.{lastGiven, seen, afterAll}
+use Rattle.validity.specs.Valid.{Valid}
+use Rattle.validity.proofs.Seen.{Giver, LaterGiver, lastGiven-ge, lastGiven-grows, seen-other, seen-why-apart, afterAll-ge}
+use Rattle.order_file.specs.Contents.{initialState}
+use Rattle.orders.specs.Links.{producer, earliestProduced, supporter, linkOf, conditionLink, goalLink}
 
 -- why the value is seen at t: by the initial state with nothing opposing before, or by an effect after all that opposes before
 pub data Linked (m : Model) (x : ℕ → ℕ) (fact v t link : ℕ) : Type 0 where
@@ -49,13 +50,13 @@ least-at f none (suc n) =
 
 -- the supporter of a value, where some effect gives it after the last opposing one
 module _ (m : Model) (x : ℕ → ℕ) (fact v t : ℕ) where
-  produces : (e : ℕ) → Giver m fact v e → lastSet m x fact (1 - v) t ≤ effectTick m x e → producer m x fact v t e ≡ true
+  produces : (e : ℕ) → Giver m fact v e → lastGiven m x fact (1 - v) t ≤ effectTick m x e → producer m x fact v t e ≡ true
   unfolding producer
   produces e g l = ap₂ _&&_ (ap₂ _&&_ (eq-eqb _ _ (g .ofFact)) (eq-eqb _ _ (g .ofValue))) (le-leb _ _ l)
 
   producer-gives :
       (e : ℕ) → e < m .effects → producer m x fact v t e ≡ true
-      → Giver m fact v e × (lastSet m x fact (1 - v) t ≤ effectTick m x e)
+      → Giver m fact v e × (lastGiven m x fact (1 - v) t ≤ effectTick m x e)
   unfolding producer
   producer-gives e h p =
       let b = and-both _ _ p in
@@ -92,8 +93,8 @@ module _ (m : Model) (x : ℕ → ℕ) (fact v t : ℕ) where
 
   -- so the supporter gives the value after the last opposing effect, no later than any other that does
   supporter-is :
-      (e : ℕ) → Giver m fact v e → lastSet m x fact (1 - v) t ≤ effectTick m x e
-      → Giver m fact v (supporter m x fact v t) × (lastSet m x fact (1 - v) t ≤ effectTick m x (supporter m x fact v t))
+      (e : ℕ) → Giver m fact v e → lastGiven m x fact (1 - v) t ≤ effectTick m x e
+      → Giver m fact v (supporter m x fact v t) × (lastGiven m x fact (1 - v) t ≤ effectTick m x (supporter m x fact v t))
       × (effectTick m x (supporter m x fact v t) ≤ effectTick m x e)
   unfolding supporter
   supporter-is e g l =
@@ -108,15 +109,15 @@ module _ (m : Model) (x : ℕ → ℕ) (fact v t : ℕ) where
 
   -- the link is the initial state where nothing opposes before and the initial value is wanted, else the supporter
   abbrev IsInitial : Type 0
-  IsInitial = (linkOf m x fact v t ≡ initialState) × (lastSet m x fact (1 - v) t ≡ 0) × (m .initial fact ≡ v)
+  IsInitial = (linkOf m x fact v t ≡ initialState) × (lastGiven m x fact (1 - v) t ≡ 0) × (m .initial fact ≡ v)
 
   abbrev IsSupporter : Type 0
-  IsSupporter = (linkOf m x fact v t ≡ supporter m x fact v t) × (lastSet m x fact (1 - v) t ≡ 0 → m .initial fact ≡ v → ⊥)
+  IsSupporter = (linkOf m x fact v t ≡ supporter m x fact v t) × (lastGiven m x fact (1 - v) t ≡ 0 → m .initial fact ≡ v → ⊥)
 
   link-cases : IsInitial ⊎ IsSupporter
   unfolding linkOf
   link-cases =
-      let z = eqb (lastSet m x fact (1 - v) t) 0 in
+      let z = eqb (lastGiven m x fact (1 - v) t) 0 in
       let i = eqb (m .initial fact) v in
       ⊎-elim
       (λ (a : (z && i) ≡ true).
@@ -145,14 +146,14 @@ module _ (m : Model) (x : ℕ → ℕ) (w : WellFormed m) (s : Valid m x) where
   linked fact v t b h =
       ⊎-elim
       (λ (i : IsInitial m x fact v t).
-      initially (i .0) (i .2) (λ f g l. omega (arith, lastSet-ge m x fact (1 - v) t f g l, i .1)))
+      initially (i .0) (i .2) (λ f g l. omega (arith, lastGiven-ge m x fact (1 - v) t f g l, i .1)))
       (λ (i : IsSupporter m x fact v t).
       rw (i .0)
       (⊎-elim
       (λ (e : LaterGiver m x fact v t).
       let p = supporter-is m x fact v t (e .0) (e .1) (e .3) in
-      produced (p .0) (omega (arith, p .2, e .2)) (λ f g l. omega (arith, p .1, lastSet-ge m x fact (1 - v) t f g l)))
-      (λ (z : (m .initial fact ≡ v) × (lastSet m x fact (1 - v) t ≡ 0)). absurd (i .1 (z .1) (z .0)))
+      produced (p .0) (omega (arith, p .2, e .2)) (λ f g l. omega (arith, p .1, lastGiven-ge m x fact (1 - v) t f g l)))
+      (λ (z : (m .initial fact ≡ v) × (lastGiven m x fact (1 - v) t ≡ 0)). absurd (i .1 (z .1) (z .0)))
       (seen-why-apart m x fact v t b (apart fact v) h)))
       (link-cases m x fact v t)
 
@@ -190,8 +191,8 @@ module _ (m : Model) (x : ℕ → ℕ) (w : WellFormed m) (s : Valid m x) where
       let fact = m .goalFact g in
       let v = m .goalValue g in
       let t = suc (m .goalDeadline g) in
-      let l : lastSet m x fact (1 - v) (afterAll m x) ≤ lastSet m x fact (1 - v) t =
-      lastSet-grows m x fact (1 - v) (afterAll m x) t (λ f o _. omega (arith, opposed-in-time g f h d o))
+      let l : lastGiven m x fact (1 - v) (afterAll m x) ≤ lastGiven m x fact (1 - v) t =
+      lastGiven-grows m x fact (1 - v) (afterAll m x) t (λ f o _. omega (arith, opposed-in-time g f h d o))
       in
       ⊎-elim
       (λ (i : IsInitial m x fact v (afterAll m x)). absurd (n (i .0)))
@@ -200,6 +201,6 @@ module _ (m : Model) (x : ℕ → ℕ) (w : WellFormed m) (s : Valid m x) where
       (⊎-elim
       (λ (e : LaterGiver m x fact v t).
       omega (arith, supporter-is m x fact v (afterAll m x) (e .0) (e .1) (omega (arith, e .3)) .2, e .2))
-      (λ (z : (m .initial fact ≡ v) × (lastSet m x fact (1 - v) t ≡ 0)). absurd (i .1 (omega (arith, z .1)) (z .0)))
+      (λ (z : (m .initial fact ≡ v) × (lastGiven m x fact (1 - v) t ≡ 0)). absurd (i .1 (omega (arith, z .1)) (z .0)))
       (seen-why-apart m x fact v t (w .goalValue g h) (apart fact v) (s .goalInTime g t h d (omega arith)))))
       (link-cases m x fact v (afterAll m x))

@@ -12,8 +12,9 @@ use Rattle.laws.specs.Fold.{largest}
 use Rattle.laws.proofs.Fold.{largest-ge}
 use Rattle.job.specs.Model.{Model}
 use Rattle.job.specs.WellFormed.{WellFormed}
-use Rattle.schedule.specs.Ticks.{effectTick, firstTick, lastTick, useTick, finish, opposes}
-use Rattle.orders.specs.Links.{initialState, conditionLink}
+use Rattle.validity.specs.Ticks.{effectTick, firstTick, lastTick, useTick, finish, opposes}
+use Rattle.order_file.specs.Contents.{initialState}
+use Rattle.orders.specs.Links.{conditionLink}
 use Rattle.orders.specs.Gaps.{strictly, supportOrder, supportGap, opposingOrder, opposingGap, beforeOrder, afterOrder, conditionGap}
 use Rattle.orders.specs.Gaps.{levelOrder, levelGap, serialGap, gapOf}
 use Rattle.orders.specs.Obeys.{Obeys}

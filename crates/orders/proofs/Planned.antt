@@ -12,14 +12,15 @@ use Rattle.laws.specs.Fold.{largest, least}
 use Rattle.laws.proofs.Search.{either, and-both}
 use Rattle.laws.proofs.Fold.{largest-le}
 use Rattle.job.specs.Model.{Model}
-use Rattle.job.specs.Ranges.{noDeadline}
+use Rattle.job.specs.Model.{noDeadline}
 use Rattle.job.specs.WellFormed.{WellFormed}
-use Rattle.schedule.specs.Ticks.{effectTick, firstTick, finish, opposes}
-use Rattle.schedule.specs.Valid.{Valid}
-use Rattle.orders.specs.Links.{initialState, conditionLink, goalLink}
+use Rattle.validity.specs.Ticks.{effectTick, firstTick, finish, opposes}
+use Rattle.validity.specs.Valid.{Valid}
+use Rattle.order_file.specs.Contents.{initialState, noLatest}
+use Rattle.orders.specs.Links.{conditionLink, goalLink}
 use Rattle.orders.specs.Gaps.{strictly, supportOrder, supportGap, opposingOrder, opposingGap, beforeOrder, afterOrder, conditionGap}
 use Rattle.orders.specs.Gaps.{levelOrder, levelGap, serialGap, gapOf}
-use Rattle.orders.specs.Windows.{noLatest, limitOf, allowed, latestOf}
+use Rattle.orders.specs.Windows.{limitOf, allowed, latestOf}
 use Rattle.orders.specs.Obeys.{Obeys}
 use Rattle.orders.proofs.Orders.{room}
 use Rattle.orders.proofs.Links.{Linked, initially, produced, least-at, condition-linked, goal-link-in-time}

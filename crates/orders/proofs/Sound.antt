@@ -10,16 +10,17 @@ use native.Mathlib.Omega.{arith}
 use Rattle.laws.proofs.Search.{by-order}
 use Rattle.laws.proofs.Fold.{least-le}
 use Rattle.job.specs.Model.{Model}
-use Rattle.job.specs.Ranges.{noDeadline}
+use Rattle.job.specs.Model.{noDeadline}
 use Rattle.job.specs.WellFormed.{WellFormed}
-use Rattle.schedule.specs.Ticks.{effectTick, firstTick, lastTick, useTick, finish}
-use Rattle.schedule.specs.Seen.{seen, afterAll}
-use Rattle.schedule.specs.Levels.{risesBefore, fallsBefore}
-use Rattle.schedule.specs.Valid.{Valid}
-use Rattle.schedule.proofs.Seen.{Giver, seen-by-effect, seen-by-initial, afterAll-ge}
-use Rattle.schedule.proofs.Levels.{Within, rises-within, falls-within, last-use}
-use Rattle.orders.specs.Links.{initialState, conditionLink, goalLink}
-use Rattle.orders.specs.Windows.{noLatest, allowed, latestOf}
+use Rattle.validity.specs.Ticks.{effectTick, firstTick, lastTick, useTick, finish}
+use Rattle.validity.specs.Seen.{seen, afterAll}
+use Rattle.validity.specs.Levels.{risesBefore, fallsBefore}
+use Rattle.validity.specs.Valid.{Valid}
+use Rattle.validity.proofs.Seen.{Giver, seen-by-effect, seen-by-initial, afterAll-ge}
+use Rattle.validity.proofs.Levels.{Within, rises-within, falls-within, last-use}
+use Rattle.order_file.specs.Contents.{initialState, noLatest}
+use Rattle.orders.specs.Links.{conditionLink, goalLink}
+use Rattle.orders.specs.Windows.{allowed, latestOf}
 use Rattle.orders.specs.Obeys.{Obeys}
 use Rattle.orders.proofs.Orders.{Opposer, kept-opposing, kept-support, kept-before, kept-after, kept-uses, kept-serial}
 use Rattle.orders.proofs.Links.{Linked, initially, produced, condition-linked, goal-linked, goal-link-in-time}

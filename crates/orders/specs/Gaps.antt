@@ -5,8 +5,9 @@ use mathlib.Core.Bool.{Bool, _&&_, _||_, not, cond}
 use lib.Dec.{ltb, leb, eqb}
 use Rattle.laws.specs.Fold.{largest}
 use Rattle.job.specs.Model.{Model}
-use Rattle.schedule.specs.Ticks.{effectTick, firstTick, lastTick, useTick, finish, opposes}
-use Rattle.orders.specs.Links.{initialState, conditionLink}
+use Rattle.validity.specs.Ticks.{effectTick, firstTick, lastTick, useTick, finish, opposes}
+use Rattle.order_file.specs.Contents.{initialState}
+use Rattle.orders.specs.Links.{conditionLink}
 
 -- "Point p strictly before point q" gives gap p − q + 1
 abbrev pub strictly : ℕ → ℕ → ℕ

@@ -5,8 +5,8 @@ use lib.Dec.{ltb, leb, eqb}
 use Rattle.laws.specs.Search.{lowest}
 use Rattle.laws.specs.Fold.{least}
 use Rattle.job.specs.Model.{Model}
-use Rattle.schedule.specs.Ticks.{effectTick, firstTick, gives}
-use Rattle.schedule.specs.Seen.{lastSet, afterAll}
+use Rattle.validity.specs.Ticks.{effectTick, firstTick, gives}
+use Rattle.validity.specs.Seen.{lastGiven, afterAll}
 
 -- the link that stands for the initial state
 abbrev pub initialState : ℕ
@@ -18,7 +18,7 @@ other value = 1 - value
 
 -- one more than the tick of the last opposing effect before tick t; 0 for none
 abbrev pub lastOpposing : Model → (ℕ → ℕ) → ℕ → ℕ → ℕ → ℕ
-lastOpposing m x fact value t = lastSet m x fact (other value) t
+lastOpposing m x fact value t = lastGiven m x fact (other value) t
 
 -- an effect that gives the wanted value after the last opposing effect before tick t
 unfoldable pub producer : Model → (ℕ → ℕ) → ℕ → ℕ → ℕ → ℕ → Bool
@@ -49,5 +49,5 @@ unfoldable pub goalLink : Model → (ℕ → ℕ) → ℕ → ℕ
 goalLink m x g = linkOf m x (m .goalFact g) (m .goalValue g) (afterAll m x)
 
 -- "one for each condition, then each goal": all links in one list
-unfoldable pub linkAt : Model → (ℕ → ℕ) → ℕ → ℕ
-linkAt m x j = cond (ltb j (m .conditions)) (conditionLink m x j) (goalLink m x (j - m .conditions))
+unfoldable pub nthLink : Model → (ℕ → ℕ) → ℕ → ℕ
+nthLink m x j = cond (ltb j (m .conditions)) (conditionLink m x j) (goalLink m x (j - m .conditions))

@@ -3,7 +3,8 @@ use Prim.Native.Nat.{ℕ, _+_, _≤_, _<_}
 use mathlib.Core.Path.{_≡_}
 use Rattle.job.specs.Model.{Model}
 use Rattle.orders.specs.Gaps.{gapOf}
-use Rattle.orders.specs.Windows.{noLatest, limitOf, latestOf}
+use Rattle.order_file.specs.Contents.{noLatest}
+use Rattle.orders.specs.Windows.{limitOf, latestOf}
 
 pub record Obeys (m : Model) (x y : ℕ → ℕ) : Type 0 where
   -- every start is at least its step's earliest limit

@@ -4,12 +4,9 @@ use mathlib.Core.Bool.{Bool, _&&_, not, cond}
 use lib.Dec.{eqb}
 use Rattle.laws.specs.Fold.{least}
 use Rattle.job.specs.Model.{Model}
-use Rattle.job.specs.Ranges.{noDeadline}
-use Rattle.orders.specs.Links.{initialState, goalLink}
-
--- the latest start of a step that has none
-abbrev pub noLatest : ℕ
-noLatest = 4294967295
+use Rattle.job.specs.Model.{noDeadline}
+use Rattle.order_file.specs.Contents.{initialState, noLatest}
+use Rattle.orders.specs.Links.{goalLink}
 
 -- "The earliest limit is the written start of a fixed step, else 0"
 unfoldable pub limitOf : Model → ℕ → ℕ

@@ -9,20 +9,21 @@ use Rattle.laws.specs.Nth.{count}
 use Rattle.laws.proofs.Fold.{largest-ge, largest-le, largest-cong}
 use Rattle.job.specs.Model.{Model}
 use Rattle.job.specs.WellFormed.{WellFormed}
-use Rattle.schedule.specs.Valid.{Valid}
+use Rattle.validity.specs.Valid.{Valid}
 use Rattle.order_file.specs.Contents.{Contents}
 use Rattle.order_file.specs.Agree.{Agree}
 use Rattle.orders.specs.Gaps.{gapOf}
 use Rattle.orders.specs.Windows.{limitOf}
-use Rattle.orders.specs.Rounds.{after, unchanged}
-use Rattle.partialize.specs.Table.{gapBias, single}
-use Rattle.partialize.specs.File.{roundsOf, ordered, pairOf, fileOf}
+use Rattle.rounds.specs.Rounds.{after, unchanged}
+use Rattle.order_file.specs.Contents.{gapBias}
+use Rattle.gaps.specs.Table.{single}
+use Rattle.orders.specs.File.{roundsOf, ordered, pairOf, fileOf}
 use Rattle.partialize.specs.Demands.{filedGap, settledAfter}
-use Rattle.orders.proofs.Rounds.{rounds-some, last-unchanged, earlier-changes}
-use Rattle.orders.proofs.Same.{unchanged-same}
-use Rattle.partialize.proofs.Raised.{single-at, single-le}
+use Rattle.rounds.proofs.Rounds.{rounds-some, last-unchanged, earlier-changes}
+use Rattle.rounds.proofs.Same.{unchanged-same}
+use Rattle.gaps.proofs.Raised.{single-at, single-le}
 use Rattle.orders.proofs.Planned.{planned-obeys}
-use Rattle.partialize.proofs.Satisfied.{pair-filed, obeys-satisfied}
+use Rattle.orders.proofs.Satisfied.{pair-filed, obeys-satisfied}
 
 module _ (m : Model) (x : ℕ → ℕ) (w : WellFormed m) where
   -- the largest gap filed between two steps is the rules' gap

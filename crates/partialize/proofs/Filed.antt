@@ -9,7 +9,7 @@ use borrow.Author.Tests.{lt-ltb, le-ltb}
 use lib.ListN.{getD}
 use lib.Dec.{ltb, eqb}
 use Rattle.laws.specs.Listed.{concatenate}
-use Rattle.laws.specs.Bytes.{u16Bytes}
+use Rattle.little_endian.specs.Bytes.{u16Bytes}
 use Rattle.laws.specs.Nth.{count, nth}
 use Rattle.laws.proofs.Nth.{count-cong, nth-cong}
 use Rattle.job.specs.Model.{Model}
@@ -17,11 +17,12 @@ use Rattle.job.specs.WellFormed.{WellFormed}
 use Rattle.order_file.specs.Contents.{Contents}
 use Rattle.order_file.specs.Encode.{headerBytes, windowBytes, orderBytes, linkBytes, gapBits, upToWindow, upToOrder, upToLink, encode}
 use Rattle.order_file.specs.Agree.{Agree}
-use Rattle.orders.specs.Links.{linkAt}
+use Rattle.orders.specs.Links.{nthLink}
 use Rattle.orders.specs.Gaps.{gapOf}
-use Rattle.partialize.specs.File.{ordered, pairOf, fileOf}
-use Rattle.partialize.specs.Held.{entered, heldIn, Holds}
-use Rattle.partialize.proofs.Satisfied.{ordered-out, pair-ordered}
+use Rattle.orders.specs.File.{ordered, pairOf, fileOf}
+use Rattle.order_file.specs.Held.{entered, heldIn}
+use Rattle.partialize.specs.Holds.{Holds}
+use Rattle.orders.proofs.Satisfied.{ordered-out, pair-ordered}
 
 concatenate-cong : (f g : ℕ → List ℕ) (n : ℕ) → ((k : ℕ) → k < n → f k ≡ g k) → concatenate n f ≡ concatenate n g
 unfolding concatenate
@@ -91,8 +92,8 @@ module _
         let p = ordered-out m x (pairOf m x o) (pair-ordered m x o l) in
         ap (λ q. getD gaps q 0) (same-pair o) ∙ entry (pairOf m x o) (p .0) (p .1)
 
-    same-link : (j : ℕ) → j < m .conditions + m .goals → getD linked j 0 ≡ linkAt m x j
-    unfolding linkAt
+    same-link : (j : ℕ) → j < m .conditions + m .goals → getD linked j 0 ≡ nthLink m x j
+    unfolding nthLink
     same-link j l =
         elim (decLt j (m .conditions)) [
           | yes a ↦ rw (lt-ltb _ _ a) (h .conditionAt j a)

@@ -13,15 +13,20 @@ use Rattle.order_file.specs.Encode.{encode}
 use Rattle.order_file.specs.Layout.{fileLength}
 use Rattle.order_file.proofs.Encode.{length-encode}
 use Rattle.partialize.specs.declared.answer.Answer.the-variants.{Filed, BufferTooShort}
-use Rattle.orders.specs.Links.{conditionLink, goalLink, linkAt}
+use Rattle.orders.specs.Links.{conditionLink, goalLink, nthLink}
 use Rattle.orders.specs.Gaps.{gapOf}
 use Rattle.orders.specs.Windows.{limitOf, latestOf}
-use Rattle.orders.specs.Rounds.{rounds, earliest}
-use Rattle.partialize.specs.Table.{gapBias, gapIn, startIn, Filled, TableOf, LinksOf}
-use Rattle.partialize.specs.File.{fileOf}
-use Rattle.partialize.specs.Held.{entered, heldIn, over, NoneFrom, Holds}
-use Rattle.partialize.specs.Demands.{Written}
-use Rattle.orders.proofs.Same.{rounds-same, earliest-same}
+use Rattle.rounds.specs.Rounds.{rounds, earliest}
+use Rattle.order_file.specs.Contents.{gapBias}
+use Rattle.order_file.specs.Table.{gapIn, startIn}
+use Rattle.laws.specs.Listed.{Filled}
+use Rattle.gaps.specs.Table.{TableOf}
+use Rattle.links.specs.LinkList.{LinksOf}
+use Rattle.orders.specs.File.{fileOf}
+use Rattle.order_file.specs.Held.{entered, heldIn, over, NoneFrom}
+use Rattle.partialize.specs.Holds.{Holds}
+use Rattle.partialize.specs.Demands.{Filing}
+use Rattle.rounds.proofs.Same.{rounds-same, earliest-same}
 use Rattle.partialize.proofs.Filed.{held-file}
 
 -- a table of n steps has no order from a later one
@@ -31,16 +36,16 @@ none-from n gap gaps t q h =
     ap (λ p. getD gaps p 0) e ∙ t .rest (q / 64) (q % 64) (omega arith) (λ l _. omega arith)
 
 module _
-    (m : Model) (x : ℕ → ℕ) (w : WellFormed m) (found : ℕ) (limits latest early gaps linked : List ℕ)
+    (m : Model) (x : ℕ → ℕ) (found : ℕ) (limits latest early gaps linked : List ℕ)
     (links : LinksOf m x linked) (table : TableOf (m .steps) (gapOf m x) gaps)
     (limit : (k : ℕ) → k < m .steps → startIn limits k ≡ limitOf m k)
     (late : (k : ℕ) → k < m .steps → startIn latest k ≡ latestOf m x k)
     (counted : found ≡ rounds (m .steps) (gapIn gaps) gapBias (startIn limits))
     (filled : Filled (m .steps) (earliest (m .steps) (gapIn gaps) gapBias (startIn limits)) limits early)
   where
-    holds : Holds m x found limits latest early gaps linked
-    unfolding linkAt
-    holds =
+    pub found-holds : Holds m x found limits latest early gaps linked
+    unfolding nthLink
+    found-holds =
         record {
           roundCount = counted ∙ rounds-same (m .steps) (gapIn gaps) (gapOf m x) gapBias (startIn limits) (limitOf m) (table .below) limit;
           limitAt = limit;
@@ -52,31 +57,33 @@ module _
           goalAt = λ g l. links .each (m .conditions + g) (omega arith) ∙ goal-link g;
         }
       where
-        condition-link : (c : ℕ) → c < m .conditions → linkAt m x c ≡ conditionLink m x c
-        condition-link c l = unfold linkAt in simp (lt-ltb _ _ l)
+        condition-link : (c : ℕ) → c < m .conditions → nthLink m x c ≡ conditionLink m x c
+        condition-link c l = unfold nthLink in simp (lt-ltb _ _ l)
 
-        goal-link : (g : ℕ) → linkAt m x (m .conditions + g) ≡ goalLink m x g
-        goal-link g = unfold linkAt in simp (le-ltb (m .conditions + g) (m .conditions) (omega arith), add-sub-cancel-left)
+        goal-link : (g : ℕ) → nthLink m x (m .conditions + g) ≡ goalLink m x g
+        goal-link g = unfold nthLink in simp (le-ltb (m .conditions + g) (m .conditions) (omega arith), add-sub-cancel-left)
 
-    -- the length that the code sums is the file's
-    pub found-length : fileLength (m .steps) (count 4096 (entered gaps)) (m .conditions + m .goals) ≡ length (encode (fileOf m x))
-    unfolding heldIn
-    found-length =
-        sym (length-encode (heldIn (m .steps) (m .conditions + m .goals) found limits latest early gaps linked))
-        ∙ ap length (held-file m x w found limits latest early gaps linked holds)
+module _ (m : Model) (x : ℕ → ℕ) (w : WellFormed m) (found : ℕ) (limits latest early gaps linked : List ℕ)
+    (holds : Holds m x found limits latest early gaps linked) where
+  -- the length that the code sums is the file's
+  pub found-length : fileLength (m .steps) (count 4096 (entered gaps)) (m .conditions + m .goals) ≡ length (encode (fileOf m x))
+  unfolding heldIn
+  found-length =
+      sym (length-encode (heldIn (m .steps) (m .conditions + m .goals) found limits latest early gaps linked))
+      ∙ ap length (held-file m x w found limits latest early gaps linked holds)
 
-    pub written-short : (n : ℕ) (before : List ℕ) → n ≡ length (encode (fileOf m x)) → length before < n → Written (fileOf m x) before before BufferTooShort
-    written-short n before e h =
-        let f = lt-leb (length (encode (fileOf m x))) (length before) (omega arith) in
-        record { answer = simp f; buffer = simp f }
+  pub written-short : (n : ℕ) (before : List ℕ) → n ≡ length (encode (fileOf m x)) → length before < n → Filing (fileOf m x) before before BufferTooShort
+  written-short n before e h =
+      let f = lt-leb (length (encode (fileOf m x))) (length before) (omega arith) in
+      record { answer = simp f; buffer = simp f }
 
-    pub written-file :
-        (n : ℕ) (before after : List ℕ) → n ≡ length (encode (fileOf m x)) → n ≤ length before
-        → after ≡ over (encode (heldIn (m .steps) (m .conditions + m .goals) found limits latest early gaps linked)) before
-        → Written (fileOf m x) before after (Filed n)
-    written-file n before after e h a =
-        let f = le-leb (length (encode (fileOf m x))) (length before) (omega arith) in
-        record {
-          answer = ap Filed e ∙ simp f;
-          buffer = a ∙ ap (λ (b : List ℕ). over b before) (held-file m x w found limits latest early gaps linked holds) ∙ simp f;
-        }
+  pub written-file :
+      (n : ℕ) (before after : List ℕ) → n ≡ length (encode (fileOf m x)) → n ≤ length before
+      → after ≡ over (encode (heldIn (m .steps) (m .conditions + m .goals) found limits latest early gaps linked)) before
+      → Filing (fileOf m x) before after (Filed n)
+  written-file n before after e h a =
+      let f = le-leb (length (encode (fileOf m x))) (length before) (omega arith) in
+      record {
+        answer = ap Filed e ∙ simp f;
+        buffer = a ∙ ap (λ (b : List ℕ). over b before) (held-file m x w found limits latest early gaps linked holds) ∙ simp f;
+      }

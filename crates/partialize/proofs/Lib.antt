@@ -1,19 +1,5 @@
--- The code's loops and tables, and the file: what satisfies it, its limits, its bytes.
-pub mod Loops
-pub mod Chosen
-pub mod Raised
-pub mod Reached
-pub mod Grouped
-pub mod Rules
-pub mod LinkList
-pub mod Supporters
-pub mod Latest
-pub mod Satisfied
-pub mod Within
+-- Demands 2 and 3 of the bytes that were written.
 pub mod Filed
 pub mod Found
-pub mod Put
-pub mod Whole
-pub mod Starred
 pub mod Counted
 pub mod Promised

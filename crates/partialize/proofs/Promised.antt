@@ -12,13 +12,13 @@ use lib.Dec.{leb}
 use lib.Seq.{take-append-seam}
 use Rattle.laws.proofs.Search.{either}
 use Rattle.laws.proofs.Listed.{getD-tabulate}
-use Rattle.job.specs.declared.verdict.Verdict.{Verdict}
-use Rattle.job.specs.Verdict as verdict
+use Rattle.verdict.specs.declared.Verdict.{Verdict}
+use Rattle.verdict.specs.Verdict as verdict
 use Rattle.job.specs.Model.{Model, modelOf}
 use Rattle.job.specs.WellFormed.{WellFormed}
-use Rattle.schedule.specs.Ticks.{planned}
-use Rattle.schedule.specs.Valid.{Valid}
-use Rattle.schedule.specs.Promise.{Sound, JobPromise}
+use Rattle.validity.specs.Ticks.{planned}
+use Rattle.validity.specs.Valid.{Valid}
+use Rattle.validity.specs.Promise.{Sound, JobPromise}
 use Rattle.order_file.specs.Contents.{Contents}
 use Rattle.order_file.specs.Layout.{contentsOf}
 use Rattle.order_file.specs.Encode.{encode}
@@ -26,19 +26,19 @@ use Rattle.order_file.specs.Within.{Within}
 use Rattle.order_file.specs.Agree.{Agree}
 use Rattle.order_file.specs.Satisfies.{Satisfies, SatisfiesFile}
 use Rattle.order_file.proofs.RoundTrip.{round-trip}
-use Rattle.order_file.proofs.WellFormed.{encode-well-formed}
+use Rattle.order_reader.proofs.WellFormed.{encode-well-formed}
 use Rattle.partialize.specs.declared.answer.Answer.{Answer}
 use Rattle.partialize.specs.declared.answer.Answer.the-variants.{Filed, Refused, BufferTooShort}
 use Rattle.partialize.specs.Answer.{number, lengthOf}
 use Rattle.orders.specs.Obeys.{Obeys}
-use Rattle.partialize.specs.File.{earliestOf, fileOf}
-use Rattle.partialize.specs.Held.{over}
+use Rattle.orders.specs.File.{earliestOf, fileOf}
+use Rattle.order_file.specs.Held.{over}
 use Rattle.partialize.specs.Partialization.{looseOf, fileBytes, accepts, fits, answerTo, bufferAfter}
-use Rattle.partialize.specs.Demands.{Exact, Loose, Written, Promise}
+use Rattle.partialize.specs.Demands.{Exact, Loose, Filing, Promise}
 use Rattle.orders.proofs.Sound.{obeying-valid}
 use Rattle.orders.proofs.End.{same-end}
-use Rattle.partialize.proofs.Satisfied.{satisfies-obeys, planned-satisfies, earliest-first, earliest-planned, earliest-satisfies}
-use Rattle.partialize.proofs.Within.{file-within}
+use Rattle.orders.proofs.Satisfied.{satisfies-obeys, planned-satisfies, earliest-first, earliest-planned, earliest-satisfies}
+use Rattle.orders.proofs.Within.{file-within}
 use Rattle.partialize.proofs.Counted.{some-counted, last-counted, earlier-counted}
 
 -- contents that agree are satisfied alike
@@ -148,7 +148,7 @@ module _ (s before : List ℕ) (v : Verdict) (j : JobPromise s v) where
         loose = λ e. absurd (n e);
       }
 
-module _ (s before after : List ℕ) (v : Verdict) (r : Answer) (j : JobPromise s v) (z : verdict.number v ≡ 0) (w : Written (looseOf s) before after r) where
+module _ (s before after : List ℕ) (v : Verdict) (r : Answer) (j : JobPromise s v) (z : verdict.number v ≡ 0) (w : Filing (looseOf s) before after r) where
   accepted : accepts s ≡ true
   unfolding accepts
   accepted = eq-eqb _ _ (sym (ap verdict.number (j .answer)) ∙ z)

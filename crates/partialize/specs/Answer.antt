@@ -1,6 +1,6 @@
 -- The paper's numbers of what loosening answers: "0 means accepted .. and, from loosening, the file's length; a refusal's length is 0".
 use Prim.Native.Nat.{ℕ}
-use Rattle.job.specs.Verdict as verdict
+use Rattle.verdict.specs.Verdict as verdict
 use Rattle.partialize.specs.declared.answer.Answer.{Answer}
 use Rattle.partialize.specs.declared.answer.Answer.the-variants.{Filed, Refused, BufferTooShort}
 

@@ -8,22 +8,23 @@ use lib.ListN.{length, take}
 use lib.Dec.{leb}
 use Rattle.laws.specs.Fold.{largest}
 use Rattle.job.specs.Model.{modelOf}
-use Rattle.schedule.specs.Ticks.{planned}
-use Rattle.schedule.specs.Valid.{Valid}
-use Rattle.schedule.specs.EndState.{SameEnd}
-use Rattle.schedule.specs.Promise.{Sound}
+use Rattle.validity.specs.Ticks.{planned}
+use Rattle.validity.specs.Valid.{Valid}
+use Rattle.validity.specs.EndState.{SameEnd}
+use Rattle.validity.specs.Promise.{Sound}
 use Rattle.order_file.specs.Contents.{Contents}
 use Rattle.order_file.specs.Encode.{encode}
 use Rattle.order_file.specs.Agree.{Agree}
 use Rattle.order_file.specs.Layout.{contentsOf}
-use Rattle.order_file.specs.WellFormed.{wellFormed}
+use Rattle.order_reader.specs.WellFormed.{wellFormed}
 use Rattle.order_file.specs.Satisfies.{SatisfiesFile}
 use Rattle.partialize.specs.declared.answer.Answer.{Answer}
 use Rattle.partialize.specs.declared.answer.Answer.the-variants.{Filed, BufferTooShort}
 use Rattle.partialize.specs.Answer.{number, lengthOf}
-use Rattle.orders.specs.Rounds.{after, unchanged}
-use Rattle.partialize.specs.Table.{gapBias, single}
-use Rattle.partialize.specs.Held.{over}
+use Rattle.rounds.specs.Rounds.{after, unchanged}
+use Rattle.order_file.specs.Contents.{gapBias}
+use Rattle.gaps.specs.Table.{single}
+use Rattle.order_file.specs.Held.{over}
 use Rattle.partialize.specs.Partialization.{looseOf, answerTo, bufferAfter}
 
 -- demand 2: the file passes the reader and holds exactly the supporters, orders and start limits of the rules
@@ -63,7 +64,7 @@ pub record Loose (s file : List ℕ) : Type 0 where
   pub earlierChanges : (r : ℕ) → suc r < contentsOf file .rounds → settledAfter (contentsOf file) r ≡ false
 
 -- the answer and the buffer where contents c are to be filed: the file's length and the file, or 15 and no change
-pub record Written (c : Contents) (before after : List ℕ) (r : Answer) : Type 0 where
+pub record Filing (c : Contents) (before after : List ℕ) (r : Answer) : Type 0 where
   pub answer : r ≡ cond (leb (length (encode c)) (length before)) (Filed (length (encode c))) BufferTooShort
   pub buffer : after ≡ cond (leb (length (encode c)) (length before)) (over (encode c) before) before
 

@@ -1,10 +1,6 @@
--- Loosening: what the code's lists and tables hold, the file, the answer, and what is promised of them.
-pub mod Producers
-pub mod Table
-pub mod Points
-pub mod File
-pub mod Held
+-- Loosening: its answer, the buffer afterwards, and what is promised of them.
+pub mod Formed
+pub mod Holds
 pub mod Answer
 pub mod Partialization
 pub mod Demands
-pub mod Starred

@@ -4,16 +4,16 @@ use mathlib.Core.Bool.{Bool, _&&_, cond}
 use mathlib.Core.List.{List}
 use lib.ListN.{length}
 use lib.Dec.{leb, eqb}
-use Rattle.job.specs.Verdict.{number}
+use Rattle.verdict.specs.Verdict.{number}
 use Rattle.job.specs.Model.{modelOf}
-use Rattle.schedule.specs.Ticks.{planned}
-use Rattle.schedule.specs.Checks.{jobCheck}
+use Rattle.validity.specs.Ticks.{planned}
+use Rattle.validity.specs.Checks.{jobCheck}
 use Rattle.order_file.specs.Contents.{Contents}
 use Rattle.order_file.specs.Encode.{encode}
 use Rattle.partialize.specs.declared.answer.Answer.{Answer}
 use Rattle.partialize.specs.declared.answer.Answer.the-variants.{Filed, Refused, BufferTooShort}
-use Rattle.partialize.specs.File.{fileOf}
-use Rattle.partialize.specs.Held.{over}
+use Rattle.orders.specs.File.{fileOf}
+use Rattle.order_file.specs.Held.{over}
 
 -- the contents of a job's order file
 unfoldable pub looseOf : List ℕ → Contents

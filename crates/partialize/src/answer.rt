@@ -1,8 +1,8 @@
 // What loosening answers.
 ghost use mathlib.Core.Path.{_≡_};
 ghost use Rattle.partialize.specs.Answer as spec;
-use job::verdict;
-use job::verdict::Verdict;
+use verdict::NOWHERE;
+use verdict::Verdict;
 
 pub enum Answer {
     // The file's length.
@@ -11,9 +11,6 @@ pub enum Answer {
     Refused(Verdict),
     BufferTooShort,
 }
-
-// The place where none is named.
-const NOWHERE: u16 = 65535;
 
 // The number of a refusal, 0 for accepted.
 pub fn number(a: Answer) -> u16

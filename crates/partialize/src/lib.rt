@@ -2,68 +2,68 @@
 ghost use Prim.Native.Nat.{ℕ};
 ghost use mathlib.Core.Path.{_≡_};
 ghost use lib.ListN.{length};
-ghost use Rattle.job.specs.Layout.{jobOf};
 ghost use Rattle.job.specs.Model.{view};
-ghost use Rattle.job.specs.Refusals.{formCheck};
-ghost use Rattle.job.specs.Verdict.{number as numberOf};
 ghost use Rattle.job.specs.WellFormed.{WellFormed};
-ghost use Rattle.schedule.specs.Ticks.{scheduleOf, plannedStarts};
-ghost use Rattle.schedule.specs.Known.{EffectsKnown, UsesKnown};
-ghost use Rattle.schedule.specs.Valid.{Valid};
+ghost use Rattle.validity.specs.Ticks.{scheduleOf};
+ghost use Rattle.points.specs.Known.{EffectsKnown, UsesKnown};
+ghost use Rattle.validity.specs.Valid.{Valid};
 ghost use Rattle.orders.specs.Gaps.{gapOf};
-ghost use Rattle.partialize.specs.Table.{Gaps, TableOf, LinksOf};
-ghost use Rattle.partialize.specs.File.{fileOf};
-ghost use Rattle.partialize.specs.Held.{NoneFrom};
-ghost use Rattle.partialize.specs.Demands.{Written, Promise};
+ghost use Rattle.order_file.specs.Table.{Gaps};
+ghost use Rattle.gaps.specs.Table.{TableOf};
+ghost use Rattle.links.specs.LinkList.{LinksOf};
+ghost use Rattle.orders.specs.File.{fileOf};
+ghost use Rattle.order_file.specs.Held.{NoneFrom};
+ghost use Rattle.partialize.specs.Formed.{Formed};
+ghost use Rattle.partialize.specs.Demands.{Filing, Promise};
 
 pub mod answer;
-mod fill;
-mod rows;
-mod starts;
-mod support;
-mod window;
-mod write;
 
 use answer::Answer;
+use gaps::fill;
 use job::layout::Job;
-use job::verdict::number;
-use schedule::listed::list_effects;
-use schedule::listed::list_uses;
-use schedule::ticks::effect_ticks;
-use schedule::ticks::use_ticks;
-use starts::NONE;
+use links::support;
+use order_file::layout::MOST_LINKS;
+use order_file::layout::link_at;
+use order_file::table::ENTRIES;
+use order_file::table::NO_ORDER;
+use order_file::write::Header;
+use order_file::write::count_orders;
+use order_file::write::write_file;
+use points::listed::list_effects;
+use points::listed::list_uses;
+use points::ticks::effect_ticks;
+use points::ticks::planned_starts;
+use points::ticks::use_ticks;
+use verdict::number;
+use windows::starts;
+use windows::window;
 
 // Files what the links and the gaps of a valid schedule say, if the buffer is long enough for it.
 fn file_found(s: &[u8], job: Job, links: &[u16], gaps: &[u32], out: &mut [u8]) -> Answer
     requires { ⌜ WellFormed (view job (now s)) × Gaps (now gaps) × (length (now links) ≡ 544) × NoneFrom (job .count .steps) (now gaps) ⌝ }
-    ensures { λ r. ⌜ ((x : ℕ → ℕ) → LinksOf (view job (now (s .entry))) x (now (links .entry)) → TableOf (job .count .steps) (gapOf (view job (now (s .entry))) x) (now (gaps .entry)) → Written (fileOf (view job (now (s .entry))) x) (now (out .entry)) (now (out .exit)) r) ⌝ }
+    ensures { λ r. ⌜ ((x : ℕ → ℕ) → LinksOf (view job (now (s .entry))) x (now (links .entry)) → TableOf (job .count .steps) (gapOf (view job (now (s .entry))) x) (now (gaps .entry)) → Filing (fileOf (view job (now (s .entry))) x) (now (out .entry)) (now (out .exit)) r) ⌝ }
 {
-    let n = job.count.steps as usize;
+    let steps = job.count.steps as usize;
     let count = job.count.conditions as usize + job.count.goals as usize;
     let limits = window::limits(s, job);
     let latest = window::latest_starts(s, job, links);
-    let found = starts::earliest_starts(limits, n, gaps);
-    let orders = write::count_orders(gaps, n);
-    let length = 24 + 12 * n + 8 * orders + 2 * count;
+    let found = starts::earliest_starts(limits, steps, gaps);
+    let orders = count_orders(gaps, steps);
+    let length = link_at(steps, orders, count);
     if out.len() < length {
         return Answer::BufferTooShort;
     }
+    let header = Header {
+        steps,
+        orders,
+        links: count,
+        rounds: found.rounds,
+    };
     let from = limits.at;
     let to = latest.at;
     let early = found.starts;
     let at = early.at;
-    write::write_file(
-        out,
-        n,
-        orders,
-        count,
-        found.rounds,
-        &from,
-        &to,
-        &at,
-        gaps,
-        links,
-    );
+    write_file(header, &from, &to, &at, gaps, links, out);
     Answer::Filed(length as u32)
 }
 
@@ -79,11 +79,11 @@ fn file_schedule(
     out: &mut [u8],
 ) -> Answer
     requires { ⌜ EffectsKnown (view job (now s)) (scheduleOf (now starts)) (now ticks) (now facts) × UsesKnown (view job (now s)) (scheduleOf (now starts)) (now uses) (now levels) × Valid (view job (now s)) (scheduleOf (now starts)) ⌝ }
-    ensures { λ r. ⌜ Written (fileOf (view job (now (s .entry))) (scheduleOf (now (starts .entry)))) (now (out .entry)) (now (out .exit)) r ⌝ }
+    ensures { λ r. ⌜ Filing (fileOf (view job (now (s .entry))) (scheduleOf (now (starts .entry)))) (now (out .entry)) (now (out .exit)) r ⌝ }
 {
-    let mut links = [0u16; 544];
+    let mut links = [0u16; MOST_LINKS];
     support::find_links(s, job, starts, ticks, facts, &mut links);
-    let mut gaps = [NONE; 4096];
+    let mut gaps = [NO_ORDER; ENTRIES];
     fill::fill_gaps(
         s,
         job,
@@ -98,9 +98,9 @@ fn file_schedule(
     file_found(s, job, &links, &gaps, out)
 }
 
-// Checks the planned starts of a job of good form, and files them. What the check lists of the points serves the file too.
+// Checks the planned starts of a job of good form, and files them. What is listed of the points serves the check and the file.
 fn loosen(s: &[u8], job: Job, starts: &[u32], out: &mut [u8]) -> Answer
-    requires { ⌜ (numberOf (formCheck (now s)) ≡ 0) × WellFormed (view job (now s)) × (job ≡ jobOf (now s)) × (now starts ≡ plannedStarts (view job (now s))) ⌝ }
+    requires { ⌜ Formed (now s) job (now starts) ⌝ }
     ensures { λ r. ⌜ Promise (now (s .entry)) (now (out .entry)) (now (out .exit)) r ⌝ }
 {
     let mut ticks = [0; 512];
@@ -124,12 +124,13 @@ fn loosen(s: &[u8], job: Job, starts: &[u32], out: &mut [u8]) -> Answer
 pub fn partialize(s: &[u8], out: &mut [u8]) -> Answer
     ensures { λ r. ⌜ Promise (now (s .entry)) (now (out .entry)) (now (out .exit)) r ⌝ }
 {
-    let form = job::check_form(s);
-    if number(form) != 0 {
-        return Answer::Refused(form);
+    let form = schedule::open_job(s);
+    let v = form.verdict;
+    if number(v) != 0 {
+        return Answer::Refused(v);
     }
-    let job = Job::read(s);
+    let job = form.job;
     let n = job.count.steps as usize;
-    let starts = schedule::planned_starts(s, job, n);
+    let starts = planned_starts(s, job, n);
     loosen(s, job, &starts[..n], out)
 }

@@ -17,7 +17,7 @@ pub struct Number {
 fn number_in(bytes: &[u8; 4]) -> usize
     ensures { λ r. ⌜ r < 4294967296 ⌝ }
 {
-    laws::u32_at(bytes, 0)
+    little_endian::u32_at(bytes, 0)
 }
 
 // Reads a field's length and its bytes into the front of buf.

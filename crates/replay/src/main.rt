@@ -1,10 +1,10 @@
 // Runs made cases: reads the file `cases` to its end and prints a line a case.
 mod fields;
-mod form;
 mod lines;
 mod loosen;
-mod orders;
+mod order_files;
 mod timing;
+mod well_formed;
 
 // Serves the next case, and answers whether to go on.
 fn serve(fd: i32) -> bool {
@@ -14,13 +14,13 @@ fn serve(fd: i32) -> bool {
     }
     let letter = command[0];
     match letter {
-        b'w' => form::serve_form(fd),
+        b'w' => well_formed::serve_form(fd),
         b'c' => timing::serve_job(fd),
         b't' => timing::serve_schedule(fd),
         b'l' => loosen::serve_loosen(fd),
-        b'h' => orders::serve_header(fd),
-        b'r' => orders::serve_record(fd),
-        b'a' => orders::serve_alike(fd),
+        b'h' => order_files::serve_header(fd),
+        b'r' => order_files::serve_record(fd),
+        b'a' => order_files::serve_alike(fd),
         _ => lines::bad_cases(),
     }
 }

@@ -4,7 +4,6 @@ ghost use lib.ListN.{length};
 ghost use mathlib.Core.Path.{_≡_};
 use crate::fields::read_field;
 use crate::lines;
-use job::verdict;
 
 // The most starts that a field holds.
 const MOST: usize = 16384;
@@ -30,7 +29,7 @@ fn decode(bytes: &[u8], n: usize) -> [u32; 16384]
     let mut starts = [0u32; MOST];
     let mut i = 0;
     while i < n {
-        starts[i] = laws::u32_at(bytes, 4 * i) as u32;
+        starts[i] = little_endian::u32_at(bytes, 4 * i) as u32;
         i += 1;
     }
     starts

@@ -14,17 +14,18 @@ use Rattle.laws.specs.Search.{any}
 use Rattle.laws.specs.Fold.{sum}
 use Rattle.laws.proofs.Search.{and-both, and-l, either, any-found, any-none}
 use Rattle.laws.proofs.Fold.{sum-zero}
-use Rattle.job.specs.declared.index.Linking.the-variants.{UsesByLevel}
+use Rattle.points.specs.declared.index.Linking.the-variants.{UsesByLevel}
 use Rattle.job.specs.Model.{Model}
-use Rattle.job.specs.Indexed.{levelKey, keyOf}
+use Rattle.points.specs.Keys.{levelKey, keyOf}
 use Rattle.timeline.specs.Sorted.{recordIn, tickIn, placed, Rising, Parts}
 use Rattle.timeline.proofs.Scanning.{key-rising, key-holds}
 use Rattle.timeline.proofs.Summing.{sum-places}
 use Rattle.schedule.specs.declared.bounds.Changes.{Changes}
-use Rattle.schedule.specs.Ticks.{useTick}
-use Rattle.schedule.specs.Levels.{rise, fall, usedBy, risesBefore, fallsBefore, aboveLeast, belowMost}
-use Rattle.schedule.specs.Checks.{passes, levelFails}
-use Rattle.schedule.specs.Known.{UsesKnown, Summed}
+use Rattle.validity.specs.Ticks.{useTick}
+use Rattle.validity.specs.Levels.{rise, fall, usedBy, risesBefore, fallsBefore, aboveLeast, belowMost}
+use Rattle.validity.specs.Checks.{passes, levelFails}
+use Rattle.points.specs.Known.{UsesKnown}
+use Rattle.schedule.specs.Known.{Summed}
 
 -- one more use is summed
 module _ (m : Model) (sorted : List ℕ) (l : ℕ) (sums : Changes) (so : Summed m sorted l sums) where

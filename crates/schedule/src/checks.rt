@@ -4,37 +4,29 @@ ghost use Prim.Native.Nat.{_+_, _-_, _<_};
 ghost use lib.ListN.{getD};
 ghost use Rattle.laws.specs.Search.{any, lowest};
 ghost use Rattle.job.specs.Model.{view};
-ghost use Rattle.job.specs.Indexed.{factKey};
+ghost use Rattle.points.specs.Keys.{factKey};
 ghost use Rattle.timeline.specs.Sorted.{Parts};
-ghost use Rattle.schedule.specs.Ticks.{scheduleOf, firstTick};
-ghost use Rattle.schedule.specs.Checks as spec;
-ghost use Rattle.schedule.specs.Checks.{conditionFails, levelFails, goalFails};
-ghost use Rattle.schedule.specs.Seen.{afterAll};
-ghost use Rattle.schedule.specs.Known.{EffectsKnown, UsesKnown, Known};
+ghost use Rattle.validity.specs.Ticks.{scheduleOf, firstTick};
+ghost use Rattle.validity.specs.Checks as spec;
+ghost use Rattle.validity.specs.Checks.{conditionFails, levelFails, goalFails};
+ghost use Rattle.validity.specs.Seen.{afterAll};
+ghost use Rattle.points.specs.Known.{EffectsKnown, UsesKnown};
+ghost use Rattle.schedule.specs.Known.{Known};
 use crate::bounds::Changes;
 use crate::bounds::changes_at;
 use crate::bounds::in_bounds;
-use crate::ticks::*;
-use crate::values::given_before;
-use crate::values::holds;
-use crate::values::other;
-use crate::values::seen_as;
-use job::index::fact_key;
 use job::layout::Job;
 use job::records::*;
+use points::index::fact_key;
+use points::ticks::*;
+use points::values::given_before;
+use points::values::holds;
+use points::values::other;
+use points::values::seen_as;
 use timeline::begin_of;
 use timeline::place_from;
 use timeline::record_at;
-
-// The rules that name a record, in checking order.
-pub enum Rule {
-    FixedSteps,
-    Effects,
-    Conditions,
-    Levels,
-    Goals,
-    Steps,
-}
+use validity::Rule;
 
 fn moved(s: &[u8], job: Job, starts: &[u32], k: u16) -> bool
     ensures { λ r. ⌜ r ≡ spec.moved (view job (now (s .entry))) (scheduleOf (now (starts .entry))) k ⌝ }

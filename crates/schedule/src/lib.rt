@@ -1,31 +1,30 @@
 // The timing check: refusals 8 to 14, on the written starts or on any list of starts.
 ghost use mathlib.Core.Path.{_≡_};
-ghost use lib.ListN.{length, take};
-ghost use Prim.Native.Nat.{_≤_};
-ghost use Rattle.laws.specs.Listed.{tabulate};
 ghost use Rattle.job.specs.Layout.{jobOf};
 ghost use Rattle.job.specs.Model.{view};
-ghost use Rattle.job.specs.Refusals.{formCheck};
-ghost use Rattle.job.specs.Verdict.{_then_, number as numberOf};
+ghost use Rattle.form.specs.Refusals.{formCheck};
+ghost use Rattle.verdict.specs.Verdict.{_then_, number as numberOf};
 ghost use Rattle.job.specs.WellFormed.{WellFormed};
-ghost use Rattle.schedule.specs.Ticks.{scheduleOf, plannedStarts};
-ghost use Rattle.schedule.specs.declared.checks.Rule.the-variants.{FixedSteps};
-ghost use Rattle.schedule.specs.Checks.{countUnder, refusalOf, ruleCheck, timingCheck, startsCheck};
-ghost use Rattle.schedule.specs.Known.{EffectsKnown, UsesKnown, Known};
-ghost use Rattle.schedule.specs.Promise.{JobPromise, SchedulePromise};
+ghost use Rattle.validity.specs.Ticks.{scheduleOf, plannedStarts};
+ghost use Rattle.validity.specs.declared.Rule.the-variants.{FixedSteps};
+ghost use Rattle.validity.specs.Checks.{countUnder, refusalOf, ruleCheck, timingCheck, startsCheck};
+ghost use Rattle.points.specs.Known.{EffectsKnown, UsesKnown};
+ghost use Rattle.schedule.specs.Known.{Known};
+ghost use Rattle.schedule.specs.Opened.{Opened, Planned};
+ghost use Rattle.validity.specs.Promise.{JobPromise, SchedulePromise};
 
-pub mod bounds;
-pub mod checks;
-pub mod listed;
-pub mod ticks;
-pub mod values;
+mod bounds;
+mod checks;
 
-use checks::Rule;
+use form::Form;
 use job::layout::Job;
-use job::records::step_start;
-use job::verdict::Verdict;
-use job::verdict::number;
-use job::verdict::refuse_if;
+use points::listed;
+use points::ticks;
+use points::values;
+use validity::Rule;
+use verdict::Verdict;
+use verdict::number;
+use verdict::refuse_if;
 
 fn count_under(s: &[u8], job: Job, rule: Rule) -> u16
     ensures { λ r. ⌜ r ≡ countUnder (view job (now (s .entry))) rule ⌝ }
@@ -176,18 +175,11 @@ fn check_starts(s: &[u8], job: Job, starts: &[u32]) -> Verdict
     check_listed(s, job, starts, &ticks, &facts, &uses, &levels)
 }
 
-// The written starts of the first n steps, of at most 64.
-pub fn planned_starts(s: &[u8], job: Job, n: usize) -> [u32; 64]
-    requires { ⌜ n ≤ 64 ⌝ }
-    ensures { λ r. ⌜ (length r ≡ 64) × (take n r ≡ tabulate n (view job (now (s .entry)) .start)) ⌝ }
+// The form check, and what it read of the header. A refusal of the form is the job check's.
+pub fn open_job(s: &[u8]) -> Form
+    ensures { λ r. ⌜ Opened (now (s .entry)) r ⌝ }
 {
-    let mut starts = [0u32; 64];
-    let mut k = 0;
-    while k < n {
-        starts[k] = step_start(s, job, k as u16) as u32;
-        k += 1;
-    }
-    starts
+    form::read_form(s)
 }
 
 // The job check of a file of good form whose points at its written starts are listed: for whoever needs the lists as well.
@@ -200,7 +192,7 @@ pub fn check_planned(
     uses: &[usize],
     levels: &[u16],
 ) -> Verdict
-    requires { ⌜ (numberOf (formCheck (now s)) ≡ 0) × (job ≡ jobOf (now s)) × (now starts ≡ plannedStarts (view job (now s))) × EffectsKnown (view job (now s)) (scheduleOf (now starts)) (now ticks) (now facts) × UsesKnown (view job (now s)) (scheduleOf (now starts)) (now uses) (now levels) ⌝ }
+    requires { ⌜ Planned (now s) job (now starts) (now ticks) (now facts) (now uses) (now levels) ⌝ }
     ensures { λ r. ⌜ JobPromise (now (s .entry)) r ⌝ }
 {
     check_listed(s, job, starts, ticks, facts, uses, levels)
@@ -210,13 +202,14 @@ pub fn check_planned(
 pub fn check_job(s: &[u8]) -> Verdict
     ensures { λ r. ⌜ JobPromise (now (s .entry)) r ⌝ }
 {
-    let form = job::check_form(s);
-    if number(form) != 0 {
-        return form;
+    let form = open_job(s);
+    let v = form.verdict;
+    if number(v) != 0 {
+        return v;
     }
-    let job = Job::read(s);
+    let job = form.job;
     let n = job.count.steps as usize;
-    let starts = planned_starts(s, job, n);
+    let starts = ticks::planned_starts(s, job, n);
     check_starts(s, job, &starts[..n])
 }
 
@@ -224,9 +217,11 @@ pub fn check_job(s: &[u8]) -> Verdict
 pub fn check_schedule(s: &[u8], starts: &[u32]) -> Verdict
     ensures { λ r. ⌜ SchedulePromise (now (s .entry)) (now (starts .entry)) r ⌝ }
 {
-    let form = job::check_form(s);
-    if number(form) != 0 {
-        return form;
+    let form = form::read_form(s);
+    let v = form.verdict;
+    if number(v) != 0 {
+        return v;
     }
-    check_starts(s, Job::read(s), starts)
+    let job = form.job;
+    check_starts(s, job, starts)
 }

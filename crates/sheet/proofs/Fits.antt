@@ -6,7 +6,7 @@ use native.Mathlib.Decide.{decLt}
 use native.Mathlib.Omega.{arith}
 use lib.ListN.{length, length-append}
 use Rattle.laws.specs.Listed.{concatenate}
-use Rattle.order_file.specs.Contents.{Contents, none, gapBias}
+use Rattle.order_file.specs.Contents.{Contents, mostSteps, mostOrders, noLatest, gapBias}
 use Rattle.order_file.specs.Within.{Within}
 use Rattle.sheet.specs.Text.{gapText, latestText, headLine, windowLine, orderLine, sheetText, sheetMost}
 use Rattle.sheet.proofs.Decimal.{length-decimal}
@@ -20,9 +20,9 @@ length-parts f w (suc n) h =
     let e : length (concatenate n f) ≤ w * n = length-parts f w n (λ k l. h k (omega arith)) in
     rw (length-append, mul-suc) (omega (arith, h n (omega arith)))
 
-length-latest : (latest : ℕ) → latest ≤ none → length (latestText latest) ≤ 10
+length-latest : (latest : ℕ) → latest ≤ noLatest → length (latestText latest) ≤ 10
 length-latest latest h =
-    elim (decLt latest none) [
+    elim (decLt latest noLatest) [
       | yes l ↦ rw (latest-some latest (omega arith)) (length-decimal latest (omega arith))
       | no l ↦ rw (latest-none latest (omega arith)) (omega arith)
     ]
@@ -66,7 +66,7 @@ module _ (c : Contents) (w : Within c) where
       ))
 
   -- 64 steps and 4032 orders at most
-  pub sheet-fits : length (sheetText c) ≤ sheetMost 64 4032
+  pub sheet-fits : length (sheetText c) ≤ sheetMost mostSteps mostOrders
   unfolding sheetText
   sheet-fits =
       simp length-append

@@ -10,7 +10,7 @@ use lib.ListN.{length, getD, take, drop, set, length-append, length-take, take-a
 use lib.Seq.{sets, sets-eq, length-sets, take-suc, take-all}
 use Rattle.laws.specs.Listed.{concatenate}
 use Rattle.laws.proofs.Listed.{concatenate-more}
-use Rattle.laws.proofs.Bytes.{sets-out}
+use Rattle.little_endian.proofs.Bytes.{sets-out}
 use Rattle.sheet.specs.Put.{Put, Written}
 
 -- stores behind stores

@@ -5,8 +5,7 @@ use mathlib.Core.List.{List, [], _∷_, _++_}
 use lib.Dec.{ltb, eqb}
 use lib.IntN.{ℤ, pos, negsuc}
 use Rattle.laws.specs.Listed.{concatenate}
-use Rattle.order_file.specs.Contents.{Contents, none}
-use Rattle.order_file.specs.Answers.{signedGap}
+use Rattle.order_file.specs.Contents.{Contents, noLatest, signedGap}
 
 -- `steps `
 abbrev pub stepsWord : List ℕ
@@ -75,7 +74,7 @@ gapText gap = signed (signedGap gap)
 
 -- a latest start, or `none`
 unfoldable pub latestText : ℕ → List ℕ
-latestText latest = cond (eqb latest none) noneWord (decimal latest)
+latestText latest = cond (eqb latest noLatest) noneWord (decimal latest)
 
 -- a word and the number behind it
 abbrev pub field : List ℕ → ℕ → List ℕ

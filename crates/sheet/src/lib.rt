@@ -1,5 +1,4 @@
 // The text that `show` prints: the sheet of an order file, or the line of a refusal.
-mod fields;
 mod lines;
 mod put;
 
@@ -8,30 +7,31 @@ ghost use Rattle.laws.specs.Listed.{concatenate};
 ghost use Rattle.order_file.specs.Layout.{contentsOf};
 ghost use Rattle.sheet.specs.Text.{windowLine, orderLine, sheetText, refusedText, sheetMost};
 ghost use Rattle.sheet.specs.Put.{Put, Written};
+use order_file::layout;
 
 // Puts the lines of all steps.
-fn put_windows(file: &[u8], out: &mut [u8], at: usize, steps: usize) -> usize
+fn put_windows(file: &[u8], steps: usize, at: usize, out: &mut [u8]) -> usize
     requires { ⌜ (at < 1000) × (steps < 65536) ⌝ }
     ensures { λ r. ⌜ Put (now (out .entry)) at (concatenate steps (windowLine (contentsOf (now (file .entry))))) (now (out .exit)) r × (r ≤ at + 54 * steps) ⌝ }
 {
     let mut next = at;
     let mut k = 0;
     while k < steps {
-        next = lines::put_window(file, out, next, k);
+        next = lines::put_window(file, k, next, out);
         k += 1;
     }
     next
 }
 
 // Puts the lines of all orders.
-fn put_orders(file: &[u8], out: &mut [u8], at: usize, orders: usize) -> usize
+fn put_orders(file: &[u8], orders: usize, at: usize, out: &mut [u8]) -> usize
     requires { ⌜ (at < 10000000) × (orders < 65536) ⌝ }
     ensures { λ r. ⌜ Put (now (out .entry)) at (concatenate orders (orderLine (contentsOf (now (file .entry))))) (now (out .exit)) r × (r ≤ at + 40 * orders) ⌝ }
 {
     let mut next = at;
     let mut k = 0;
     while k < orders {
-        next = lines::put_order(file, out, next, k);
+        next = lines::put_order(file, k, next, out);
         k += 1;
     }
     next
@@ -42,11 +42,11 @@ pub fn write_sheet(file: &[u8], out: &mut [u8]) -> usize
     ensures { λ r. ⌜ Written (sheetText (contentsOf (now (file .entry)))) (now (out .entry)) (now (out .exit)) r ⌝ }
     ensures { λ r. ⌜ r ≤ sheetMost (contentsOf (now (file .entry)) .steps) (contentsOf (now (file .entry)) .orders) ⌝ }
 {
-    let steps = fields::steps(file);
-    let orders = fields::orders(file);
-    let windows_at = lines::put_head(file, out, 0);
-    let orders_at = put_windows(file, out, windows_at, steps);
-    put_orders(file, out, orders_at, orders)
+    let steps = layout::steps(file);
+    let orders = layout::orders(file);
+    let windows_at = lines::put_head(file, 0, out);
+    let orders_at = put_windows(file, steps, windows_at, out);
+    put_orders(file, orders, orders_at, out)
 }
 
 // Writes the line of a refusal to the front of `out`, and answers how long it is, whether or not there was room for it.
@@ -54,7 +54,7 @@ pub fn write_refused(number: u16, place: u16, out: &mut [u8]) -> usize
     ensures { λ r. ⌜ Written (refusedText number place) (now (out .entry)) (now (out .exit)) r ⌝ }
     ensures { λ r. ⌜ r ≤ 36 ⌝ }
 {
-    let refused = put::put_field(out, 0, b"refused ", number as usize);
-    let placed = put::put_field(out, refused, b" place ", place as usize);
-    put::put_word(out, placed, b"\n")
+    let refused = put::put_field(b"refused ", number as usize, 0, out);
+    let placed = put::put_field(b" place ", place as usize, refused, out);
+    put::put_word(b"\n", placed, out)
 }

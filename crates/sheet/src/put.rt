@@ -7,45 +7,45 @@ ghost use Rattle.sheet.specs.Text.{decimal, field};
 ghost use Rattle.sheet.specs.Put.{Put};
 
 // Puts a word.
-pub fn put_word(out: &mut [u8], at: usize, word: &[u8]) -> usize
+pub fn put_word(word: &[u8], at: usize, out: &mut [u8]) -> usize
     requires { ⌜ (at < 4294967296) × (length (now word) ≤ 16) ⌝ }
     ensures { λ r. ⌜ Put (now (out .entry)) at (now (word .entry)) (now (out .exit)) r ⌝ }
 {
     let mut k = 0;
     while k < word.len() {
-        laws::put_byte(out, at + k, word[k]);
+        little_endian::put_byte(at + k, word[k], out);
         k += 1;
     }
     at + k
 }
 
 // Puts a digit.
-fn put_digit(out: &mut [u8], at: usize, digit: usize) -> usize
+fn put_digit(digit: usize, at: usize, out: &mut [u8]) -> usize
     requires { ⌜ (at < 4294967306) × (digit < 10) ⌝ }
     ensures { λ r. ⌜ Put (now (out .entry)) at ((48 + digit) ∷ []) (now (out .exit)) r ⌝ }
 {
-    laws::put_byte(out, at, (48 + digit) as u8);
+    little_endian::put_byte(at, (48 + digit) as u8, out);
     at + 1
 }
 
 // Puts a number.
-pub fn put_decimal(out: &mut [u8], at: usize, n: usize) -> usize
+pub fn put_decimal(n: usize, at: usize, out: &mut [u8]) -> usize
     requires { ⌜ (at < 4294967296) × (n < 4294967296) ⌝ }
     ensures { λ r. ⌜ Put (now (out .entry)) at (decimal n) (now (out .exit)) r × (r ≤ at + 10) ⌝ }
 {
     if n < 10 {
-        put_digit(out, at, n)
+        put_digit(n, at, out)
     } else {
-        let last = put_decimal(out, at, n / 10);
-        put_digit(out, last, n % 10)
+        let last = put_decimal(n / 10, at, out);
+        put_digit(n % 10, last, out)
     }
 }
 
 // Puts a word and a number behind it.
-pub fn put_field(out: &mut [u8], at: usize, word: &[u8], n: usize) -> usize
+pub fn put_field(word: &[u8], n: usize, at: usize, out: &mut [u8]) -> usize
     requires { ⌜ (at < 1000000000) × (length (now word) ≤ 16) × (n < 4294967296) ⌝ }
     ensures { λ r. ⌜ Put (now (out .entry)) at (field (now (word .entry)) n) (now (out .exit)) r × (r ≤ at + length (now (word .entry)) + 10) ⌝ }
 {
-    let after = put_word(out, at, word);
-    put_decimal(out, after, n)
+    let after = put_word(word, at, out);
+    put_decimal(n, after, out)
 }

@@ -1,4 +1,5 @@
--- How a search by tick halves, how a list of records comes into order, and what searches and sums along such a list find.
+-- How an index grows, how a search by tick halves, how a list of records comes into order, and what searches and sums along it find.
+pub mod Indexing
 pub mod Searching
 pub mod Inserting
 pub mod Counting

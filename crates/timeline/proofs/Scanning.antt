@@ -13,7 +13,7 @@ use Rattle.laws.specs.Search.{any}
 use Rattle.laws.specs.Fold.{largest}
 use Rattle.laws.proofs.Search.{either, any-found, any-none}
 use Rattle.laws.proofs.Fold.{largest-ge, largest-le}
-use Rattle.timeline.specs.Sorted.{recordIn, tickIn, Timed, Rising, Parts, Sorted}
+use Rattle.timeline.specs.Sorted.{recordIn, tickIn, TickList, Rising, Parts, Sorted}
 
 -- Among the records of key f, from place `from` on, where tick t begins, nothing was found up to p.
 pub record Scanned (ticks sorted : List ℕ) (f : ℕ) (pred : ℕ → Bool) (t from p : ℕ) : Type 0 where
@@ -22,7 +22,7 @@ pub record Scanned (ticks sorted : List ℕ) (f : ℕ) (pred : ℕ → Bool) (t 
   pub none : (q : ℕ) → from ≤ q → q < p → pred (recordIn sorted q) ≡ false
 
 module _ {n keys : ℕ} {key : ℕ → ℕ} {ticks sorted : List ℕ} (known : Sorted n keys key ticks sorted) (f : ℕ) (h : f < keys) where
-  pub key-rising : n ≤ 512 → Timed n ticks → Rising ticks sorted (getD sorted f 0) (getD sorted (f + 1) 0)
+  pub key-rising : n ≤ 512 → TickList n ticks → Rising ticks sorted (getD sorted f 0) (getD sorted (f + 1) 0)
   key-rising most timed =
       let ends : getD sorted (f + 1) 0 ≤ n = known .ends f h in
       record {

@@ -1,2 +1,3 @@
--- Records in the order of their ticks, and what a search by tick finds.
+-- Records linked by a key, records in the order of their ticks, and what a search by tick finds.
+pub mod Indexed
 pub mod Sorted

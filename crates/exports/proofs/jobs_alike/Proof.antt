@@ -3,7 +3,7 @@ use mathlib.Core.Bool.{Bool, true, false, cond}
 use mir.Val.{boolByte}
 use borrow.Author.Needs.{needs}
 use denote.Ref.{now}
-use Rattle.order_file.specs.Answers.{AlikePromise, alikeYes, alikeNumber, alikePlace}
+use Rattle.order_reader.specs.Answers.{AlikePromise, alikeYes, alikeNumber, alikePlace}
 use Rattle.exports.specs.Packed.{packed}
 use Rattle.exports.proofs.Carried.{carried, repacked}
 use Rattle.exports.proofs.jobs_alike.Statement.{statement}

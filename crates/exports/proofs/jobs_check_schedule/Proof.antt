@@ -1,8 +1,8 @@
 use mathlib.Core.Path.{refl}
 use borrow.Author.Needs.{needs}
 use denote.Ref.{now}
-use Rattle.job.specs.Verdict.{number, place}
-use Rattle.schedule.specs.Promise.{SchedulePromise}
+use Rattle.verdict.specs.Verdict.{number, place}
+use Rattle.validity.specs.Promise.{SchedulePromise}
 use Rattle.exports.specs.Packed.{packed}
 use Rattle.exports.proofs.Carried.{carried, repacked}
 use Rattle.exports.proofs.jobs_check_schedule.Statement.{statement}

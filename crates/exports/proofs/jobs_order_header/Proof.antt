@@ -1,7 +1,7 @@
 use mathlib.Core.Path.{refl, ap, _∙_}
 use borrow.Author.Needs.{needs}
 use denote.Ref.{now}
-use Rattle.order_file.specs.Answers.{HeaderPromise, headerNumber, headerPlace}
+use Rattle.order_reader.specs.Answers.{HeaderPromise, headerNumber, headerPlace}
 use Rattle.exports.specs.Packed.{packed}
 use Rattle.exports.specs.Listed.{filled, headerList}
 use Rattle.exports.proofs.Carried.{carried, repacked}

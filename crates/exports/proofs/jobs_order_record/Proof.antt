@@ -1,7 +1,7 @@
 use mathlib.Core.Path.{refl, ap, _∙_}
 use borrow.Author.Needs.{needs}
 use denote.Ref.{now}
-use Rattle.order_file.specs.Answers.{RecordPromise, recordNumber, recordPlace}
+use Rattle.order_reader.specs.Answers.{RecordPromise, recordNumber, recordPlace}
 use Rattle.exports.specs.Packed.{packed}
 use Rattle.exports.specs.Listed.{filled, recordList}
 use Rattle.exports.proofs.Carried.{carried, repacked}

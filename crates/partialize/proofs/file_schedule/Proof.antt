@@ -5,7 +5,7 @@ use native.Mathlib.Decide.{decLt}
 use native.Mathlib.Omega.{arith}
 use denote.Ref.{now}
 use lib.ListN.{getD, replicate, length-replicate, getD-replicate, List·getD-eq-default}
-use Rattle.schedule.specs.Ticks.{scheduleOf}
+use Rattle.validity.specs.Ticks.{scheduleOf}
 use Rattle.partialize.proofs.Found.{none-from}
 use borrow.Author.Needs.{needs}
 use Rattle.partialize.proofs.file_schedule.Statement.{statement}

@@ -12,26 +12,41 @@ loosen-spec =
     tie.close
     (tie.spec
     (λ c. search needs)
-    (λ c κs. search needs)
+    (λ c κs. let w = c .before .before .before .before .pre .wellFormed in search needs)
     (λ c. search needs)
     (λ c. search needs)
-    (λ c κs. search needs)
+    (λ c κs. let w = c .before .before .before .before .before .before .before .before .pre .wellFormed in search needs)
     (λ c. search needs)
-    (λ c κs. search needs)
-    (λ c. search needs)
-    (λ c. search needs)
-    (λ c κs. search needs)
+    (λ c κs. let w = c .before .before .before .before .before .before .before .before .before .before .before .pre .wellFormed in search needs)
     (λ c. search needs)
     (λ c. search needs)
+    (λ c κs. let w = c .before .before .before .before .before .before .before .before .before .before .before .before .before .before .before .pre .wellFormed in search needs)
     (λ c. search needs)
     (λ c. search needs)
-    (λ c κs. search needs)
+    (λ c. search needs)
+    (λ c. search needs)
+    (λ c κs.
+    let p = c .before .before .before .before .before .before .before .before .before .before .before .before .before .before .before .before .before .before .before .before .before .pre in
+    record {
+      form = p .form;
+      header = p .header;
+      written = p .written;
+      effects = c .before .before .before .before .before .before .before .before .before .before .before .before .list-effects .ensures;
+      used = c .before .before .before .before .before .list-uses .ensures;
+    })
     (λ c κs. search needs)
     (λ c. refused-promise _ _ _ (c .before .before .check-planned .ensures) (λ z. c .if1 .taken (c .before .number .ensures ∙ z)))
     (λ c. search needs)
     (λ c. search needs)
     (λ c. search needs)
     (λ c. search needs)
-    (λ c κs. let d = c .before .before .before .before .before .before .before .before .before .before .before .before .before .before .before .before .before .before .before .before .before .before .before .before .before .before .before .before .before in (c .before .before .before .before .before .before .before .before .before .before .before .before .before .before .before .before .before .before .before .before .list-effects .ensures, c .before .before .before .before .before .before .before .before .before .before .before .before .before .list-uses .ensures, rw (d .pre .3, d .pre .2) ((c .before .before .before .before .before .before .before .check-planned .ensures) .sound (sym (c .before .before .before .before .before .before .number .ensures) ∙ c .before .before .before .before .before .if1 .left) .valid)))
+    (λ c κs.
+    let p = c .before .before .before .before .before .before .before .before .before .before .before .before .before .before .before .before .before .before .before .before .before .before .before .before .before .before .before .before .before .pre in
+    let sound = c .before .before .before .before .before .before .before .check-planned .ensures .sound (sym (c .before .before .before .before .before .before .number .ensures) ∙ c .before .before .before .before .before .if1 .left) in
+    (c .before .before .before .before .before .before .before .before .before .before .before .before .before .before .before .before .before .before .before .before .list-effects .ensures, c .before .before .before .before .before .before .before .before .before .before .before .before .before .list-uses .ensures, rw (p .written, p .header) (sound .valid)))
     (λ c. search needs)
-    (λ c. let d = c .before .before .before .before .before .before .before .before .before .before .before .before .before .before .before .before .before .before .before .before .before .before .before .before .before .before .before .before .before .before .before .before in filed-promise _ _ _ _ _ (c .before .before .before .before .before .before .before .before .before .before .check-planned .ensures) (sym (c .before .before .before .before .before .before .before .before .before .number .ensures) ∙ c .before .before .before .before .before .before .before .before .if1 .left) (rw (d .pre .3, d .pre .2) at (c .before .before .file-schedule .ensures))))
+    (λ c.
+    let p = c .before .before .before .before .before .before .before .before .before .before .before .before .before .before .before .before .before .before .before .before .before .before .before .before .before .before .before .before .before .before .before .before .pre in
+    let promised = c .before .before .before .before .before .before .before .before .before .before .check-planned .ensures in
+    filed-promise _ _ _ _ _ promised (sym (c .before .before .before .before .before .before .before .before .before .number .ensures) ∙ c .before .before .before .before .before .before .before .before .if1 .left)
+    (rw (p .written, p .header) at (c .before .before .file-schedule .ensures))))

@@ -1,6 +1,6 @@
 -- The count of the starts, then the rules.
-use Rattle.schedule.specs.Checks.{startsCheck, countCheck}
-use Rattle.job.proofs.Chain.{accepted-then}
+use Rattle.validity.specs.Checks.{startsCheck, countCheck}
+use Rattle.verdict.proofs.Chain.{accepted-then}
 use borrow.Author.Needs.{needs}
 use Rattle.schedule.proofs.check_listed.Statement.{statement}
 use Rattle.schedule.proofs.check_listed.Tie as tie

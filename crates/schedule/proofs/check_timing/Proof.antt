@@ -1,6 +1,6 @@
 -- The five rules, chained as in `timingCheck`.
-use Rattle.schedule.specs.Checks.{timingCheck}
-use Rattle.job.proofs.Chain.{accepted-then}
+use Rattle.validity.specs.Checks.{timingCheck}
+use Rattle.verdict.proofs.Chain.{accepted-then}
 use borrow.Author.Needs.{needs}
 use Rattle.schedule.proofs.check_timing.Statement.{statement}
 use Rattle.schedule.proofs.check_timing.Tie as tie

@@ -1,7 +1,7 @@
 -- A refusal so far stands; else the lowest that breaks the rule is refused.
 use mathlib.Core.Path.{sym, _∙_}
-use Rattle.schedule.specs.Checks.{ruleCheck}
-use Rattle.job.proofs.Chain.{then-refused, then-accepted, lowest-refused, lowest-passed}
+use Rattle.validity.specs.Checks.{ruleCheck}
+use Rattle.verdict.proofs.Chain.{then-refused, then-accepted, lowest-refused, lowest-passed}
 use borrow.Author.Needs.{needs}
 use Rattle.schedule.proofs.rule_after.Statement.{statement}
 use Rattle.schedule.proofs.rule_after.Tie as tie

@@ -1,7 +1,7 @@
 -- The fixed steps, then the timing.
 use mathlib.Core.Path.{sym, ap, _∙_}
-use Rattle.job.specs.Verdict.{number}
-use Rattle.job.proofs.Chain.{then-refused, then-accepted}
+use Rattle.verdict.specs.Verdict.{number}
+use Rattle.verdict.proofs.Chain.{then-refused, then-accepted}
 use borrow.Author.Needs.{needs}
 use Rattle.schedule.proofs.rules_after.Statement.{statement}
 use Rattle.schedule.proofs.rules_after.Tie as tie

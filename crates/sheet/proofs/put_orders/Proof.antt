@@ -14,8 +14,8 @@ pub put-orders-spec : {M : Type 1} → statement M
 put-orders-spec =
     tie.close
     (tie.spec
-    (λ file out₀ at orders next₀ k₀ out next k. (k ≤ orders) × Put out₀ at (concatenate k (orderLine (contentsOf file))) out next × (next ≤ at + 40 * k))
-    (λ file out₀ at orders next₀ k₀ out next k. orders - k)
+    (λ file orders at out₀ next₀ k₀ out next k. (k ≤ orders) × Put out₀ at (concatenate k (orderLine (contentsOf file))) out next × (next ≤ at + 40 * k))
+    (λ file orders at out₀ next₀ k₀ out next k. orders - k)
     (λ c. (omega arith, parts-start _ _ _, omega arith))
     (λ c κs. search needs)
     (λ c. search needs)

@@ -14,8 +14,8 @@ pub put-windows-spec : {M : Type 1} → statement M
 put-windows-spec =
     tie.close
     (tie.spec
-    (λ file out₀ at steps next₀ k₀ out next k. (k ≤ steps) × Put out₀ at (concatenate k (windowLine (contentsOf file))) out next × (next ≤ at + 54 * k))
-    (λ file out₀ at steps next₀ k₀ out next k. steps - k)
+    (λ file steps at out₀ next₀ k₀ out next k. (k ≤ steps) × Put out₀ at (concatenate k (windowLine (contentsOf file))) out next × (next ≤ at + 54 * k))
+    (λ file steps at out₀ next₀ k₀ out next k. steps - k)
     (λ c. (omega arith, parts-start _ _ _, omega arith))
     (λ c κs. search needs)
     (λ c. search needs)

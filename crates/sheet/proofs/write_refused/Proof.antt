@@ -10,18 +10,10 @@ pub write-refused-spec : {M : Type 1} → statement M
 unfolding refusedText
 write-refused-spec =
     tie.close
-    (tie.spec
-    (λ c. search needs)
-    (λ c κs. search needs)
-    (λ c. search needs)
-    (λ c κs. search needs)
-    (λ c. search needs)
-    (λ c κs. search needs)
-    (λ c. search needs)
+    (tie.spec (λ c. search needs) (λ c κs. search needs) (λ c. search needs) (λ c κs. search needs) (λ c. search needs)
+    (λ c κs. search needs) (λ c. search needs)
     (λ c.
     let newline = c .before .before in
     let place = newline .before .before .before .before .before in
-    let number = place .before .before .before .before .before in (
-      put-written (put-then (put-then (number .put-field .ensures .0) (place .put-field2 .ensures .0)) (newline .put-word .ensures)),
-      omega arith,
-    )))
+    let number = place .before .before .before .before .before in
+    (put-written (put-then (put-then (number .put-field .ensures .0) (place .put-field2 .ensures .0)) (newline .put-word .ensures)), omega arith)))

@@ -10,17 +10,12 @@ pub write-sheet-spec : {M : Type 1} → statement M
 unfolding sheetText
 write-sheet-spec =
     tie.close
-    (tie.spec
-    (λ c κs. search needs)
-    (λ c κs. search needs)
-    (λ c κs. search needs)
-    (λ c κs. search needs)
-    (λ c κs. search needs)
+    (tie.spec (λ c κs. search needs) (λ c κs. search needs) (λ c κs. search needs) (λ c κs. search needs) (λ c κs. search needs)
     (λ c. search needs)
     (λ c.
     let orders = c .before .before in
     let windows = orders .before .before .before .before in
-    let head = windows .before .before .before .before in (
-      put-written (put-then (put-then (head .put-head .ensures .0) (rw (head .before .before .before .steps .ensures .0) at (windows .put-windows .ensures .0))) (rw (head .before .before .orders .ensures .0) at (orders .put-orders .ensures .0))),
-      omega arith,
-    )))
+    let head = windows .before .before .before .before in
+    let b = rw (head .before .before .before .steps .ensures .0) at (windows .put-windows .ensures .0) in
+    let d = rw (head .before .before .orders .ensures .0) at (orders .put-orders .ensures .0) in
+    (put-written (put-then (put-then (head .put-head .ensures .0) b) d), omega arith)))

@@ -1,6 +1,6 @@
 -- The fields are the record's, whether it lies within the bytes or not.
 use native.Mathlib.Omega.{arith}
-use Rattle.laws.proofs.Bytes.{room-start, room-inside}
+use Rattle.little_endian.proofs.Bytes.{room-start, room-inside}
 use borrow.Author.Needs.{needs}
 use Rattle.job.proofs.records.use_of.Statement.{statement}
 use Rattle.job.proofs.records.use_of.Tie as tie

@@ -15,12 +15,12 @@ add-biased-at c = search needs
 biased-at-requires : tie.Need-biased-at-requires
 biased-at-requires c κs = search needs
 
-gap-of-requires : tie.Need-gap-of-requires
-gap-of-requires c κs = search needs
+gap-read-requires : tie.Need-gap-read-requires
+gap-read-requires c κs = search needs
 
 returns : tie.Need-returns
 unfolding contentsOf
-returns c = (cc, c .gap-of .ensures .1)
+returns c = (cc, c .gap-read .ensures .1)
 
 pub gap-spec : {M : Type 1} → statement M
 gap-spec =
@@ -30,5 +30,5 @@ gap-spec =
     order-at-requires
     add-biased-at
     biased-at-requires
-    gap-of-requires
+    gap-read-requires
     returns)

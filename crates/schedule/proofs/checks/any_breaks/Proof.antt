@@ -5,9 +5,10 @@ use native.Mathlib.Omega.{arith}
 use lib.ListN.{getD}
 use Rattle.job.specs.Model.{view}
 use Rattle.timeline.proofs.Scanning.{Scanned, scanned-start, scanned-more, scanned-hit, scanned-end, scanned-past}
-use Rattle.schedule.specs.Ticks.{scheduleOf, firstTick}
-use Rattle.schedule.specs.Checks as spec
-use Rattle.schedule.proofs.Searches.{key-listed, key-searched, place-counted, place-low, breaks-only, breaks-until}
+use Rattle.validity.specs.Ticks.{scheduleOf, firstTick}
+use Rattle.validity.specs.Checks as spec
+use Rattle.points.proofs.Searches.{key-listed, key-searched, place-counted, place-low}
+use Rattle.schedule.proofs.Searches.{breaks-only, breaks-until}
 use borrow.Author.Needs.{needs}
 use Rattle.schedule.proofs.checks.any_breaks.Statement.{statement}
 use Rattle.schedule.proofs.checks.any_breaks.Tie as tie

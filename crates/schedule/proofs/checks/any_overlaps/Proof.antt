@@ -5,8 +5,8 @@ use mathlib.Core.Bool.{false}
 use Rattle.laws.specs.Search.{any}
 use Rattle.laws.proofs.Search.{any-start, any-more, any-found, any-end}
 use Rattle.job.specs.Model.{view}
-use Rattle.schedule.specs.Ticks.{scheduleOf}
-use Rattle.schedule.specs.Checks.{overlaps}
+use Rattle.validity.specs.Ticks.{scheduleOf}
+use Rattle.validity.specs.Checks.{overlaps}
 use borrow.Author.Needs.{needs}
 use Rattle.schedule.proofs.checks.any_overlaps.Statement.{statement}
 use Rattle.schedule.proofs.checks.any_overlaps.Tie as tie

@@ -1,7 +1,8 @@
 -- What stands behind the deadline undoes the goal.
 use mathlib.Core.Path.{sym, ap, _∙_}
 use native.Mathlib.Omega.{arith}
-use Rattle.schedule.proofs.Searches.{key-listed, key-searched, opposing-key, goal-search}
+use Rattle.points.proofs.Searches.{key-listed, key-searched, opposing-key}
+use Rattle.schedule.proofs.Searches.{goal-search}
 use borrow.Author.Needs.{needs}
 use Rattle.schedule.proofs.checks.any_undoes.Statement.{statement}
 use Rattle.schedule.proofs.checks.any_undoes.Tie as tie

@@ -3,9 +3,9 @@ use mathlib.Core.Path.{ap₂, _∙_}
 use mathlib.Core.Bool.{not, _||_}
 use native.Mathlib.Omega.{arith}
 use Rattle.timeline.proofs.Searching.{parts-when}
-use Rattle.job.specs.Indexed.{factKey}
-use Rattle.schedule.specs.Checks.{conditionFails}
-use Rattle.schedule.proofs.Searches.{key-listed, key-searched, opposing-key, given-ready, given-at, held}
+use Rattle.points.specs.Keys.{factKey}
+use Rattle.validity.specs.Checks.{conditionFails}
+use Rattle.points.proofs.Searches.{key-listed, key-searched, opposing-key, given-ready, given-at, held}
 use borrow.Author.Needs.{needs}
 use Rattle.schedule.proofs.checks.condition_fails.Statement.{statement}
 use Rattle.schedule.proofs.checks.condition_fails.Tie as tie

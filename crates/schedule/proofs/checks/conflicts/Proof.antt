@@ -5,9 +5,10 @@ use native.Mathlib.Omega.{arith}
 use lib.ListN.{getD}
 use Rattle.job.specs.Model.{view}
 use Rattle.timeline.proofs.Scanning.{Scanned, scanned-start, scanned-more, scanned-hit, scanned-end, scanned-past}
-use Rattle.schedule.specs.Ticks.{scheduleOf}
-use Rattle.schedule.specs.Checks as spec
-use Rattle.schedule.proofs.Searches.{key-listed, key-searched, place-counted, place-low, opposing-key, meets-only, meets-until}
+use Rattle.validity.specs.Ticks.{scheduleOf}
+use Rattle.validity.specs.Checks as spec
+use Rattle.points.proofs.Searches.{key-listed, key-searched, place-counted, place-low, opposing-key}
+use Rattle.schedule.proofs.Searches.{meets-only, meets-until}
 use borrow.Author.Needs.{needs}
 use Rattle.schedule.proofs.checks.conflicts.Statement.{statement}
 use Rattle.schedule.proofs.checks.conflicts.Tie as tie

@@ -1,6 +1,6 @@
 -- Only a serial job has steps that overlap.
 use borrow.Author.Tests.{eq-eqb, ne-eqb}
-use Rattle.schedule.specs.Checks.{crowded}
+use Rattle.validity.specs.Checks.{crowded}
 use borrow.Author.Needs.{needs}
 use Rattle.schedule.proofs.checks.crowded.Statement.{statement}
 use Rattle.schedule.proofs.checks.crowded.Tie as tie

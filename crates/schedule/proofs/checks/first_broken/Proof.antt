@@ -5,8 +5,8 @@ use native.Mathlib.Omega.{arith}
 use Rattle.laws.specs.Search.{lowest}
 use Rattle.laws.proofs.Search.{lowest-start, lowest-more, lowest-found, lowest-end}
 use Rattle.job.specs.Model.{view}
-use Rattle.schedule.specs.Ticks.{scheduleOf}
-use Rattle.schedule.specs.Checks.{broken}
+use Rattle.validity.specs.Ticks.{scheduleOf}
+use Rattle.validity.specs.Checks.{broken}
 use borrow.Author.Needs.{needs}
 use Rattle.schedule.proofs.checks.first_broken.Statement.{statement}
 use Rattle.schedule.proofs.checks.first_broken.Tie as tie

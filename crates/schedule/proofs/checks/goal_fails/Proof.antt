@@ -1,5 +1,5 @@
 -- After all effects, or by its deadline.
-use Rattle.schedule.specs.Checks.{goalFails}
+use Rattle.validity.specs.Checks.{goalFails}
 use borrow.Author.Needs.{needs}
 use Rattle.schedule.proofs.checks.goal_fails.Statement.{statement}
 use Rattle.schedule.proofs.checks.goal_fails.Tie as tie

@@ -2,7 +2,7 @@
 use mathlib.Core.Path.{sym, _∙_}
 use native.Mathlib.Numerals.{add-one}
 use borrow.Author.Tests.{eq-eqb, ne-eqb}
-use Rattle.schedule.specs.Checks.{late}
+use Rattle.validity.specs.Checks.{late}
 use borrow.Author.Needs.{needs}
 use Rattle.schedule.proofs.checks.late.Statement.{statement}
 use Rattle.schedule.proofs.checks.late.Tie as tie

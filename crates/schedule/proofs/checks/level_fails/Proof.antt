@@ -3,7 +3,7 @@ use Prim.Native.Nat.{_-_}
 use mathlib.Core.Path.{refl}
 use native.Mathlib.Omega.{arith}
 use Rattle.job.specs.Model.{view}
-use Rattle.schedule.specs.Ticks.{scheduleOf}
+use Rattle.validity.specs.Ticks.{scheduleOf}
 use Rattle.schedule.proofs.Sweeps.{Swept, swept-start, swept-more, swept-fails, swept-end, sweep-goes-on, summed-low, level-ends}
 use borrow.Author.Needs.{needs}
 use borrow.Author.Tests.{not-true, not-false}

@@ -6,7 +6,7 @@ use native.Mathlib.Omega.{arith}
 use lib.Dec.{eqb}
 use denote.Ref.{now}
 use Rattle.job.specs.Model.{view}
-use Rattle.schedule.specs.Ticks.{opposes}
+use Rattle.validity.specs.Ticks.{opposes}
 use Rattle.schedule.proofs.Searches.{meets-apart, meets-there}
 use borrow.Author.Needs.{needs}
 use Rattle.schedule.proofs.checks.meets.Statement.{statement}

@@ -1,5 +1,5 @@
 -- The parts are those of `moved`.
-use Rattle.schedule.specs.Checks.{moved}
+use Rattle.validity.specs.Checks.{moved}
 use borrow.Author.Needs.{needs}
 use Rattle.schedule.proofs.checks.moved.Statement.{statement}
 use Rattle.schedule.proofs.checks.moved.Tie as tie

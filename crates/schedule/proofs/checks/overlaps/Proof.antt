@@ -1,5 +1,5 @@
 -- The parts are those of `overlaps`.
-use Rattle.schedule.specs.Checks.{overlaps}
+use Rattle.validity.specs.Checks.{overlaps}
 use borrow.Author.Needs.{needs}
 use Rattle.schedule.proofs.checks.overlaps.Statement.{statement}
 use Rattle.schedule.proofs.checks.overlaps.Tie as tie

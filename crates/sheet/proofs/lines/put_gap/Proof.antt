@@ -8,12 +8,7 @@ use Rattle.sheet.proofs.lines.put_gap.Tie as tie
 pub put-gap-spec : {M : Type 1} → statement M
 put-gap-spec =
     tie.close
-    (tie.spec
-    (λ c. search needs)
-    (λ c. search needs)
-    (λ c κs. search needs)
-    (λ c κs. search needs)
-    (λ c. search needs)
+    (tie.spec (λ c. search needs) (λ c. search needs) (λ c κs. search needs) (λ c κs. search needs) (λ c. search needs)
     (λ c. (rw (gap-below _ (c .before .before .before .before .before .if1 .taken)) (c .before .before .put-field .ensures .0), omega arith))
     (λ c. search needs)
     (λ c. (rw (gap-above _ (c .before .before .before .before .if1 .left)) (c .before .before .put-decimal .ensures .0), omega arith)))

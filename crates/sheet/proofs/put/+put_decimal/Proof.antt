@@ -13,7 +13,7 @@ use Rattle.sheet.proofs.put.+put_decimal.{statement}
 use Rattle.sheet.proofs.put.+put_decimal.Tie.{close}
 
 abbrev μ-put-decimal : Measures 1 put-decimal-kinds.ps ℕ
-μ-put-decimal κs a = a .1 .1 .0
+μ-put-decimal κs a = a .0
 
 abbrev put-decimal-at : ℕ → In 1 put-decimal-kinds.ps
 put-decimal-at t =

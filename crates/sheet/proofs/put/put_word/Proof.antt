@@ -13,8 +13,8 @@ pub put-word-spec : {M : Type 1} → statement M
 put-word-spec =
     tie.close
     (tie.spec
-    (λ out₀ at word k₀ out k. (k ≤ length word) × Put out₀ at (take k word) out (at + k))
-    (λ out₀ at word k₀ out k. length word - k)
+    (λ word at out₀ k₀ out k. (k ≤ length word) × Put out₀ at (take k word) out (at + k))
+    (λ word at out₀ k₀ out k. length word - k)
     (λ c. (omega arith, record { bytes = refl; ends = refl }))
     (λ c. search needs)
     (λ c. search needs)

@@ -1,0 +1,16 @@
+-- A remainder of 512 is below it.
+use mathlib.Core.Path.{refl}
+use native.Mathlib.Omega.{arith}
+use Rattle.form.specs.Keys.{stepKey}
+use borrow.Author.Needs.{needs}
+use Rattle.form.proofs.against.step_key.Statement.{statement}
+use Rattle.form.proofs.against.step_key.Tie as tie
+
+pub step-key-spec : {M : Type 1} → statement M
+unfolding stepKey
+step-key-spec =
+    tie.close
+    (tie.spec
+    (λ c. search needs)
+    (λ c. search needs)
+    (λ c. (refl, omega arith)))

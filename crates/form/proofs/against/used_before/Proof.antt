@@ -1,0 +1,27 @@
+-- A search back along the uses of one key.
+use native.Mathlib.Omega.{arith}
+use Rattle.laws.proofs.Search.{any-found}
+use Rattle.laws.proofs.Linked.{WalkBack, ahead, back-start, back-more, back-less, back-end}
+use Rattle.job.specs.Model.{view}
+use Rattle.form.specs.Keys.{useKey}
+use Rattle.form.specs.Against.{usesTwice, usedBefore}
+use Rattle.form.proofs.Steps.{own-uses-twice}
+use borrow.Author.Needs.{needs}
+use Rattle.form.proofs.against.used_before.Statement.{statement}
+use Rattle.form.proofs.against.used_before.Tie as tie
+
+pub used-before-spec : {M : Type 1} → statement M
+unfolding usedBefore
+used-before-spec =
+    tie.close
+    (tie.spec
+    (λ s job index key u v₀ v. WalkBack (useKey (view job s)) (useKey (view job s) u) (usesTwice (view job s) u) u v)
+    (λ s job index key u v₀ v. ahead u v)
+    (λ c κs. let p = c .before .before .pre in (p .0 .size, p .3))
+    (λ c. let p = c .before .before .before .pre in back-start (p .0 .linked) (p .1) _ _ (own-uses-twice _ _) _ _ (p .2) (p .3) (c .first-of .ensures))
+    (λ c κs. search needs)
+    (λ c. any-found _ _ _ (c .before .before .loop-test .taken) (c .before .uses-twice .ensures) (c .if1 .taken))
+    (λ c κs. let l = c .before .before in let p = l .before .before .before .before .before .pre in (p .0 .size, omega (arith, l .loop-test .taken, p .1)))
+    (λ c. let l = c .before .before .before in let p = l .before .before .before .before .before .pre in back-less (p .0 .linked) (p .1) _ _ (l .loop-test .taken) (c .next-of .ensures))
+    (λ c. let l = c .before .before .before in let p = l .before .before .before .before .before .pre in back-more (p .0 .linked) (p .1) _ _ (own-uses-twice _ _) _ (l .before .loop .inv) (l .loop-test .taken) (c .before .before .uses-twice .ensures) (c .before .if1 .left) (c .next-of .ensures))
+    (λ c. back-end _ _ _ (c .before .loop .inv) (c .loop-test .left)))

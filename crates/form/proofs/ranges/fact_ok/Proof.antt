@@ -1,0 +1,13 @@
+-- The fields that are read are those that `factOk` tests.
+use Rattle.form.specs.Ranges.{factOk}
+use borrow.Author.Needs.{needs}
+use Rattle.form.proofs.ranges.fact_ok.Statement.{statement}
+use Rattle.form.proofs.ranges.fact_ok.Tie as tie
+
+pub fact-ok-spec : {M : Type 1} → statement M
+unfolding factOk
+fact-ok-spec =
+    tie.close
+    (tie.spec
+    (λ c κs. search needs)
+    (λ c. rw (c .fact-initial .ensures)))

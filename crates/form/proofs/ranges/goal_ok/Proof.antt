@@ -1,0 +1,15 @@
+-- The fields that are read are those that `goalOk` tests.
+use Rattle.form.specs.Ranges.{goalOk}
+use borrow.Author.Needs.{needs}
+use Rattle.form.proofs.ranges.goal_ok.Statement.{statement}
+use Rattle.form.proofs.ranges.goal_ok.Tie as tie
+
+pub goal-ok-spec : {M : Type 1} → statement M
+unfolding goalOk
+goal-ok-spec =
+    tie.close
+    (tie.spec
+    (λ c κs. search needs)
+    (λ c κs. search needs)
+    (λ c κs. search needs)
+    (λ c. rw (c .goal-value .ensures, c .before .before .goal-fact .ensures, c .before .before .before .goal-deadline .ensures .0)))

@@ -1,0 +1,15 @@
+-- The fields that are read are those that `stepOk` tests.
+use Rattle.form.specs.Ranges.{stepOk}
+use borrow.Author.Needs.{needs}
+use Rattle.form.proofs.ranges.step_ok.Statement.{statement}
+use Rattle.form.proofs.ranges.step_ok.Tie as tie
+
+pub step-ok-spec : {M : Type 1} → statement M
+unfolding stepOk
+step-ok-spec =
+    tie.close
+    (tie.spec
+    (λ c κs. search needs)
+    (λ c κs. search needs)
+    (λ c κs. search needs)
+    (λ c. rw (c .step-fixed .ensures, c .before .step-length .ensures .0, c .before .before .step-start .ensures .0)))

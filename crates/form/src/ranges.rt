@@ -1,0 +1,156 @@
+// Refusal 6: a record that breaks its ranges or names what is not counted.
+ghost use mathlib.Core.Path.{_≡_};
+ghost use Rattle.laws.specs.Search.{lowest};
+ghost use Rattle.job.specs.Model.{view};
+ghost use Rattle.form.specs.Ranges.{factOk, levelInRange, levelOk, stepOk, conditionOk, effectOk, useOk, goalOk, recordOk, recordBroken, countIn};
+ghost use Rattle.form.specs.Refusals.{tableCheck, recordCheck};
+ghost use Rattle.verdict.specs.Verdict.{_then_};
+use job::layout::Job;
+use job::layout::Table;
+use job::reader::level_at;
+use job::records::*;
+use verdict::Verdict;
+use verdict::number;
+
+fn fact_ok(s: &[u8], job: Job, k: u16) -> bool
+    ensures { λ r. ⌜ r ≡ factOk (view job (now (s .entry))) k ⌝ }
+{
+    fact_initial(s, job, k) <= 1
+}
+
+fn level_in_range(n: usize) -> bool
+    ensures { λ r. ⌜ r ≡ levelInRange n ⌝ }
+{
+    (1147483648 <= n) & (n <= 3147483648)
+}
+
+fn level_ok(s: &[u8], job: Job, k: u16) -> bool
+    ensures { λ r. ⌜ r ≡ levelOk (view job (now (s .entry))) k ⌝ }
+{
+    let level = level_at(s, job, k);
+    level_in_range(level.initial)
+        & level_in_range(level.least)
+        & level_in_range(level.most)
+        & (level.least <= level.initial)
+        & (level.initial <= level.most)
+}
+
+fn step_ok(s: &[u8], job: Job, k: u16) -> bool
+    ensures { λ r. ⌜ r ≡ stepOk (view job (now (s .entry))) k ⌝ }
+{
+    (step_start(s, job, k) <= 1000000)
+        & (step_length(s, job, k) <= 100000)
+        & (step_fixed(s, job, k) <= 1)
+}
+
+fn condition_ok(s: &[u8], job: Job, k: u16) -> bool
+    ensures { λ r. ⌜ r ≡ conditionOk (view job (now (s .entry))) k ⌝ }
+{
+    let c = condition_of(s, job, k);
+    (c.step < job.count.steps)
+        & (c.fact < job.count.facts)
+        & (c.from <= c.to)
+        & (c.to <= step_length(s, job, c.step))
+        & (c.value <= 1)
+}
+
+fn effect_ok(s: &[u8], job: Job, k: u16) -> bool
+    ensures { λ r. ⌜ r ≡ effectOk (view job (now (s .entry))) k ⌝ }
+{
+    let e = effect_of(s, job, k);
+    (e.step < job.count.steps)
+        & (e.fact < job.count.facts)
+        & (e.at <= step_length(s, job, e.step))
+        & (e.value <= 1)
+}
+
+fn use_ok(s: &[u8], job: Job, k: u16) -> bool
+    ensures { λ r. ⌜ r ≡ useOk (view job (now (s .entry))) k ⌝ }
+{
+    let u = use_of(s, job, k);
+    (u.step < job.count.steps)
+        & (u.level < job.count.levels)
+        & (u.at <= step_length(s, job, u.step))
+        & (2146483648 <= u.amount)
+        & (u.amount <= 2148483648)
+        & (u.amount != 2147483648)
+}
+
+fn goal_ok(s: &[u8], job: Job, k: u16) -> bool
+    ensures { λ r. ⌜ r ≡ goalOk (view job (now (s .entry))) k ⌝ }
+{
+    let deadline = goal_deadline(s, job, k);
+    (goal_fact(s, job, k) < job.count.facts)
+        & (goal_value(s, job, k) <= 1)
+        & ((deadline <= 1100000) | (deadline == 4294967295))
+}
+
+fn record_ok(s: &[u8], job: Job, table: Table, k: u16) -> bool
+    ensures { λ r. ⌜ r ≡ recordOk (view job (now (s .entry))) table k ⌝ }
+{
+    match table {
+        Table::Facts => fact_ok(s, job, k),
+        Table::Levels => level_ok(s, job, k),
+        Table::Steps => step_ok(s, job, k),
+        Table::Conditions => condition_ok(s, job, k),
+        Table::Effects => effect_ok(s, job, k),
+        Table::Uses => use_ok(s, job, k),
+        Table::Goals => goal_ok(s, job, k),
+    }
+}
+
+fn count_in(s: &[u8], job: Job, table: Table) -> u16
+    ensures { λ r. ⌜ r ≡ countIn (view job (now (s .entry))) table ⌝ }
+{
+    match table {
+        Table::Facts => job.count.facts,
+        Table::Levels => job.count.levels,
+        Table::Steps => job.count.steps,
+        Table::Conditions => job.count.conditions,
+        Table::Effects => job.count.effects,
+        Table::Uses => job.count.uses,
+        Table::Goals => job.count.goals,
+    }
+}
+
+// The lowest of the first n records of a table that is broken, or n.
+fn first_broken(s: &[u8], job: Job, table: Table, n: u16) -> u16
+    ensures { λ r. ⌜ r ≡ lowest n (recordBroken (view job (now (s .entry))) table) ⌝ }
+{
+    let mut k = 0;
+    while k < n {
+        if !record_ok(s, job, table, k) {
+            return k;
+        }
+        k += 1;
+    }
+    k
+}
+
+fn table_after(before: Verdict, s: &[u8], job: Job, table: Table) -> Verdict
+    ensures { λ r. ⌜ r ≡ (before then tableCheck (view job (now (s .entry))) table) ⌝ }
+{
+    if number(before) != 0 {
+        return before;
+    }
+    let n = count_in(s, job, table);
+    let k = first_broken(s, job, table, n);
+    if k < n {
+        Verdict::RecordOutOfRange(k)
+    } else {
+        Verdict::Accepted
+    }
+}
+
+// Refusal 6: the tables in their order, in each the lowest broken record.
+pub fn check_records(s: &[u8], job: Job) -> Verdict
+    ensures { λ r. ⌜ r ≡ recordCheck (view job (now (s .entry))) ⌝ }
+{
+    let v = table_after(Verdict::Accepted, s, job, Table::Facts);
+    let v = table_after(v, s, job, Table::Levels);
+    let v = table_after(v, s, job, Table::Steps);
+    let v = table_after(v, s, job, Table::Conditions);
+    let v = table_after(v, s, job, Table::Effects);
+    let v = table_after(v, s, job, Table::Uses);
+    table_after(v, s, job, Table::Goals)
+}

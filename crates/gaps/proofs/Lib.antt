@@ -1,0 +1,6 @@
+-- What the code raises the table to is what the rules say.
+pub mod Raised
+pub mod Reached
+pub mod Grouped
+pub mod Rules
+pub mod Supported

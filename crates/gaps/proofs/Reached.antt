@@ -1,0 +1,182 @@
+-- A table raised to what orders say: the order in which it happens does not matter, and of two orders the larger counts.
+use Prim.Native.Nat.{ℕ, _+_, _≤_, _<_, max}
+use mathlib.Core.Path.{_≡_, refl, sym, ap, subst, _∙_}
+use mathlib.Core.Bool.{cond}
+use mathlib.Core.List.{List}
+use mathlib.Core.Logic.{_⊎_, inl, inr, ⊎-elim}
+use native.Mathlib.Decide.{ℕ-discrete, decLt}
+use native.Mathlib.Omega.{arith}
+use borrow.Author.Tests.{eq-eqb, ne-eqb}
+use lib.Dec.{eqb}
+use Rattle.order_file.specs.Table.{gapIn}
+use Rattle.gaps.specs.Table.{single, Raised}
+use Rattle.gaps.specs.Points.{Apart, Reached, Among}
+use Rattle.gaps.proofs.Raised.{single-at, single-off, raised-one}
+
+-- no orders, and the same orders said otherwise
+pub reached-none :
+    (n : ℕ) (Order : ℕ → ℕ → ℕ → Type 0) (gaps : List ℕ) → ((i k gap : ℕ) → Order i k gap → ⊥) → Reached n Order gaps gaps
+reached-none n Order gaps none =
+    record {
+      whole = λ g. g;
+      rest = λ i k h d. refl;
+      rises = λ i k a. omega arith;
+      reaches = λ i k gap a o. absurd (none i k gap o);
+      least = λ i k bound a h b. h;
+    }
+
+pub reached-is :
+    (n : ℕ) (P Q : ℕ → ℕ → ℕ → Type 0) (before after : List ℕ) → Reached n P before after
+    → ((i k gap : ℕ) → P i k gap → (gap ≡ 0) ⊎ Q i k gap)
+    → ((i k gap : ℕ) → Q i k gap → (more : ℕ) × (gap ≤ more) × P i k more)
+    → Reached n Q before after
+reached-is n P Q before after w to from =
+    record {
+      whole = w .whole;
+      rest = w .rest;
+      rises = w .rises;
+      reaches = λ i k gap a o. let m = from i k gap o in omega (arith, m .1, w .reaches i k (m .0) a (m .2));
+      least = λ i k bound a h all. w .least i k bound a h (λ gap o. ⊎-elim (λ (z : gap ≡ 0). omega arith) (λ (q : Q i k gap). all gap q) (to i k gap o));
+    }
+
+-- first the orders P, then the orders Q
+pub reached-then :
+    (n : ℕ) (P Q R : ℕ → ℕ → ℕ → Type 0) (before mid after : List ℕ) → Reached n P before mid → Reached n Q mid after
+    → ((i k gap : ℕ) → P i k gap → R i k gap)
+    → ((i k gap : ℕ) → Q i k gap → R i k gap)
+    → ((i k gap : ℕ) → R i k gap → P i k gap ⊎ Q i k gap)
+    → Reached n R before after
+reached-then n P Q R before mid after v w p q r =
+    record {
+      whole = λ g. w .whole (v .whole g);
+      rest = λ i k h d. w .rest i k h d ∙ v .rest i k h d;
+      rises = λ i k a. omega (arith, v .rises i k a, w .rises i k a);
+      reaches = λ i k gap a o.
+          ⊎-elim
+          (λ (s : P i k gap). omega (arith, v .reaches i k gap a s, w .rises i k a))
+          (λ (s : Q i k gap). w .reaches i k gap a s)
+          (r i k gap o);
+      least = λ i k bound a h all.
+          w .least i k bound a (v .least i k bound a h (λ gap o. all gap (p i k gap o))) (λ gap o. all gap (q i k gap o));
+    }
+
+pub reached-either :
+    (n : ℕ) (P Q : ℕ → ℕ → ℕ → Type 0) (before mid after : List ℕ) → Reached n P before mid → Reached n Q mid after
+    → Reached n (λ i k gap. P i k gap ⊎ Q i k gap) before after
+reached-either n P Q before mid after v w =
+    reached-then n P Q (λ i k gap. P i k gap ⊎ Q i k gap) before mid after v w (λ i k gap o. inl o) (λ i k gap o. inr o) (λ i k gap o. o)
+
+-- place by place, up or down
+module _ (n : ℕ) (Order : ℕ → ℕ → ℕ → ℕ → Type 0) (before mid after : List ℕ) where
+  pub within-up :
+      (low p : ℕ) → low ≤ p → Reached n (Among low p Order) before mid → Reached n (Order p) mid after
+      → Reached n (Among low (p + 1) Order) before after
+  within-up low p h v w =
+      reached-then n (Among low p Order) (Order p) (Among low (p + 1) Order) before mid after v w
+      (λ i k gap o. (o .0, o .1, omega (arith, o .2), o .3))
+      (λ i k gap o. (p, h, omega arith, o))
+      (λ i k gap o.
+      elim (decLt (o .0) p) [
+        | yes l ↦ inl (o .0, o .1, l, o .3)
+        | no l ↦ let q : o .0 ≡ p = omega (arith, o .2) in inr (subst (λ j. Order j i k gap) q (o .3))
+      ])
+
+  pub within-down :
+      (p q high : ℕ) → q + 1 ≡ p → p ≤ high → Reached n (Among p high Order) before mid → Reached n (Order q) mid after
+      → Reached n (Among q high Order) before after
+  within-down p q high e h v w =
+      reached-then n (Among p high Order) (Order q) (Among q high Order) before mid after v w
+      (λ i k gap o. (o .0, omega (arith, o .1), o .2, o .3))
+      (λ i k gap o. (q, omega arith, omega arith, o))
+      (λ i k gap o.
+      elim (decLt q (o .0)) [
+        | yes l ↦ inl (o .0, omega arith, o .2, o .3)
+        | no l ↦ let s : o .0 ≡ q = omega (arith, o .1) in inr (subst (λ j. Order j i k gap) s (o .3))
+      ])
+
+-- all places are done
+pub within-to :
+    (n : ℕ) (Order : ℕ → ℕ → ℕ → ℕ → Type 0) (before after : List ℕ) (low p high : ℕ) → p ≡ high → Reached n (Among low p Order) before after
+    → Reached n (Among low high Order) before after
+within-to n Order before after low p high e w = subst (λ q. Reached n (Among low q Order) before after) e w
+
+pub within-from :
+    (n : ℕ) (Order : ℕ → ℕ → ℕ → ℕ → Type 0) (before after : List ℕ) (low p high : ℕ) → p ≡ low → Reached n (Among p high Order) before after
+    → Reached n (Among low high Order) before after
+within-from n Order before after low p high e w = subst (λ q. Reached n (Among q high Order) before after) e w
+
+pub within-empty :
+    (n : ℕ) (Order : ℕ → ℕ → ℕ → ℕ → Type 0) (gaps : List ℕ) (low high : ℕ) → high ≤ low → Reached n (Among low high Order) gaps gaps
+within-empty n Order gaps low high h =
+    reached-none n (Among low high Order) gaps (λ i k gap o. absurd (omega (arith, o .1, o .2)))
+
+-- a table raised by f is raised to the gaps of f, and to a single order
+pub raised-reached :
+    (n : ℕ) (f : ℕ → ℕ → ℕ) (before after : List ℕ) → n ≤ 64 → Raised n f before after → Reached n (λ i k gap. gap ≡ f i k) before after
+raised-reached n f before after m w =
+    record {
+      whole = w .whole;
+      rest = rest;
+      rises = λ i k a. omega (arith, entry i k a);
+      reaches = λ i k gap a o. omega (arith, entry i k a, o);
+      least = λ i k bound a h all. omega (arith, entry i k a, all (f i k) refl, h);
+    }
+  where
+    entry : (i k : ℕ) → Apart n i k → gapIn after i k ≡ max (gapIn before i k) (f i k)
+    entry i k a = w .below i k (a .0) (a .1) ∙ ap (λ t. max (gapIn before i k) (cond t 0 (f i k))) (ne-eqb i k (a .2))
+
+    rest : (i k : ℕ) → k < 64 → (Apart n i k → ⊥) → gapIn after i k ≡ gapIn before i k
+    rest i k h d =
+        elim (ℕ-discrete i k) [
+          | yes q ↦
+              elim (decLt i n) [
+                | yes l ↦
+                    let none : max (gapIn before i k) (cond (eqb i k) 0 (f i k)) ≡ max (gapIn before i k) 0 =
+                    ap (λ t. max (gapIn before i k) (cond t 0 (f i k))) (eq-eqb i k q)
+                    in omega (arith, w .below i k l (omega arith), none)
+                | no l ↦ w .rest i k h (λ s _. l s)
+              ]
+          | no q ↦ w .rest i k h (λ s t. d (s, t, q))
+        ]
+
+pub reached-one :
+    (n a b gap : ℕ) (before after : List ℕ) → n ≤ 64 → a < n → b < n → Raised 64 (single a b gap) before after
+    → Reached n (λ i k g. (a ≡ i) × (b ≡ k) × (g ≡ gap)) before after
+reached-one n a b gap before after m h l w =
+    reached-is n (λ i k g. g ≡ single a b gap i k) (λ i k g. (a ≡ i) × (b ≡ k) × (g ≡ gap)) before after
+    (raised-reached n (single a b gap) before after m (raised-one n (single a b gap) a b gap before after m h l w (λ i k. refl)))
+    (λ i k g e.
+    elim (ℕ-discrete a i) [
+      | yes p ↦
+          elim (ℕ-discrete b k) [
+            | yes q ↦ inr (p, q, e ∙ ap (λ t. single a b gap t k) (sym p) ∙ ap (λ t. single a b gap a t) (sym q) ∙ single-at a b gap)
+            | no q ↦ inl (e ∙ single-off a b gap i k (λ _ t. q t))
+          ]
+      | no p ↦ inl (e ∙ single-off a b gap i k (λ s _. p s))
+    ])
+    (λ i k g o. (gap, omega (arith, o .2), sym (ap (λ t. single a b gap t k) (sym (o .0)) ∙ ap (λ t. single a b gap a t) (sym (o .1)) ∙ single-at a b gap)))
+
+-- a table raised to orders is raised by f, if none is larger than f says and f is no larger than one of them
+pub reached-raised :
+    (n : ℕ) (Order : ℕ → ℕ → ℕ → Type 0) (f : ℕ → ℕ → ℕ) (before after : List ℕ) → n ≤ 64 → Reached n Order before after
+    → ((i k gap : ℕ) → Apart n i k → Order i k gap → gap ≤ f i k)
+    → ((i k bound : ℕ) → Apart n i k → ((gap : ℕ) → Order i k gap → gap ≤ bound) → f i k ≤ bound)
+    → Raised n f before after
+reached-raised n Order f before after m w under over =
+    record {
+      whole = w .whole;
+      below = λ i k h l.
+          elim (ℕ-discrete i k) [
+            | yes q ↦ rw (eq-eqb i k q) (omega (arith, w .rest i k (omega arith) (λ a. a .2 q)))
+            | no q ↦
+                let a : Apart n i k = (h, l, q) in
+                rw (ne-eqb i k q)
+                (omega (
+                  arith,
+                  w .rises i k a,
+                  w .least i k (max (gapIn before i k) (f i k)) a (omega arith) (λ gap o. omega (arith, under i k gap a o)),
+                  over i k (gapIn after i k) a (λ gap o. w .reaches i k gap a o),
+                ))
+          ];
+      rest = λ i k h d. w .rest i k h (λ a. d (a .0) (a .1));
+    }

@@ -1,0 +1,16 @@
+-- Conditions come first.
+use native.Mathlib.Omega.{arith}
+use borrow.Author.Tests.{lt-ltb, le-ltb}
+use Rattle.orders.specs.Links.{nthLink}
+use Rattle.links.proofs.support.link_at.Statement.{statement}
+use Rattle.links.proofs.support.link_at.Tie as tie
+
+pub link-at-spec : {M : Type 1} → statement M
+unfolding nthLink
+link-at-spec =
+    tie.close
+    (tie.spec
+    (λ c κs. let d = c .before .before .before .before .before in (d .pre .0, c .if1 .taken))
+    (λ c κs. let d = c .before .before .before .before .before in (d .pre .0, d .pre .1, omega (arith, d .pre .2, c .if1 .left)))
+    (λ c. rw (lt-ltb _ _ (c .before .if1 .taken)) (c .condition-link .ensures))
+    (λ c. rw (le-ltb _ _ (c .before .if1 .left)) (c .goal-link .ensures)))

@@ -1,0 +1,3 @@
+-- Lists of links, and a producer of rule 1.
+pub mod Producers
+pub mod LinkList

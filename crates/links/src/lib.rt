@@ -1,0 +1,2 @@
+// What supports each condition and goal.
+pub mod support;

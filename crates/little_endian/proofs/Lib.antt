@@ -1,0 +1,2 @@
+-- Their laws.
+pub mod Bytes

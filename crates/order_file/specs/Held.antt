@@ -1,0 +1,74 @@
+-- The contents of an order file as lists hold them: starts by step, gaps by pair of steps, links by number.
+use Prim.Native.Nat.{ℕ, _+_, _*_, _/_, _%_, _≤_, _<_}
+use mathlib.Core.Path.{_≡_}
+use mathlib.Core.Bool.{Bool, not}
+use mathlib.Core.List.{List, _++_}
+use lib.ListN.{length, drop, getD}
+use lib.Dec.{eqb}
+use Rattle.little_endian.specs.Bytes.{u16Bytes, u32Bytes}
+use Rattle.laws.specs.Nth.{count, nth}
+use Rattle.order_file.specs.declared.write.Header.{Header}
+use Rattle.order_file.specs.Contents.{Contents, mostSteps, mostLinks}
+use Rattle.order_file.specs.Layout.{edition, windowsAt, ordersAt, linksAt, fileLength}
+use Rattle.order_file.specs.Encode.{gapBits}
+use Rattle.order_file.specs.Table.{rowWidth, tableSize, noOrder, startIn}
+
+-- whether an entry of the table of gaps is an order
+abbrev pub entered : List ℕ → ℕ → Bool
+entered gaps q = not (eqb (getD gaps q 0) noOrder)
+
+-- a table without an order from step n or a later one
+abbrev pub NoneFrom : ℕ → List ℕ → Type 0
+NoneFrom n gaps = (q : ℕ) → rowWidth * n ≤ q → getD gaps q 0 ≡ noOrder
+
+-- the contents that so many steps, links and rounds and the lists of them hold
+unfoldable pub heldIn : ℕ → ℕ → ℕ → List ℕ → List ℕ → List ℕ → List ℕ → List ℕ → Contents
+heldIn steps links rounds limits latest earliest gaps linked =
+    record {
+      steps = steps;
+      orders = count tableSize (entered gaps);
+      links = links;
+      rounds = rounds;
+      limit = startIn limits;
+      latest = startIn latest;
+      earliest = startIn earliest;
+      first = λ o. nth tableSize (entered gaps) o / rowWidth;
+      second = λ o. nth tableSize (entered gaps) o % rowWidth;
+      gap = λ o. getD gaps (nth tableSize (entered gaps) o) 0;
+      link = λ j. getD linked j 0;
+    }
+
+-- the bytes of the header, of an order, and of a record of these lists
+unfoldable pub headerIn : ℕ → ℕ → ℕ → ℕ → List ℕ
+headerIn steps orders links rounds =
+    u16Bytes edition ++ u16Bytes steps ++ u16Bytes orders ++ u16Bytes links
+    ++ u32Bytes rounds ++ u32Bytes windowsAt ++ u32Bytes (ordersAt steps) ++ u32Bytes (linksAt steps orders)
+
+unfoldable pub windowIn : List ℕ → List ℕ → List ℕ → ℕ → List ℕ
+windowIn limits latest earliest k = u32Bytes (startIn limits k) ++ u32Bytes (startIn latest k) ++ u32Bytes (startIn earliest k)
+
+unfoldable pub entryBytes : ℕ → ℕ → List ℕ
+entryBytes q gap = u16Bytes (q / rowWidth) ++ u16Bytes (q % rowWidth) ++ u32Bytes (gapBits gap)
+
+unfoldable pub orderIn : List ℕ → ℕ → List ℕ
+orderIn gaps o = let q = nth tableSize (entered gaps) o in entryBytes q (getD gaps q 0)
+
+unfoldable pub linkIn : List ℕ → ℕ → List ℕ
+linkIn linked j = u16Bytes (getD linked j 0)
+
+-- a file at the beginning of some bytes: the bytes past its end stay
+abbrev pub over : List ℕ → List ℕ → List ℕ
+over file buffer = file ++ drop (length file) buffer
+
+-- lists that are long enough for their contents, and bytes that are long enough for the file
+pub record Roomy (header : Header) (limits latest earliest gaps linked out : List ℕ) : Type 0 where
+  pub stepCount : header .steps ≤ mostSteps
+  pub linkCount : header .links ≤ mostLinks
+  pub orderCount : header .orders ≡ count tableSize (entered gaps)
+  pub limitCount : header .steps ≤ length limits
+  pub latestCount : header .steps ≤ length latest
+  pub earliestCount : header .steps ≤ length earliest
+  pub gapCount : length gaps ≡ tableSize
+  pub gapRows : NoneFrom (header .steps) gaps
+  pub linkedCount : header .links ≤ length linked
+  pub fileFits : fileLength (header .steps) (header .orders) (header .links) ≤ length out

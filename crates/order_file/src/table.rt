@@ -1,0 +1,22 @@
+// The table of gaps: one flat array, a row a step.
+ghost use mathlib.Core.Path.{_≡_};
+ghost use Prim.Native.Nat.{max};
+use crate::layout::GAP_BIAS;
+use crate::layout::MOST_STEPS;
+
+// The entries in a row, one for each step that the gap may lead to, and in the whole table.
+pub const WIDTH: usize = MOST_STEPS;
+
+pub const ENTRIES: usize = WIDTH * WIDTH;
+
+// An entry for no order.
+pub const NO_ORDER: u32 = 0;
+
+// What an entry has more than the paper's gap.
+pub const BIAS: u32 = GAP_BIAS as u32;
+
+pub fn higher(a: u32, b: u32) -> u32
+    ensures { λ r. ⌜ r ≡ max a b ⌝ }
+{
+    if a < b { b } else { a }
+}

@@ -1,0 +1,166 @@
+// Writing an order file into a caller's bytes: header, windows, orders, links.
+ghost use mathlib.Core.Path.{_≡_};
+ghost use mathlib.Core.List.{_++_};
+ghost use Prim.Native.Nat.{_≤_, _<_};
+ghost use lib.ListN.{length};
+ghost use lib.Seq.{sets};
+ghost use Rattle.little_endian.specs.Bytes.{u32Bytes};
+ghost use Rattle.laws.specs.Listed.{concatenate};
+ghost use Rattle.laws.specs.Nth.{count};
+ghost use Rattle.order_file.specs.Contents.{mostSteps, mostLinks};
+ghost use Rattle.order_file.specs.Layout.{windowsAt};
+ghost use Rattle.order_file.specs.Table.{tableSize};
+ghost use Rattle.order_file.specs.Encode.{encode};
+ghost use Rattle.order_file.specs.Held.{entered, heldIn, headerIn, windowIn, entryBytes, orderIn, linkIn, over, NoneFrom, Roomy};
+use crate::layout;
+use crate::layout::LINK;
+use crate::layout::ORDER;
+use crate::layout::WIDTHS;
+use crate::table::NO_ORDER;
+use crate::table::WIDTH;
+use little_endian::put_u16;
+use little_endian::put_u32;
+
+// How many values four bytes have.
+const VALUES: usize = 2 * layout::SIGN_BIAS;
+
+// What takes the bias off a gap of the table, counted round below 0.
+const UNBIASED: usize = VALUES - layout::GAP_BIAS;
+
+// The counts of a file, and its rounds.
+pub struct Header {
+    pub steps: usize,
+    pub orders: usize,
+    pub links: usize,
+    pub rounds: usize,
+}
+
+// How many orders the table of the first steps holds.
+pub fn count_orders(gaps: &[u32], steps: usize) -> usize
+    requires { ⌜ (length (now gaps) ≡ tableSize) × (steps ≤ mostSteps) × NoneFrom steps (now gaps) ⌝ }
+    ensures { λ r. ⌜ (r ≡ count tableSize (entered (now (gaps .entry)))) × (r ≤ tableSize) ⌝ }
+{
+    let end = WIDTH * steps;
+    let mut orders = 0;
+    let mut q = 0;
+    while q < end {
+        if gaps[q] != NO_ORDER {
+            orders += 1;
+        }
+        q += 1;
+    }
+    orders
+}
+
+// Puts the counts, the rounds and the tables' offsets.
+fn write_header(header: Header, out: &mut [u8])
+    requires { ⌜ (header .steps ≤ mostSteps) × (header .orders ≤ tableSize) ⌝ }
+    ensures { λ _. ⌜ now (out .exit) ≡ sets (now (out .entry)) 0 (headerIn (header .steps) (header .orders) (header .links) (header .rounds)) ⌝ }
+{
+    let steps = header.steps;
+    let orders = header.orders;
+    put_u16(0, layout::EDITION, out);
+    put_u16(2, steps, out);
+    put_u16(4, orders, out);
+    put_u16(6, header.links, out);
+    put_u32(8, header.rounds, out);
+    put_u32(12, layout::WINDOWS_AT, out);
+    put_u32(16, layout::window_at(steps), out);
+    put_u32(20, layout::order_at(steps, orders), out);
+}
+
+// Puts three numbers, one behind the other.
+fn write_window(at: usize, limit: usize, latest: usize, earliest: usize, out: &mut [u8])
+    requires { ⌜ at < 1000000 ⌝ }
+    ensures { λ _. ⌜ now (out .exit) ≡ sets (now (out .entry)) at (u32Bytes limit ++ u32Bytes latest ++ u32Bytes earliest) ⌝ }
+{
+    put_u32(at, limit, out);
+    put_u32(at + 4, latest, out);
+    put_u32(at + 8, earliest, out);
+}
+
+// Puts the windows of the first steps.
+fn write_windows(steps: usize, limits: &[u32], latest: &[u32], earliest: &[u32], out: &mut [u8])
+    requires { ⌜ (steps ≤ mostSteps) × (steps ≤ length (now limits)) × (steps ≤ length (now latest)) × (steps ≤ length (now earliest)) ⌝ }
+    ensures { λ _. ⌜ now (out .exit)
+        ≡ sets (now (out .entry)) windowsAt (concatenate steps (windowIn (now (limits .entry)) (now (latest .entry)) (now (earliest .entry)))) ⌝ }
+{
+    let mut k = 0;
+    while k < steps {
+        write_window(
+            layout::window_at(k),
+            limits[k] as usize,
+            latest[k] as usize,
+            earliest[k] as usize,
+            out,
+        );
+        k += 1;
+    }
+}
+
+// Puts the order at an entry of the table of gaps: its steps, and the gap's bits.
+fn write_order(at: usize, q: usize, gap: usize, out: &mut [u8])
+    requires { ⌜ (at < 2000000) × (gap < 4294967296) ⌝ }
+    ensures { λ _. ⌜ now (out .exit) ≡ sets (now (out .entry)) at (entryBytes q gap) ⌝ }
+{
+    put_u16(at, q / WIDTH, out);
+    put_u16(at + 2, q % WIDTH, out);
+    put_u32(at + 4, (gap + UNBIASED) % VALUES, out);
+}
+
+// Puts every order that the table of the first steps holds, ascending.
+fn write_orders(from: usize, gaps: &[u32], steps: usize, out: &mut [u8])
+    requires { ⌜ (from < 1000000) × (length (now gaps) ≡ tableSize) × (steps ≤ mostSteps) × NoneFrom steps (now gaps) ⌝ }
+    ensures { λ _. ⌜ now (out .exit)
+        ≡ sets (now (out .entry)) from (concatenate (count tableSize (entered (now (gaps .entry)))) (orderIn (now (gaps .entry)))) ⌝ }
+{
+    let end = WIDTH * steps;
+    let mut at = from;
+    let mut q = 0;
+    while q < end {
+        if gaps[q] != NO_ORDER {
+            write_order(at, q, gaps[q] as usize, out);
+            at += WIDTHS[ORDER];
+        }
+        q += 1;
+    }
+}
+
+// Puts the first links.
+fn write_links(from: usize, links: usize, linked: &[u16], out: &mut [u8])
+    requires { ⌜ (from < 2000000) × (links ≤ mostLinks) × (links ≤ length (now linked)) ⌝ }
+    ensures { λ _. ⌜ now (out .exit) ≡ sets (now (out .entry)) from (concatenate links (linkIn (now (linked .entry)))) ⌝ }
+{
+    let mut j = 0;
+    while j < links {
+        put_u16(from + WIDTHS[LINK] * j, linked[j] as usize, out);
+        j += 1;
+    }
+}
+
+// Writes the file of the contents that the lists hold; the bytes past its end stay.
+pub fn write_file(
+    header: Header,
+    limits: &[u32],
+    latest: &[u32],
+    earliest: &[u32],
+    gaps: &[u32],
+    linked: &[u16],
+    out: &mut [u8],
+)
+    requires { ⌜ Roomy header (now limits) (now latest) (now earliest) (now gaps) (now linked) (now out) ⌝ }
+    ensures { λ _. ⌜ now (out .exit)
+        ≡ over
+        (encode
+        (heldIn (header .steps) (header .links) (header .rounds) (now (limits .entry)) (now (latest .entry)) (now (earliest .entry))
+        (now (gaps .entry)) (now (linked .entry))))
+        (now (out .entry)) ⌝ }
+{
+    let steps = header.steps;
+    let orders = header.orders;
+    let links = header.links;
+    write_header(header, out);
+    write_windows(steps, limits, latest, earliest, out);
+    write_orders(layout::window_at(steps), gaps, steps, out);
+    write_links(layout::order_at(steps, orders), links, linked, out);
+}

@@ -1,0 +1,80 @@
+-- The answers: what follows from which answer it is, and what the reader answers about an encoded file.
+use Prim.Native.Nat.{ℕ}
+use mathlib.Core.Path.{_≡_, refl, ap, _∙_}
+use mathlib.Core.Bool.{Bool, true, false, cond, _&&_}
+use mathlib.Core.List.{List}
+use mathlib.Core.Logic.{⊎-elim}
+use lib.Dec.{eqb}
+use Rattle.verdict.specs.Verdict.{nowhere}
+use Rattle.laws.proofs.Search.{either}
+use Rattle.order_file.specs.Contents.{Contents}
+use Rattle.order_file.specs.Layout.{contentsOf}
+use Rattle.order_reader.specs.WellFormed.{wellFormed}
+use Rattle.order_reader.specs.Alike.{alikeContents}
+use Rattle.order_file.specs.Contents.{signedGap}
+use Rattle.order_reader.specs.Answers.{broken, headerOf, headerRead, headerNumber, headerPlace, headerValues, recordOf, recordThere, recordRead, recordNumber, recordPlace, recordValues, alikeAnswer, alikeNumber, alikePlace, alikeYes, HeaderPromise, RecordPromise, AlikePromise}
+use Rattle.order_reader.specs.declared.HeaderRead.{HeaderRead}
+use Rattle.order_reader.specs.declared.RecordRead.{RecordRead}
+use Rattle.order_reader.specs.declared.RecordRead.the-variants.{Window, Order, Link, Broken}
+use Rattle.order_reader.specs.declared.AlikeAnswer.{AlikeAnswer}
+use Rattle.order_reader.specs.declared.AlikeAnswer.the-variants.{Alike, Different, FirstBroken, SecondBroken}
+
+-- the number, the place and the values follow from the answer
+pub header-promise : (b : List ℕ) (r : HeaderRead) → r ≡ headerRead b → HeaderPromise b r
+unfolding headerRead headerOf
+header-promise b r e =
+    ⊎-elim
+    (λ (t : wellFormed b ≡ true).
+    let q : r ≡ headerOf b = e ∙ simp t in
+    record { answer = e; number = ap headerNumber q ∙ simp t; place = ap headerPlace q ∙ simp t; values = ap headerValues q ∙ simp t })
+    (λ (f : wellFormed b ≡ false).
+    record { answer = e; number = ap headerNumber e ∙ simp f; place = ap headerPlace e ∙ simp f; values = ap headerValues e ∙ simp f })
+    (either (wellFormed b))
+
+-- a record that is there is no refusal
+one-of : (P : RecordRead → Type 0) (a b : Bool) (w o l : RecordRead) → P w → P o → P l → P (cond a w (cond b o l))
+one-of P true b w o l x y z = x
+one-of P false true w o l x y z = y
+one-of P false false w o l x y z = z
+
+record-counts : (c : Contents) (table k : ℕ) → (recordNumber (recordOf c table k) ≡ 0) × (recordPlace (recordOf c table k) ≡ nowhere)
+unfolding recordOf
+record-counts c table k =
+    one-of (λ r. (recordNumber r ≡ 0) × (recordPlace r ≡ nowhere)) (eqb table 0) (eqb table 1)
+    (Window (c .limit k) (c .latest k) (c .earliest k))
+    (Order (c .first k) (c .second k) (signedGap (c .gap k)))
+    (Link (c .link k))
+    (refl, refl)
+    (refl, refl)
+    (refl, refl)
+
+pub record-promise : (b : List ℕ) (table k : ℕ) (r : RecordRead) → r ≡ recordRead b table k → RecordPromise b table k r
+unfolding recordRead
+record-promise b table k r e =
+    ⊎-elim
+    (λ (t : recordThere b table k ≡ true).
+    let q : r ≡ recordOf (contentsOf b) table k = e ∙ simp t in
+    record {
+      answer = e;
+      number = ap recordNumber q ∙ record-counts (contentsOf b) table k .0 ∙ simp t;
+      place = ap recordPlace q ∙ record-counts (contentsOf b) table k .1 ∙ simp t;
+      values = ap recordValues q ∙ simp t;
+    })
+    (λ (f : recordThere b table k ≡ false).
+    let q : r ≡ Broken = e ∙ simp f in
+    record { answer = e; number = ap recordNumber q ∙ simp f; place = ap recordPlace q ∙ simp f; values = ap recordValues q ∙ simp f })
+    (either (recordThere b table k))
+
+alike-cases : (a b same : Bool) → let r = cond a (cond b (cond same Alike Different) SecondBroken) FirstBroken in
+    (alikeNumber r ≡ cond (a && b) 0 broken) × (alikePlace r ≡ cond a (cond b nowhere 1) 0) × (alikeYes r ≡ (a && b && same))
+alike-cases true true true = (refl, refl, refl)
+alike-cases true true false = (refl, refl, refl)
+alike-cases true false same = (refl, refl, refl)
+alike-cases false b same = (refl, refl, refl)
+
+pub alike-promise : (a b : List ℕ) (r : AlikeAnswer) → r ≡ alikeAnswer a b → AlikePromise a b r
+unfolding alikeAnswer
+alike-promise a b r e =
+    let same = alikeContents (contentsOf a) (contentsOf b) in
+    let s = alike-cases (wellFormed a) (wellFormed b) same in
+    record { answer = e; number = ap alikeNumber e ∙ s .0; place = ap alikePlace e ∙ s .1; yes = ap alikeYes e ∙ s .2 }

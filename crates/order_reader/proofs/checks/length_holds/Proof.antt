@@ -1,0 +1,8 @@
+use Rattle.order_reader.specs.WellFormed.{lengthHolds}
+use borrow.Author.Needs.{needs}
+use Rattle.order_reader.proofs.checks.length_holds.Statement.{statement}
+use Rattle.order_reader.proofs.checks.length_holds.Tie as tie
+
+pub length-holds-spec : {M : Type 1} → statement M
+unfolding lengthHolds
+length-holds-spec = tie.close (tie.spec (λ c κs. search needs) (λ c κs. search needs) (λ c κs. search needs) (λ c κs. search needs) (λ c. cc))

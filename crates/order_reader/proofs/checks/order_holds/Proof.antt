@@ -1,0 +1,8 @@
+use Rattle.order_reader.specs.WellFormed.{orderHolds}
+use borrow.Author.Needs.{needs}
+use Rattle.order_reader.proofs.checks.order_holds.Statement.{statement}
+use Rattle.order_reader.proofs.checks.order_holds.Tie as tie
+
+pub order-holds-spec : {M : Type 1} → statement M
+unfolding orderHolds
+order-holds-spec = tie.close (tie.spec (λ c κs. search needs) (λ c κs. search needs) (λ c κs. search needs) (λ c κs. search needs) (λ c. cc))

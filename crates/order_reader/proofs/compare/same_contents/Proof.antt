@@ -1,0 +1,8 @@
+use Rattle.order_reader.specs.Alike.{alikeContents}
+use borrow.Author.Needs.{needs}
+use Rattle.order_reader.proofs.compare.same_contents.Statement.{statement}
+use Rattle.order_reader.proofs.compare.same_contents.Tie as tie
+
+pub same-contents-spec : {M : Type 1} → statement M
+unfolding alikeContents
+same-contents-spec = tie.close (tie.spec (λ c κs. search needs) (λ c κs. search needs) (λ c κs. search needs) (λ c. cc))

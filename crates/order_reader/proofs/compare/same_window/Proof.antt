@@ -1,0 +1,8 @@
+use Rattle.order_reader.specs.Alike.{sameWindow}
+use borrow.Author.Needs.{needs}
+use Rattle.order_reader.proofs.compare.same_window.Statement.{statement}
+use Rattle.order_reader.proofs.compare.same_window.Tie as tie
+
+pub same-window-spec : {M : Type 1} → statement M
+unfolding sameWindow
+same-window-spec = tie.close (tie.spec (λ c κs. search needs) (λ c κs. search needs) (λ c κs. search needs) (λ c κs. search needs) (λ c. cc))

@@ -1,0 +1,4 @@
+-- When bytes are an order file, and what the reader and the alike test answer.
+pub mod WellFormed
+pub mod Alike
+pub mod Answers

@@ -1,0 +1,150 @@
+// Order files: the reader of a header and of one record, and the test whether two files are alike.
+mod checks;
+mod compare;
+pub mod numbers;
+
+use order_file::layout;
+ghost use mathlib.Core.Path.{_≡_};
+ghost use Prim.Native.Nat.{_<_};
+ghost use Rattle.order_file.specs.Layout.{contentsOf};
+ghost use Rattle.order_file.specs.Contents.{signedGap};
+ghost use Rattle.order_reader.specs.Answers.{recordCount, recordOf, HeaderPromise, RecordPromise, AlikePromise};
+
+// What reading the header finds.
+pub enum HeaderRead {
+    Header {
+        edition: u16,
+        steps: u16,
+        orders: u16,
+        links: u16,
+        rounds: u32,
+        windows_at: u32,
+        orders_at: u32,
+        links_at: u32,
+    },
+    // The bytes are no order file.
+    Broken,
+}
+
+// What reading one record finds.
+pub enum RecordRead {
+    Window {
+        limit: u32,
+        latest: u32,
+        earliest: u32,
+    },
+    Order {
+        first: u16,
+        second: u16,
+        gap: i32,
+    },
+    Link(u16),
+    // The bytes are no order file, or the record is not there.
+    Broken,
+}
+
+// Whether two order files are alike, or which of them is none.
+pub enum AlikeAnswer {
+    Alike,
+    Different,
+    FirstBroken,
+    SecondBroken,
+}
+
+// All of the header's numbers.
+pub fn read_header(file: &[u8]) -> HeaderRead
+    ensures { λ r. ⌜ HeaderPromise (now (file .entry)) r ⌝ }
+{
+    if checks::well_formed(file) {
+        HeaderRead::Header {
+            edition: little_endian::u16_at(file, 0) as u16,
+            steps: little_endian::u16_at(file, 2) as u16,
+            orders: little_endian::u16_at(file, 4) as u16,
+            links: little_endian::u16_at(file, 6) as u16,
+            rounds: little_endian::u32_at(file, 8) as u32,
+            windows_at: little_endian::u32_at(file, 12) as u32,
+            orders_at: little_endian::u32_at(file, 16) as u32,
+            links_at: little_endian::u32_at(file, 20) as u32,
+        }
+    } else {
+        HeaderRead::Broken
+    }
+}
+
+// How many records a table has.
+fn record_count(file: &[u8], table: u32) -> usize
+    ensures { λ r. ⌜ (r ≡ recordCount (contentsOf (now (file .entry))) table) × (r < 65536) ⌝ }
+{
+    if table == 0 {
+        layout::steps(file)
+    } else if table == 1 {
+        layout::orders(file)
+    } else if table == 2 {
+        layout::links(file)
+    } else {
+        0
+    }
+}
+
+// The paper's gap of a gap plus 100000.
+fn signed_gap(gap: usize) -> i32
+    requires { ⌜ gap < 2147583648 ⌝ }
+    ensures { λ r. ⌜ r ≡ signedGap gap ⌝ }
+{
+    if gap < layout::GAP_BIAS {
+        (gap as i32) - layout::GAP_BIAS as i32
+    } else {
+        (gap - layout::GAP_BIAS) as i32
+    }
+}
+
+// The record of a table and a number; of no table but 0 and 1, a link.
+fn record_of(file: &[u8], table: u32, k: usize) -> RecordRead
+    requires { ⌜ k < 65536 ⌝ }
+    ensures { λ r. ⌜ r ≡ recordOf (contentsOf (now (file .entry))) table k ⌝ }
+{
+    if table == 0 {
+        RecordRead::Window {
+            limit: layout::limit(file, k) as u32,
+            latest: layout::latest(file, k) as u32,
+            earliest: layout::earliest(file, k) as u32,
+        }
+    } else if table == 1 {
+        RecordRead::Order {
+            first: layout::first(file, k) as u16,
+            second: layout::second(file, k) as u16,
+            gap: signed_gap(layout::gap(file, k)),
+        }
+    } else {
+        RecordRead::Link(layout::link(file, k) as u16)
+    }
+}
+
+// One record: of table 0 a window, of 1 an order, of 2 a link.
+pub fn read_record(file: &[u8], table: u32, number: u32) -> RecordRead
+    ensures { λ r. ⌜ RecordPromise (now (file .entry)) table number r ⌝ }
+{
+    let k = number as usize;
+    if checks::well_formed(file) & (k < record_count(file, table)) {
+        record_of(file, table, k)
+    } else {
+        RecordRead::Broken
+    }
+}
+
+// Whether two files are alike.
+pub fn alike(a: &[u8], b: &[u8]) -> AlikeAnswer
+    ensures { λ r. ⌜ AlikePromise (now (a .entry)) (now (b .entry)) r ⌝ }
+{
+    if !checks::well_formed(a) {
+        return AlikeAnswer::FirstBroken;
+    }
+    if !checks::well_formed(b) {
+        return AlikeAnswer::SecondBroken;
+    }
+    if compare::same_contents(a, b) {
+        AlikeAnswer::Alike
+    } else {
+        AlikeAnswer::Different
+    }
+}

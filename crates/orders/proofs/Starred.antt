@@ -1,0 +1,145 @@
+-- The starred table by computing. To find each order by its number takes a search among 4,096 pairs of steps, itself with counting at
+-- each pair. So the orders are first proved to be the pairs that pass, listed in one pass that looks at the gaps of counted steps only.
+use Prim.Native.Nat.{ℕ, zero, suc, _+_, _/_, _%_, _<_}
+use mathlib.Core.Path.{_≡_, refl, sym, ap, ap₂, _∙_, fun-ext}
+use mathlib.Core.Bool.{Bool, true, false, _&&_, not, cond}
+use mathlib.Core.List.{List, [], _∷_, _++_, map}
+use mathlib.Core.Logic.{⊎-elim}
+use native.Mathlib.Nat.{add-zero}
+use native.Mathlib.Numerals.{add-one}
+use native.Mathlib.Omega.{arith}
+use lib.Dec.{ltb, eqb}
+use Rattle.little_endian.specs.Bytes.{u16At, u32At, biasedAt, u16Bytes, u32Bytes}
+use Rattle.laws.specs.Fold.{largest, least, sum}
+use Rattle.laws.specs.Listed.{tabulate}
+use Rattle.laws.specs.Nth.{count, nth}
+use Rattle.laws.specs.Search.{any, all, lowest, lowestOwner}
+use Rattle.laws.proofs.Search.{either}
+use Rattle.laws.proofs.Nth.{nth-facts, nth-is}
+use Rattle.verdict.specs.declared.Verdict.{Verdict}
+use Rattle.job.specs.Layout.{countsOf, tableAt, positionsOf, jobOf}
+use Rattle.form.specs.Header.{countTooHigh, layoutAgrees}
+use Rattle.job.specs.Model.{Model, modelOf}
+use Rattle.verdict.specs.Verdict.{number, place, _then_, refuseIf, refuseLowest}
+use Rattle.form.specs.Ranges.{factOk, levelOk, stepOk, conditionOk, effectOk, useOk, goalOk}
+use Rattle.form.specs.Against.{bothWays, usesTwice, opposesOwn, setBefore, usedBefore, opposesAny, bothWaysStep, usesTwiceStep, opposesOwnStep}
+use Rattle.form.specs.Header.{headerCheck}
+use Rattle.form.specs.Refusals.{tableCheck, recordCheck, againstStep, stepCheck, formCheck}
+use Rattle.validity.specs.Ticks.{planned}
+use Rattle.validity.specs.Seen.{givenAt, lastGiven, seen, afterAll}
+use Rattle.validity.specs.Levels.{risesBefore, fallsBefore}
+use Rattle.validity.specs.Checks.{meets, conflicts, breaks, conditionFails, passes, levelFails, undoes, late, goalFails, overlaps, crowded, ruleCheck, timingCheck, jobCheck}
+use Rattle.orders.specs.Links.{producer, earliestProduced, supporter, linkOf, conditionLink, goalLink, nthLink}
+use Rattle.orders.specs.Gaps.{supportOrder, supportGap, opposingOrder, opposingGap, beforeOrder, afterOrder, conditionGap, levelOrder, levelGap, serialGap, gapOf}
+use Rattle.orders.specs.Windows.{limitOf, allowed, latestOf}
+use Rattle.rounds.specs.Rounds.{demand, raised, after, unchanged, rounds, earliest}
+use Rattle.orders.specs.File.{ordered, fileOf}
+use Rattle.orders.specs.Starred.{fact, level, step, condition, effect, usage, goal, joined, offsets, tablesOf, jobBytes, Order, order, Answer, refused, accepted, listed, windowOf, orderOf, said, answer, answerOf, Case, small, nothing, levelled, serially, starred}
+
+module _ {A : Type 0} where
+  listed-cong : (f g : ℕ → A) (n : ℕ) → ((k : ℕ) → k < n → f k ≡ g k) → listed n f ≡ listed n g
+  unfolding listed
+  listed-cong f g zero h = refl
+  listed-cong f g (suc n) h =
+      ap₂ (λ (l : List A) (a : A). l ++ (a ∷ [])) (listed-cong f g n (λ k l. h k (omega arith))) (h n (omega arith))
+
+  -- one more value where a test passes: it is computed only there
+  extend : Bool → List A → (ℕ → A) → ℕ → List A
+  extend true l f n = l ++ (f n ∷ [])
+  extend false l f n = l
+
+  -- the values at the indexes below n that pass
+  passing : ℕ → (ℕ → Bool) → (ℕ → A) → List A
+  passing zero p f = []
+  passing (suc n) p f = extend (p n) (passing n p f) f n
+
+-- one index more changes none that is numbered
+nth-next : (p : ℕ → Bool) (n o : ℕ) → o < count n p → nth (suc n) p o ≡ nth n p o
+nth-next p n o h =
+    let w = nth-facts p n o h in
+    ap (nth (suc n) p) (sym (w .2)) ∙ nth-is p (suc n) (nth n p o) (omega (arith, w .0)) (w .1)
+
+-- the values by number are those that pass
+listed-nth : {A : Type 0} (p : ℕ → Bool) (f : ℕ → A) (n : ℕ) → listed (count n p) (λ o. f (nth n p o)) ≡ passing n p f
+unfolding listed count passing extend
+listed-nth p f zero = refl
+listed-nth {A} p f (suc n) =
+    let g : ℕ → A = λ o. f (nth (suc n) p o) in
+    let before : listed (count n p) g ≡ passing n p f =
+    listed-cong g (λ o. f (nth n p o)) (count n p) (λ o h. ap f (nth-next p n o h)) ∙ listed-nth p f n in
+    ⊎-elim
+    (λ (t : p n ≡ true).
+    ap (λ c. listed c g) (ap (λ b. count n p + cond b 1 0) t ∙ add-one (count n p))
+    ∙ ap₂ (λ (l : List A) (a : A). l ++ (a ∷ [])) before (ap f (nth-is p (suc n) n (omega arith) t))
+    ∙ sym (ap (λ b. extend b (passing n p f) f n) t))
+    (λ (e : p n ≡ false).
+    ap (λ c. listed c g) (ap (λ b. count n p + cond b 1 0) e ∙ add-zero (count n p))
+    ∙ before
+    ∙ sym (ap (λ b. extend b (passing n p f) f n) e))
+    (either (p n))
+
+-- whether a pair is ordered: the gap is computed for counted steps only
+orderedIf : Bool → Model → (ℕ → ℕ) → ℕ → ℕ → Bool
+orderedIf true m x i k = not (eqb (gapOf m x i k) 0)
+orderedIf false m x i k = false
+
+orderedIf-is : (b : Bool) (m : Model) (x : ℕ → ℕ) (i k : ℕ) → b && not (eqb (gapOf m x i k) 0) ≡ orderedIf b m x i k
+unfolding orderedIf
+orderedIf-is true m x i k = refl
+orderedIf-is false m x i k = refl
+
+orderedPair : Model → (ℕ → ℕ) → ℕ → Bool
+orderedPair m x q = orderedIf (ltb (q / 64) (m .steps) && ltb (q % 64) (m .steps)) m x (q / 64) (q % 64)
+
+orderAt : Model → (ℕ → ℕ) → ℕ → Order
+orderAt m x q = order (q / 64) (q % 64) (gapOf m x (q / 64) (q % 64))
+
+ordersOf : Model → (ℕ → ℕ) → List Order
+ordersOf m x = passing 4096 (orderedPair m x) (orderAt m x)
+
+orderedPair-is : (m : Model) (x : ℕ → ℕ) (q : ℕ) → ordered m x q ≡ orderedPair m x q
+unfolding ordered orderedPair
+orderedPair-is m x q = orderedIf-is (ltb (q / 64) (m .steps) && ltb (q % 64) (m .steps)) m x (q / 64) (q % 64)
+
+orders-listed : (m : Model) (x : ℕ → ℕ) → listed (fileOf m x .orders) (orderOf (fileOf m x)) ≡ ordersOf m x
+unfolding fileOf orderOf ordersOf orderAt
+orders-listed m x =
+    listed-nth (ordered m x) (orderAt m x) 4096 ∙ ap (λ p. passing 4096 p (orderAt m x)) (fun-ext (orderedPair-is m x))
+
+-- the answer with its orders so listed
+answerBy : Bool → Verdict → Model → Answer
+answerBy true v m =
+    let c = fileOf m (planned m) in
+    accepted (c .steps) (c .rounds) (listed (c .steps) (windowOf c)) (ordersOf m (planned m)) (listed (c .links) (c .link))
+answerBy false v m = refused (number v) (place v)
+
+answerBy-is : (b : Bool) (v : Verdict) (m : Model) → answer b v m ≡ answerBy b v m
+unfolding answer answerBy said
+answerBy-is true v m =
+    let c = fileOf m (planned m) in
+    ap (λ os. accepted (c .steps) (c .rounds) (listed (c .steps) (windowOf c)) os (listed (c .links) (c .link)))
+    (orders-listed m (planned m))
+answerBy-is false v m = refl
+
+computed : List ℕ → Answer
+computed s = let v = jobCheck s in answerBy (eqb (number v) 0) v (modelOf s)
+
+computed-is : (s : List ℕ) → answerOf s ≡ computed s
+unfolding answerOf computed
+computed-is s = answerBy-is (eqb (number (jobCheck s)) 0) (jobCheck s) (modelOf s)
+
+starred-computed : map (λ (c : Case). computed (c .job)) starred ≡ map (λ (c : Case). c .expected) starred
+unfolding starred small nothing levelled serially jobBytes tablesOf joined offsets fact level step condition effect usage goal
+    u16Bytes u32Bytes computed answerBy listed windowOf ordersOf orderAt orderedPair orderedIf passing extend fileOf nthLink u16At
+    u32At biasedAt largest least sum tabulate any all lowest lowestOwner countsOf tableAt positionsOf jobOf countTooHigh
+    layoutAgrees _then_ refuseIf refuseLowest factOk levelOk stepOk conditionOk effectOk useOk goalOk bothWays usesTwice
+    opposesOwn setBefore usedBefore opposesAny bothWaysStep usesTwiceStep opposesOwnStep headerCheck tableCheck recordCheck
+    againstStep stepCheck formCheck givenAt lastGiven seen afterAll risesBefore fallsBefore meets conflicts breaks conditionFails
+    passes levelFails undoes late goalFails overlaps crowded ruleCheck timingCheck jobCheck producer earliestProduced
+    supporter linkOf conditionLink goalLink supportOrder supportGap opposingOrder opposingGap beforeOrder afterOrder
+    conditionGap levelOrder levelGap serialGap gapOf limitOf allowed latestOf demand raised after unchanged rounds earliest
+starred-computed = refl
+
+-- the definitions answer the whole table as the paper does
+pub starred-answers : map (λ (c : Case). answerOf (c .job)) starred ≡ map (λ (c : Case). c .expected) starred
+starred-answers = ap (λ f. map (λ (c : Case). f (c .job)) starred) (fun-ext computed-is) ∙ starred-computed

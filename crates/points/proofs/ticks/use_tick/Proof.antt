@@ -1,0 +1,15 @@
+-- The start of the point's step, and the point.
+use borrow.Author.Needs.{needs}
+use native.Mathlib.Omega.{arith}
+use Rattle.points.proofs.ticks.use_tick.Statement.{statement}
+use Rattle.points.proofs.ticks.use_tick.Tie as tie
+
+pub use-tick-spec : {M : Type 1} → statement M
+use-tick-spec =
+    tie.close
+    (tie.spec
+    (λ c κs. search needs)
+    (λ c κs. search needs)
+    (λ c κs. search needs)
+    (λ c. search needs)
+    (λ c. (cc, omega arith)))

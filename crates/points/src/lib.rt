@@ -1,0 +1,5 @@
+// The points of a job: their ticks, their order, and the value seen.
+pub mod index;
+pub mod listed;
+pub mod ticks;
+pub mod values;

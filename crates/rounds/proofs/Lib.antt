@@ -1,0 +1,3 @@
+-- Rounds end, and give the least starts that keep every order.
+pub mod Rounds
+pub mod Same

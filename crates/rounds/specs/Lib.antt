@@ -1,0 +1,2 @@
+-- The earliest starts under orders: rounds.
+pub mod Rounds

@@ -1,0 +1,1 @@
+// Rounds over a table of gaps: definitions and theorems without code.

@@ -1,0 +1,6 @@
+-- Laws of the definitions in specs/, and that the checks say what `Valid` says.
+pub mod Seen
+pub mod Levels
+pub mod Planned
+pub mod Tested
+pub mod Accepted

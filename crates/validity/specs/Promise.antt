@@ -1,0 +1,32 @@
+-- The sound-timing promise: accepted means exactly that the file is well formed and the timing sound.
+use Prim.Native.Nat.{ℕ}
+use mathlib.Core.Path.{_≡_}
+use mathlib.Core.List.{List}
+use lib.ListN.{length}
+use Rattle.verdict.specs.declared.Verdict.{Verdict}
+use Rattle.verdict.specs.Verdict.{number}
+use Rattle.job.specs.Model.{modelOf}
+use Rattle.form.specs.Refusals.{formCheck}
+use Rattle.job.specs.WellFormed.{WellFormed}
+use Rattle.validity.specs.Ticks.{scheduleOf, planned}
+use Rattle.validity.specs.Valid.{Valid}
+use Rattle.validity.specs.Checks.{jobCheck, scheduleCheck}
+
+-- a file that refusals 1 to 7 pass, and a schedule of its job that is sound
+pub record Sound (s : List ℕ) (x : ℕ → ℕ) : Type 0 where
+  pub form : number (formCheck s) ≡ 0
+  pub wellFormed : WellFormed (modelOf s)
+  pub valid : Valid (modelOf s) x
+
+-- what the job check promises
+pub record JobPromise (s : List ℕ) (r : Verdict) : Type 0 where
+  pub answer : r ≡ jobCheck s
+  pub sound : number r ≡ 0 → Sound s (planned (modelOf s))
+  pub complete : Sound s (planned (modelOf s)) → number r ≡ 0
+
+-- what the timing check promises of a list of starts
+pub record SchedulePromise (s starts : List ℕ) (r : Verdict) : Type 0 where
+  pub answer : r ≡ scheduleCheck s starts
+  pub oneEach : number r ≡ 0 → length starts ≡ modelOf s .steps
+  pub sound : number r ≡ 0 → Sound s (scheduleOf starts)
+  pub complete : length starts ≡ modelOf s .steps → Sound s (scheduleOf starts) → number r ≡ 0

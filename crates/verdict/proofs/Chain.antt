@@ -1,0 +1,87 @@
+-- Laws of the chain of checks: what an accepted or a refused verdict so far makes of the next check.
+use Prim.Native.Nat.{ℕ, _<_, _≤_}
+use mathlib.Core.Path.{_≡_, refl, sym, ap, _∙_}
+use mathlib.Core.Bool.{Bool, true, false, cond}
+use native.Mathlib.Decide.{ℕ-discrete}
+use lib.Dec.{eqb, ltb}
+use borrow.Author.Tests.{eq-eqb, ne-eqb, lt-ltb, le-ltb}
+use Rattle.laws.specs.Search.{lowest}
+use Rattle.laws.proofs.Search.{any-none, any-false, any-lowest}
+use Rattle.verdict.specs.declared.Verdict.{Verdict}
+use Rattle.verdict.specs.declared.Verdict.the-variants.{Accepted}
+use Rattle.verdict.specs.Verdict.{number, _then_, refuseIf, refuseLowest}
+
+pub then-refused : (v w : Verdict) → (number v ≡ 0 → ⊥) → v ≡ (v then w)
+unfolding _then_
+then-refused v w h = simp (ne-eqb (number v) 0 h)
+
+pub then-accepted : (v w : Verdict) → number v ≡ 0 → w ≡ (v then w)
+unfolding _then_
+then-accepted v w h = simp (eq-eqb (number v) 0 h)
+
+pub refuse-yes : (v : Verdict) {b : Bool} → b ≡ true → v ≡ refuseIf b v
+unfolding refuseIf
+refuse-yes v e = rw e
+
+pub refuse-no : (v : Verdict) {b : Bool} → b ≡ false → Accepted ≡ refuseIf b v
+unfolding refuseIf
+refuse-no v e = rw e
+
+-- the search's answer k is the lowest, below the count or not
+pub lowest-refused : (n : ℕ) (p : ℕ → Bool) (refusal : ℕ → Verdict) {k : ℕ} → k ≡ lowest n p → k < n → refusal k ≡ refuseLowest n p refusal
+unfolding refuseLowest
+lowest-refused n p refusal {k} e h =
+    ap refusal e ∙ refuse-yes (refusal (lowest n p)) (lt-ltb (lowest n p) n (rw e at h))
+
+pub lowest-passed : (n : ℕ) (p : ℕ → Bool) (refusal : ℕ → Verdict) {k : ℕ} → k ≡ lowest n p → n ≤ k → Accepted ≡ refuseLowest n p refusal
+unfolding refuseLowest
+lowest-passed n p refusal e h = refuse-no (refusal (lowest n p)) (le-ltb (lowest n p) n (rw e at h))
+
+pub accepted-then : (w : Verdict) → (Accepted then w) ≡ w
+unfolding _then_
+accepted-then w = refl
+
+-- three checks in a row: the first refuses, the second does, or neither
+pub first-refused : (a b c : Verdict) → (number a ≡ 0 → ⊥) → a ≡ (a then b then c)
+first-refused a b c h = then-refused a c h ∙ ap (λ v. v then c) (then-refused a b h)
+
+pub second-refused : (a b c : Verdict) → number a ≡ 0 → (number b ≡ 0 → ⊥) → b ≡ (a then b then c)
+second-refused a b c h g = then-refused b c g ∙ ap (λ v. v then c) (then-accepted a b h)
+
+pub both-accepted : (a b c : Verdict) → number a ≡ 0 → number b ≡ 0 → c ≡ (a then b then c)
+both-accepted a b c h g = then-accepted b c g ∙ ap (λ v. v then c) (then-accepted a b h)
+
+-- a chain that accepts has accepted at each check
+pub then-zero : (v w : Verdict) → number (v then w) ≡ 0 → (number v ≡ 0) × (number w ≡ 0)
+then-zero v w e =
+    elim (ℕ-discrete (number v) 0) [
+      | yes z ↦ (z, ap number (then-accepted v w z) ∙ e)
+      | no n ↦ absurd (n (ap number (then-refused v w n) ∙ e))
+    ]
+
+pub refuse-zero : (b : Bool) (v : Verdict) → (number v ≡ 0 → ⊥) → number (refuseIf b v) ≡ 0 → b ≡ false
+unfolding refuseIf
+refuse-zero true v h e = absurd (h e)
+refuse-zero false v h e = refl
+
+pub lowest-zero : (n : ℕ) (p : ℕ → Bool) (refusal : ℕ → Verdict) → ((k : ℕ) → number (refusal k) ≡ 0 → ⊥) → number (refuseLowest n p refusal) ≡ 0 → (k : ℕ) → k < n → p k ≡ false
+unfolding refuseLowest
+lowest-zero n p refusal h e = any-false p n (any-lowest p n ∙ refuse-zero _ _ (h (lowest n p)) e)
+
+-- and a chain accepts where each check does
+pub zero-then : (v w : Verdict) → number v ≡ 0 → number w ≡ 0 → number (v then w) ≡ 0
+zero-then v w h g = ap number (sym (then-accepted v w h)) ∙ g
+
+pub zero-refuse : (b : Bool) (v : Verdict) → b ≡ false → number (refuseIf b v) ≡ 0
+zero-refuse b v e = ap number (sym (refuse-no v e))
+
+pub zero-lowest : (n : ℕ) (p : ℕ → Bool) (refusal : ℕ → Verdict) → ((k : ℕ) → k < n → p k ≡ false) → number (refuseLowest n p refusal) ≡ 0
+unfolding refuseLowest
+zero-lowest n p refusal h = zero-refuse _ (refusal (lowest n p)) (sym (any-lowest p n) ∙ any-none p n h)
+
+-- v is the code's verdict so far and n its number as the code read it: it stands, or the next check w decides
+pub stands : {v a : Verdict} {n : ℕ} (b : Verdict) → v ≡ a → n ≡ number v → (n ≡ 0 → ⊥) → v ≡ (a then b)
+stands {v} {a} b e q h = e ∙ then-refused a b (λ z. h (q ∙ ap number e ∙ z))
+
+pub decides : {v a w b : Verdict} {n : ℕ} → v ≡ a → n ≡ number v → n ≡ 0 → w ≡ b → w ≡ (a then b)
+decides {v} {a} {w} {b} e q z g = g ∙ then-accepted a b (sym (ap number e) ∙ sym q ∙ z)

@@ -1,0 +1,33 @@
+-- Rounds until the first that changes nothing.
+use Prim.Native.Nat.{_-_}
+use native.Mathlib.Omega.{arith}
+use Rattle.rounds.specs.Rounds.{Given}
+use Rattle.order_file.specs.Contents.{gapBias}
+use Rattle.order_file.specs.Table.{gapIn, startIn}
+use Rattle.windows.proofs.Loops.{Reached, reached-start, reached-more, reached-last, reached-end, reached-bounded, given-start, given-more}
+use Rattle.windows.proofs.starts.earliest_starts.Statement.{statement}
+use Rattle.windows.proofs.starts.earliest_starts.Tie as tie
+
+pub earliest-starts-spec : {M : Type 1} → statement M
+earliest-starts-spec =
+    tie.close
+    (tie.spec
+    (λ n gaps starts₀ last₀ rounds₀ starts last rounds.
+    Reached n (gapIn gaps) gapBias (starts₀ .at) rounds (starts .at)
+    × Given n (gapIn gaps) gapBias (startIn (last .at)) (startIn (starts .at)))
+    (λ n gaps starts₀ last₀ rounds₀ starts last rounds. n - rounds)
+    (λ c. (reached-start _ _ _ _, given-start _ _ _ (c .before .args .limits .at) (c .before .pre .1) (c .before .pre .2)))
+    (λ c κs.
+    let p = c .before .before .before .pre in
+    let v = c .before .loop .inv in
+    (p .0, reached-bounded _ _ _ _ _ (p .0) (p .1) (p .2) (v .0), p .2, v .1))
+    (λ c. omega arith)
+    (λ c κs. c .before .before .before .before .before .before .before .before .pre .2)
+    (λ c. reached-last _ _ _ _ _ _ _ (c .before .before .before .before .before .before .before .before .loop .inv .0) (c .before .before .before .before .before .before .round .ensures) (c .before .before .before .before .before .before .before .loop-test .taken) (c .before .same-starts .ensures) (c .if1 .taken))
+    (λ c. omega arith)
+    (λ c.
+    let v = c .before .before .before .before .before .before .round .ensures in (
+      reached-more _ _ _ _ _ _ _ (c .before .before .before .before .before .before .before .before .loop .inv .0) v (c .before .before .before .before .before .before .before .loop-test .taken) (c .before .same-starts .ensures) (c .if1 .left),
+      given-more _ _ _ _ _ v,
+    ))
+    (λ c. reached-end _ _ _ _ _ _ (c .before .loop .inv .0) (c .loop-test .left)))

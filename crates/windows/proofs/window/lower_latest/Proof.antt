@@ -1,0 +1,66 @@
+-- The step that supports the goal is lowered, unless a test of the code keeps it.
+use Prim.Native.Nat.{_-_, min}
+use mathlib.Core.Path.{ap, _∙_}
+use borrow.Author.Tests.{ltb-true}
+use lib.ListN.{length-set}
+use Rattle.laws.proofs.Search.{and-l, and-r}
+use Rattle.links.proofs.LinkList.{goal-link}
+use Rattle.windows.proofs.Latest.{latest-same, latest-set}
+use borrow.Author.Needs.{needs}
+use native.Mathlib.Omega.{arith}
+use Rattle.windows.proofs.window.lower_latest.Statement.{statement}
+use Rattle.windows.proofs.window.lower_latest.Tie as tie
+
+pub lower-latest-spec : {M : Type 1} → statement M
+lower-latest-spec =
+    tie.close
+    (tie.spec
+    (λ c κs. search needs)
+    (λ c. search needs)
+    (λ c. search needs)
+    (λ c. search needs)
+    (λ c. search needs)
+    (λ c κs. search needs)
+    (λ c κs. search needs)
+    (λ c κs. search needs)
+    (λ c κs. search needs)
+    (λ c. search needs)
+    (λ c. search needs)
+    (λ c. search needs)
+    (λ c.
+    let t = c .before .before in
+    let e = t .before .before .before in
+    let b = e .before .before .before .before .before .before in
+    omega (arith, ltb-true (e .effect-step .result) (b .args .job .count .steps) (search (and-l, and-r, t .if1 .taken)), b .pre .0 .stepCount))
+    (λ c κs. search needs)
+    (λ c. search needs)
+    (λ c. search needs)
+    (λ c.
+    let t = c .before .before .before .before in
+    let e = t .before .before .before in
+    let b = e .before .before .before .before .before .before in
+    omega (arith, ltb-true (e .effect-step .result) (b .args .job .count .steps) (search (and-l, and-r, t .if1 .taken)), b .pre .0 .stepCount))
+    (λ c.
+    let t = c .before .before .before .before in
+    let f = t .before in
+    let e = f .before .before in
+    let d = e .before .before .before in
+    let b = d .before .before .before in
+    let p = b .pre in (
+      simp length-set (p .3),
+      λ x l w.
+          latest-set _ x _ _ w (d .goal-deadline .ensures .0) (goal-link _ _ _ l _ (p .2)) (e .effect-step .ensures) (f .step-fixed .ensures) _
+          (t .if1 .taken)
+          (omega (arith, ltb-true (e .effect-step .result) (b .args .job .count .steps) (search (and-l, and-r, t .if1 .taken)), p .0 .stepCount))
+          (c .lower .ensures ∙ ap (min _) (c .before .before .since .ensures ∙ ap (_-_ _) (c .before .before .before .effect-at .ensures .0))),
+    ))
+    (λ c.
+    let f = c .before in
+    let e = f .before .before in
+    let d = e .before .before .before in
+    let p = d .before .before .before .pre in (
+      p .3,
+      λ x l w.
+          latest-same _ x _ _ w (d .goal-deadline .ensures .0) (goal-link _ _ _ l _ (p .2)) (e .effect-step .ensures) (f .step-fixed .ensures)
+          (c .if1 .left),
+    )))

@@ -1,0 +1,2 @@
+-- Lists of starts.
+pub mod Starts
