@@ -6,7 +6,7 @@ use order_reader::HeaderRead;
 use order_reader::RecordRead;
 
 // Puts a number at an entry, if the list has that entry.
-fn put(list: &mut [u32], at: usize, n: u32)
+fn put(at: usize, n: u32, list: &mut [u32])
     ensures { λ _. ⌜ now (list .exit) ≡ set (now (list .entry)) at n ⌝ }
 {
     if at < list.len() {
@@ -15,12 +15,12 @@ fn put(list: &mut [u32], at: usize, n: u32)
 }
 
 // Puts numbers at the front of a list, as many as it has room for.
-fn fill(list: &mut [u32], numbers: &[u32])
+fn fill(numbers: &[u32], list: &mut [u32])
     ensures { λ _. ⌜ now (list .exit) ≡ spec.filled (now (list .entry)) (now (numbers .entry)) ⌝ }
 {
     let mut k = 0;
     while k < numbers.len() {
-        put(list, k, numbers[k]);
+        put(k, numbers[k], list);
         k += 1;
     }
 }
@@ -38,7 +38,7 @@ fn bits(n: i32) -> u32
 }
 
 // Puts a header's numbers into a list; a refusal changes no entry.
-pub fn list_header(list: &mut [u32], read: HeaderRead)
+pub fn list_header(read: HeaderRead, list: &mut [u32])
     ensures { λ _. ⌜ now (list .exit) ≡ spec.filled (now (list .entry)) (spec.headerList read) ⌝ }
 {
     match read {
@@ -62,14 +62,14 @@ pub fn list_header(list: &mut [u32], read: HeaderRead)
                 orders_at,
                 links_at,
             ];
-            fill(list, &numbers);
+            fill(&numbers, list);
         }
         HeaderRead::Broken => {}
     }
 }
 
 // Puts a record's numbers into a list; a refusal changes no entry.
-pub fn list_record(list: &mut [u32], read: RecordRead)
+pub fn list_record(read: RecordRead, list: &mut [u32])
     ensures { λ _. ⌜ now (list .exit) ≡ spec.filled (now (list .entry)) (spec.recordList read) ⌝ }
 {
     match read {
@@ -79,15 +79,15 @@ pub fn list_record(list: &mut [u32], read: RecordRead)
             earliest,
         } => {
             let numbers = [limit, latest, earliest];
-            fill(list, &numbers);
+            fill(&numbers, list);
         }
         RecordRead::Order { first, second, gap } => {
             let numbers = [first as u32, second as u32, bits(gap)];
-            fill(list, &numbers);
+            fill(&numbers, list);
         }
         RecordRead::Link(link) => {
             let numbers = [link as u32];
-            fill(list, &numbers);
+            fill(&numbers, list);
         }
         RecordRead::Broken => {}
     }

@@ -1,14 +1,23 @@
--- Lists that hold what is filed of a job.
+-- What inner functions ask and give: points of a valid schedule, lists of links and gaps to be filed, and lists that hold what is filed.
 use Prim.Native.Nat.{ℕ, _+_, _<_}
 use mathlib.Core.Path.{_≡_}
 use mathlib.Core.List.{List}
-use lib.ListN.{getD}
+use lib.ListN.{length, getD}
 use Rattle.job.specs.Model.{Model}
-use Rattle.order_file.specs.Table.{gapIn, startIn}
+use Rattle.job.specs.WellFormed.{WellFormed}
+use Rattle.validity.specs.Valid.{Valid}
+use Rattle.points.specs.Known.{EffectsKnown, UsesKnown}
+use Rattle.order_file.specs.Contents.{mostLinks}
+use Rattle.order_file.specs.Table.{gapIn, startIn, Gaps}
+use Rattle.order_file.specs.Held.{NoneFrom}
 use Rattle.orders.specs.Links.{conditionLink, goalLink}
 use Rattle.orders.specs.Gaps.{gapOf}
 use Rattle.orders.specs.Windows.{limitOf, latestOf}
-use Rattle.orders.specs.File.{roundsOf, earliestOf}
+use Rattle.orders.specs.File.{roundsOf, earliestOf, fileOf}
+use Rattle.links.specs.LinkList.{LinksOf}
+use Rattle.gaps.specs.Table.{TableOf}
+use Rattle.partialize.specs.declared.answer.Answer.{Answer}
+use Rattle.partialize.specs.Demands.{Filing}
 
 -- lists that hold what is filed of a job
 pub record Holds (m : Model) (x : ℕ → ℕ) (rounds : ℕ) (limits latest earliest gaps linked : List ℕ) : Type 0 where
@@ -21,3 +30,21 @@ pub record Holds (m : Model) (x : ℕ → ℕ) (rounds : ℕ) (limits latest ear
   pub emptyAt : (i k : ℕ) → i < 64 → k < 64 → (i < m .steps → k < m .steps → ⊥) → gapIn gaps i k ≡ 0
   pub conditionAt : (c : ℕ) → c < m .conditions → getD linked c 0 ≡ conditionLink m x c
   pub goalAt : (g : ℕ) → g < m .goals → getD linked (m .conditions + g) 0 ≡ goalLink m x g
+
+-- points of a valid schedule in the order of their ticks
+pub record ValidPoints (m : Model) (x : ℕ → ℕ) (ticks facts uses levels : List ℕ) : Type 0 where
+  pub effects : EffectsKnown m x ticks facts
+  pub used : UsesKnown m x uses levels
+  pub valid : Valid m x
+
+-- links and gaps of a well-formed job that can be filed
+pub record Fileable (m : Model) (links gaps : List ℕ) : Type 0 where
+  pub form : WellFormed m
+  pub table : Gaps gaps
+  pub linkCount : length links ≡ mostLinks
+  pub rows : NoneFrom (m .steps) gaps
+
+-- what is filed of links and gaps, whatever schedule they belong to
+abbrev pub FiledOf : Model → List ℕ → List ℕ → List ℕ → List ℕ → Answer → Type 0
+FiledOf m links gaps before after r =
+    (x : ℕ → ℕ) → LinksOf m x links → TableOf (m .steps) (gapOf m x) gaps → Filing (fileOf m x) before after r

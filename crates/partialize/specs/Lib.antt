@@ -1,6 +1,6 @@
 -- Loosening: its answer, the buffer afterwards, and what is promised of them.
 pub mod Formed
-pub mod Holds
 pub mod Answer
 pub mod Partialization
 pub mod Demands
+pub mod Holds

@@ -1,19 +1,9 @@
 // Loosening: an order file from a sound job.
-ghost use Prim.Native.Nat.{ℕ};
-ghost use mathlib.Core.Path.{_≡_};
-ghost use lib.ListN.{length};
 ghost use Rattle.job.specs.Model.{view};
-ghost use Rattle.job.specs.WellFormed.{WellFormed};
 ghost use Rattle.validity.specs.Ticks.{scheduleOf};
-ghost use Rattle.points.specs.Known.{EffectsKnown, UsesKnown};
-ghost use Rattle.validity.specs.Valid.{Valid};
-ghost use Rattle.orders.specs.Gaps.{gapOf};
-ghost use Rattle.order_file.specs.Table.{Gaps};
-ghost use Rattle.gaps.specs.Table.{TableOf};
-ghost use Rattle.links.specs.LinkList.{LinksOf};
 ghost use Rattle.orders.specs.File.{fileOf};
-ghost use Rattle.order_file.specs.Held.{NoneFrom};
 ghost use Rattle.partialize.specs.Formed.{Formed};
+ghost use Rattle.partialize.specs.Holds.{ValidPoints, Fileable, FiledOf};
 ghost use Rattle.partialize.specs.Demands.{Filing, Promise};
 
 pub mod answer;
@@ -40,8 +30,8 @@ use windows::window;
 
 // Files what the links and the gaps of a valid schedule say, if the buffer is long enough for it.
 fn file_found(s: &[u8], job: Job, links: &[u16], gaps: &[u32], out: &mut [u8]) -> Answer
-    requires { ⌜ WellFormed (view job (now s)) × Gaps (now gaps) × (length (now links) ≡ 544) × NoneFrom (job .count .steps) (now gaps) ⌝ }
-    ensures { λ r. ⌜ ((x : ℕ → ℕ) → LinksOf (view job (now (s .entry))) x (now (links .entry)) → TableOf (job .count .steps) (gapOf (view job (now (s .entry))) x) (now (gaps .entry)) → Filing (fileOf (view job (now (s .entry))) x) (now (out .entry)) (now (out .exit)) r) ⌝ }
+    requires { ⌜ Fileable (view job (now s)) (now links) (now gaps) ⌝ }
+    ensures { λ r. ⌜ FiledOf (view job (now (s .entry))) (now (links .entry)) (now (gaps .entry)) (now (out .entry)) (now (out .exit)) r ⌝ }
 {
     let steps = job.count.steps as usize;
     let count = job.count.conditions as usize + job.count.goals as usize;
@@ -78,7 +68,7 @@ fn file_schedule(
     levels: &[u16],
     out: &mut [u8],
 ) -> Answer
-    requires { ⌜ EffectsKnown (view job (now s)) (scheduleOf (now starts)) (now ticks) (now facts) × UsesKnown (view job (now s)) (scheduleOf (now starts)) (now uses) (now levels) × Valid (view job (now s)) (scheduleOf (now starts)) ⌝ }
+    requires { ⌜ ValidPoints (view job (now s)) (scheduleOf (now starts)) (now ticks) (now facts) (now uses) (now levels) ⌝ }
     ensures { λ r. ⌜ Filing (fileOf (view job (now (s .entry))) (scheduleOf (now (starts .entry)))) (now (out .entry)) (now (out .exit)) r ⌝ }
 {
     let mut links = [0u16; MOST_LINKS];

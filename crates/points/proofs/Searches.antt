@@ -16,7 +16,7 @@ use Rattle.validity.specs.Seen.{givenAt, lastGiven, seen}
 use Rattle.validity.proofs.Seen.{seen-later, seen-tied}
 use Rattle.points.specs.declared.index.Linking.the-variants.{EffectsByFact}
 use Rattle.points.specs.Keys.{factKey, keyOf}
-use Rattle.points.specs.Known.{EffectsKnown}
+use Rattle.points.specs.Known.{EffectsKnown, PlaceKnown}
 use Rattle.points.proofs.Known.{gives-key, key-gives, passed-over}
 
 -- What an effect with the key of a fact and a value, and what any other, adds to the latest tick at which that was given.
@@ -76,16 +76,17 @@ module _ {m : Model} {x : ℕ → ℕ} {ticks sorted : List ℕ} (known : Effect
         ]
 
     -- what stands before the place is an effect, and its tick is known
-    pub given-ready : (length sorted ≡ 1025) × (v < 512) × (r ≤ 512) × (getD sorted v 0 < r → (recordIn sorted (r - 1) < length ticks) × (tickIn ticks sorted (r - 1) < 8589934592))
+    pub given-ready : PlaceKnown ticks sorted v r
     given-ready =
         let searched = key-searched v listed in
         let ends : getD sorted (v + 1) 0 ≤ 512 = searched .2 .ends in
-        let within : r ≤ getD sorted (v + 1) 0 = parts .to in (
-          searched .0,
-          searched .1,
-          omega arith,
-          λ h. (searched .2 .known (r - 1) (omega arith) (omega arith), searched .2 .early (r - 1) (omega arith) (omega arith)),
-        )
+        let within : r ≤ getD sorted (v + 1) 0 = parts .to in
+        record {
+          size = searched .0;
+          low = searched .1;
+          within = omega arith;
+          known = λ h. (searched .2 .known (r - 1) (omega arith) (omega arith), searched .2 .early (r - 1) (omega arith) (omega arith));
+        }
 
 -- the key that the code makes of a fact and the other of a value
 pub opposing-key : {r a b v fact value : ℕ} → (r ≡ factKey a b) × (r < 512) → a ≡ fact → b ≡ 1 - v → v ≡ value → (r ≡ factKey fact (1 - value)) × (r < 512)

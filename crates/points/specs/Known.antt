@@ -1,5 +1,5 @@
 -- What is known of a job's points before they are searched: their ticks, and their order among those of one fact or level.
-use Prim.Native.Nat.{ℕ, _*_, _≤_, _<_}
+use Prim.Native.Nat.{ℕ, _-_, _*_, _≤_, _<_}
 use mathlib.Core.Path.{_≡_}
 use mathlib.Core.List.{List}
 use lib.ListN.{length, getD}
@@ -7,7 +7,7 @@ use Rattle.points.specs.declared.index.Linking.the-variants.{EffectsByFa
 use Rattle.job.specs.Model.{Model}
 use Rattle.job.specs.WellFormed.{WellFormed}
 use Rattle.points.specs.Keys.{keyOf}
-use Rattle.timeline.specs.Sorted.{Sorted}
+use Rattle.timeline.specs.Sorted.{recordIn, tickIn, Sorted}
 use Rattle.validity.specs.Ticks.{effectTick, firstTick, useTick}
 
 -- a list of the ticks of n points: a start and an offset of 32 bits each
@@ -33,3 +33,10 @@ pub record UsesKnown (m : Model) (x : ℕ → ℕ) (ticks sorted : List ℕ) : T
   pub form : WellFormed m
   pub timed : TicksOf (m .uses) (useTick m x) ticks
   pub ordered : Sorted (m .uses) (m .levels) (keyOf m UsesByLevel) ticks sorted
+
+-- a place of a key: what stands before it, if anything does, has a tick that is known
+pub record PlaceKnown (ticks sorted : List ℕ) (key p : ℕ) : Type 0 where
+  pub size : length sorted ≡ 1025
+  pub low : key < 512
+  pub within : p ≤ 512
+  pub known : getD sorted key 0 < p → (recordIn sorted (p - 1) < length ticks) × (tickIn ticks sorted (p - 1) < 8589934592)

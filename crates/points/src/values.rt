@@ -8,7 +8,7 @@ ghost use Rattle.timeline.specs.Sorted.{recordIn, tickIn};
 ghost use Rattle.job.specs.Model.{view};
 ghost use Rattle.validity.specs.Ticks.{scheduleOf, effectTick};
 ghost use Rattle.validity.specs.Seen.{lastGiven, seen, afterAll};
-ghost use Rattle.points.specs.Known.{TicksOf, EffectsKnown};
+ghost use Rattle.points.specs.Known.{TicksOf, EffectsKnown, PlaceKnown};
 use crate::index::fact_key;
 use job::layout::Job;
 use job::records::fact_initial;
@@ -31,7 +31,7 @@ pub fn larger(a: usize, b: usize) -> usize
 
 // One more than the tick of what stands before place p of a key; 0 where nothing does.
 pub fn given_before(ticks: &[usize], sorted: &[u16], key: usize, p: usize) -> usize
-    requires { ⌜ (length (now sorted) ≡ 1025) × (key < 512) × (p ≤ 512) × (getD (now sorted) key 0 < p → (recordIn (now sorted) (p - 1) < length (now ticks)) × (tickIn (now ticks) (now sorted) (p - 1) < 8589934592)) ⌝ }
+    requires { ⌜ PlaceKnown (now ticks) (now sorted) key p ⌝ }
     ensures { λ r. ⌜ r ≡ cond (ltb (getD (now (sorted .entry)) key 0) p) (tickIn (now (ticks .entry)) (now (sorted .entry)) (p - 1) + 1) 0 ⌝ }
 {
     if begin_of(sorted, key) < p {

@@ -1,15 +1,11 @@
 // The rises and falls of a level, and its rule at a tick.
 ghost use mathlib.Core.Path.{_≡_};
-ghost use mathlib.Core.Bool.{_&&_, cond};
+ghost use mathlib.Core.Bool.{cond};
 ghost use Prim.Native.Nat.{_+_, _≤_, _<_};
-ghost use lib.Dec.{leb};
-ghost use lib.ListN.{getD};
 ghost use Rattle.job.specs.Model.{view};
 ghost use Rattle.validity.specs.Ticks.{scheduleOf};
-ghost use Rattle.timeline.specs.Sorted.{tickIn, Parts};
 ghost use Rattle.validity.specs.Levels.{rise, fall};
-ghost use Rattle.points.specs.Known.{UsesKnown};
-ghost use Rattle.schedule.specs.Known.{Summed};
+ghost use Rattle.schedule.specs.Known.{inBounds, Sweep, SweptTick};
 use job::layout::Job;
 use job::records::*;
 use timeline::begin_of;
@@ -64,8 +60,8 @@ pub fn changes_at(
     l: u16,
     before: Changes,
 ) -> Changes
-    requires { ⌜ UsesKnown (view job (now s)) (scheduleOf (now starts)) (now ticks) (now sorted) × (l < job .count .levels) × Summed (view job (now s)) (now sorted) l before × (before .place < getD (now sorted) (l + 1) 0) ⌝ }
-    ensures { λ r. ⌜ Summed (view job (now (s .entry))) (now (sorted .entry)) l r × Parts (now (ticks .entry)) (now (sorted .entry)) (before .place) (getD (now (sorted .entry)) (l + 1) 0) (tickIn (now (ticks .entry)) (now (sorted .entry)) (before .place) + 1) (r .place) ⌝ }
+    requires { ⌜ Sweep (view job (now s)) (scheduleOf (now starts)) (now ticks) (now sorted) l before ⌝ }
+    ensures { λ r. ⌜ SweptTick (view job (now (s .entry))) (now (ticks .entry)) (now (sorted .entry)) l before r ⌝ }
 {
     let tick = ticks[record_at(sorted, before.place) as usize];
     let mut sums = before;
@@ -82,7 +78,7 @@ pub fn changes_at(
 // At a tick the level from earlier ticks bears all of that tick's falls, and all of its rises: those before it, and those with it.
 pub fn in_bounds(s: &[u8], job: Job, l: u16, before: Changes, after: Changes) -> bool
     requires { ⌜ (before .rises ≤ 1099511627776) × (before .falls ≤ 1099511627776) × (after .rises ≤ 1099511627776) × (after .falls ≤ 1099511627776) ⌝ }
-    ensures { λ r. ⌜ r ≡ (leb (view job (now (s .entry)) .levelLeast l + after .falls) (view job (now (s .entry)) .levelInitial l + before .rises) && leb (view job (now (s .entry)) .levelInitial l + after .rises) (view job (now (s .entry)) .levelMost l + before .falls)) ⌝ }
+    ensures { λ r. ⌜ r ≡ inBounds (view job (now (s .entry))) l before after ⌝ }
 {
     let initial = level_initial(s, job, l);
     let above = level_least(s, job, l) + after.falls <= initial + before.rises;

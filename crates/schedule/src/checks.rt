@@ -1,17 +1,13 @@
 // The rules of a sound timing, one test each, and the search for the lowest that breaks one.
 ghost use mathlib.Core.Path.{_≡_};
-ghost use Prim.Native.Nat.{_+_, _-_, _<_};
-ghost use lib.ListN.{getD};
+ghost use Prim.Native.Nat.{_<_};
 ghost use Rattle.laws.specs.Search.{any, lowest};
 ghost use Rattle.job.specs.Model.{view};
-ghost use Rattle.points.specs.Keys.{factKey};
-ghost use Rattle.timeline.specs.Sorted.{Parts};
-ghost use Rattle.validity.specs.Ticks.{scheduleOf, firstTick};
+ghost use Rattle.validity.specs.Ticks.{scheduleOf};
 ghost use Rattle.validity.specs.Checks as spec;
 ghost use Rattle.validity.specs.Checks.{conditionFails, levelFails, goalFails};
-ghost use Rattle.validity.specs.Seen.{afterAll};
 ghost use Rattle.points.specs.Known.{EffectsKnown, UsesKnown};
-ghost use Rattle.schedule.specs.Known.{Known};
+ghost use Rattle.schedule.specs.Known.{Known, Opposed, GoalKnown};
 use crate::bounds::Changes;
 use crate::bounds::changes_at;
 use crate::bounds::in_bounds;
@@ -107,7 +103,7 @@ fn any_breaks(
     key: usize,
     from: usize,
 ) -> bool
-    requires { ⌜ EffectsKnown (view job (now s)) (scheduleOf (now starts)) (now ticks) (now sorted) × (c < job .count .conditions) × (key ≡ factKey (view job (now s) .conditionFact c) (1 - view job (now s) .conditionValue c)) × Parts (now ticks) (now sorted) (getD (now sorted) key 0) (getD (now sorted) (key + 1) 0) (firstTick (view job (now s)) (scheduleOf (now starts)) c) from ⌝ }
+    requires { ⌜ Opposed (view job (now s)) (scheduleOf (now starts)) (now ticks) (now sorted) c key from ⌝ }
     ensures { λ r. ⌜ r ≡ any (job .count .effects) (spec.breaks (view job (now (s .entry))) (scheduleOf (now (starts .entry))) c) ⌝ }
 {
     let last = last_tick(s, job, starts, c);
@@ -202,7 +198,7 @@ fn goal_fails(
     end: usize,
     g: u16,
 ) -> bool
-    requires { ⌜ EffectsKnown (view job (now s)) (scheduleOf (now starts)) (now ticks) (now sorted) × (end ≡ afterAll (view job (now s)) (scheduleOf (now starts))) × (g < job .count .goals) ⌝ }
+    requires { ⌜ GoalKnown (view job (now s)) (scheduleOf (now starts)) (now ticks) (now sorted) end g ⌝ }
     ensures { λ r. ⌜ r ≡ goalFails (view job (now (s .entry))) (scheduleOf (now (starts .entry))) g ⌝ }
 {
     let fact = goal_fact(s, job, g);

@@ -6,7 +6,6 @@ ghost use Rattle.form.specs.Refusals.{formCheck};
 ghost use Rattle.verdict.specs.Verdict.{_then_, number as numberOf};
 ghost use Rattle.job.specs.WellFormed.{WellFormed};
 ghost use Rattle.validity.specs.Ticks.{scheduleOf, plannedStarts};
-ghost use Rattle.validity.specs.declared.Rule.the-variants.{FixedSteps};
 ghost use Rattle.validity.specs.Checks.{countUnder, refusalOf, ruleCheck, timingCheck, startsCheck};
 ghost use Rattle.points.specs.Known.{EffectsKnown, UsesKnown};
 ghost use Rattle.schedule.specs.Known.{Known};
@@ -107,39 +106,6 @@ fn check_timing(
     rule_after(v, s, job, starts, ticks, facts, uses, levels, end, rule)
 }
 
-// A verdict so far, and where it accepts, refusals 9 to 14.
-fn rules_after(
-    before: Verdict,
-    s: &[u8],
-    job: Job,
-    starts: &[u32],
-    ticks: &[usize],
-    facts: &[u16],
-    uses: &[usize],
-    levels: &[u16],
-    end: usize,
-) -> Verdict
-    requires { ⌜ Known (view job (now s)) (scheduleOf (now starts)) (now ticks) (now facts) (now uses) (now levels) end ⌝ }
-    ensures { λ r. ⌜ r ≡ (before then ruleCheck (view job (now (s .entry))) (scheduleOf (now (starts .entry))) FixedSteps then timingCheck (view job (now (s .entry))) (scheduleOf (now (starts .entry)))) ⌝ }
-{
-    let v = rule_after(
-        before,
-        s,
-        job,
-        starts,
-        ticks,
-        facts,
-        uses,
-        levels,
-        end,
-        Rule::FixedSteps,
-    );
-    if number(v) != 0 {
-        return v;
-    }
-    check_timing(s, job, starts, ticks, facts, uses, levels, end)
-}
-
 // Refusals 8 to 14, of points that are listed in the order of their ticks.
 fn check_listed(
     s: &[u8],
@@ -156,7 +122,12 @@ fn check_listed(
     let other = starts.len() != job.count.steps as usize;
     let v = refuse_if(Verdict::Accepted, other, Verdict::StartsMiscounted);
     let end = values::after_all(s, job, starts, ticks);
-    rules_after(v, s, job, starts, ticks, facts, uses, levels, end)
+    let rule = Rule::FixedSteps;
+    let v = rule_after(v, s, job, starts, ticks, facts, uses, levels, end, rule);
+    if number(v) != 0 {
+        return v;
+    }
+    check_timing(s, job, starts, ticks, facts, uses, levels, end)
 }
 
 // Refusals 8 to 14.

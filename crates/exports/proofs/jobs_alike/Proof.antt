@@ -3,8 +3,8 @@ use mathlib.Core.Bool.{Bool, true, false, cond}
 use mir.Val.{boolByte}
 use borrow.Author.Needs.{needs}
 use denote.Ref.{now}
-use Rattle.order_reader.specs.Answers.{AlikePromise, alikeYes, alikeNumber, alikePlace}
-use Rattle.exports.specs.Packed.{packed}
+use Rattle.order_reader.specs.Answers.{AlikePromise}
+use Rattle.exports.specs.Packed.{packedAlike}
 use Rattle.exports.proofs.Carried.{carried, repacked}
 use Rattle.exports.proofs.jobs_alike.Statement.{statement}
 use Rattle.exports.proofs.jobs_alike.Tie as tie
@@ -19,7 +19,7 @@ returns c =
     let b = d .before .before .before .args in
     let p = d .alike .ensures in
     let y = c .before .before .before .alike-yes in
-    carried (AlikePromise (now (b .a)) (now (b .b))) (λ x. packed (cond (alikeYes x) 1 0) (alikeNumber x) (alikePlace x)) (p .answer) p
+    carried (AlikePromise (now (b .a)) (now (b .b))) packedAlike (p .answer) p
     (repacked (c .packed .ensures) (as-number (y .result) ∙ ap (λ (t : Bool). cond t 1 0) (y .ensures)) (c .before .before .alike-number .ensures) (c .before .alike-place .ensures))
 
 pub jobs-alike-spec : {M : Type 1} → statement M

@@ -1,9 +1,8 @@
 use mathlib.Core.Path.{refl}
 use borrow.Author.Needs.{needs}
 use denote.Ref.{now}
-use Rattle.verdict.specs.Verdict.{number, place}
 use Rattle.validity.specs.Promise.{JobPromise}
-use Rattle.exports.specs.Packed.{packed}
+use Rattle.exports.specs.Packed.{packedVerdict}
 use Rattle.exports.proofs.Carried.{carried, repacked}
 use Rattle.exports.proofs.jobs_check.Statement.{statement}
 use Rattle.exports.proofs.jobs_check.Tie as tie
@@ -12,7 +11,7 @@ returns : tie.Need-returns
 returns c =
     let d = c .before .before .before in
     let p = d .check-job .ensures in
-    carried (JobPromise (now (d .before .before .args .job))) (λ a. packed 0 (number a) (place a)) (p .answer) p
+    carried (JobPromise (now (d .before .before .args .job))) packedVerdict (p .answer) p
     (repacked {a = 0} (c .packed .ensures) refl (c .before .before .number .ensures) (c .before .place .ensures))
 
 pub jobs-check-spec : {M : Type 1} → statement M

@@ -1,9 +1,8 @@
 use mathlib.Core.Path.{refl}
 use borrow.Author.Needs.{needs}
 use denote.Ref.{now}
-use Rattle.verdict.specs.Verdict.{number, place}
 use Rattle.validity.specs.Promise.{SchedulePromise}
-use Rattle.exports.specs.Packed.{packed}
+use Rattle.exports.specs.Packed.{packedVerdict}
 use Rattle.exports.proofs.Carried.{carried, repacked}
 use Rattle.exports.proofs.jobs_check_schedule.Statement.{statement}
 use Rattle.exports.proofs.jobs_check_schedule.Tie as tie
@@ -13,7 +12,7 @@ returns c =
     let d = c .before .before .before in
     let b = d .before .before .before .args in
     let p = d .check-schedule .ensures in
-    carried (SchedulePromise (now (b .job)) (now (b .starts))) (λ a. packed 0 (number a) (place a)) (p .answer) p
+    carried (SchedulePromise (now (b .job)) (now (b .starts))) packedVerdict (p .answer) p
     (repacked {a = 0} (c .packed .ensures) refl (c .before .before .number .ensures) (c .before .place .ensures))
 
 pub jobs-check-schedule-spec : {M : Type 1} → statement M

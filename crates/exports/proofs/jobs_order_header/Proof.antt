@@ -1,8 +1,8 @@
 use mathlib.Core.Path.{refl, ap, _∙_}
 use borrow.Author.Needs.{needs}
 use denote.Ref.{now}
-use Rattle.order_reader.specs.Answers.{HeaderPromise, headerNumber, headerPlace}
-use Rattle.exports.specs.Packed.{packed}
+use Rattle.order_reader.specs.Answers.{HeaderPromise}
+use Rattle.exports.specs.Packed.{packedHeader}
 use Rattle.exports.specs.Listed.{filled, headerList}
 use Rattle.exports.proofs.Carried.{carried, repacked}
 use Rattle.exports.proofs.jobs_order_header.Statement.{statement}
@@ -14,7 +14,7 @@ returns c =
     let d = l .before .before in
     let b = d .before .before .before .args in
     let p = d .read-header .ensures in (
-      carried (HeaderPromise (now (b .file))) (λ a. packed 0 (headerNumber a) (headerPlace a)) (p .answer) p
+      carried (HeaderPromise (now (b .file))) packedHeader (p .answer) p
           (repacked {a = 0} (c .packed .ensures) refl (c .before .before .header-number .ensures) (c .before .header-place .ensures)),
       l .list-header .ensures ∙ ap (λ a. filled (now (b .list)) (headerList a)) (p .answer),
     )

@@ -1,8 +1,8 @@
 use mathlib.Core.Path.{refl, ap, _∙_}
 use borrow.Author.Needs.{needs}
 use denote.Ref.{now}
-use Rattle.order_reader.specs.Answers.{RecordPromise, recordNumber, recordPlace}
-use Rattle.exports.specs.Packed.{packed}
+use Rattle.order_reader.specs.Answers.{RecordPromise}
+use Rattle.exports.specs.Packed.{packedRecord}
 use Rattle.exports.specs.Listed.{filled, recordList}
 use Rattle.exports.proofs.Carried.{carried, repacked}
 use Rattle.exports.proofs.jobs_order_record.Statement.{statement}
@@ -14,7 +14,7 @@ returns c =
     let d = l .before .before in
     let b = d .before .before .before .args in
     let p = d .read-record .ensures in (
-      carried (RecordPromise (now (b .file)) (b .table) (b .number)) (λ a. packed 0 (recordNumber a) (recordPlace a)) (p .answer) p
+      carried (RecordPromise (now (b .file)) (b .table) (b .number)) packedRecord (p .answer) p
           (repacked {a = 0} (c .packed .ensures) refl (c .before .before .record-number .ensures) (c .before .record-place .ensures)),
       l .list-record .ensures ∙ ap (λ a. filled (now (b .list)) (recordList a)) (p .answer),
     )

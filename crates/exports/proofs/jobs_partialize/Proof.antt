@@ -1,8 +1,7 @@
 use borrow.Author.Needs.{needs}
 use denote.Ref.{now}
-use Rattle.partialize.specs.Answer.{number, place, lengthOf}
 use Rattle.partialize.specs.Demands.{Promise}
-use Rattle.exports.specs.Packed.{packed}
+use Rattle.exports.specs.Packed.{packedAnswer}
 use Rattle.exports.proofs.Carried.{carried, repacked}
 use Rattle.exports.proofs.jobs_partialize.Statement.{statement}
 use Rattle.exports.proofs.jobs_partialize.Tie as tie
@@ -12,7 +11,7 @@ returns c =
     let d = c .before .before .before .before .before .before in
     let b = d .before .before .before .before .args in
     let p = d .partialize .ensures in (
-      carried (Promise (now (b .job)) (now (b .out)) (d .partialize .last .1 .0)) (λ a. packed (lengthOf a) (number a) (place a)) (p .answer) p
+      carried (Promise (now (b .job)) (now (b .out)) (d .partialize .last .1 .0)) packedAnswer (p .answer) p
           (repacked (c .packed .ensures) (c .before .before .before .length .ensures) (c .before .before .number .ensures) (c .before .place .ensures)),
       p .buffer,
     )

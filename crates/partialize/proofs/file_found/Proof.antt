@@ -47,7 +47,7 @@ module _ (c : tie.After-link-at) where
     fits =
         c .link-at .ensures .0
         ∙ ap (λ o. fileLength (model .steps) o (model .conditions + model .goals)) (c .before .count-orders .ensures .0)
-        ∙ found-length model x (c .before .before .before .before .before .before .before .before .before .before .before .before .pre .0) _ limits latest early gaps links held
+        ∙ found-length model x (c .before .before .before .before .before .before .before .before .before .before .before .before .pre .form) _ limits latest early gaps links held
 
 pub file-found-spec : {M : Type 1} → statement M
 file-found-spec =
@@ -60,21 +60,21 @@ file-found-spec =
     (λ c κs. search needs)
     (λ c κs. search needs)
     (λ c κs. search needs)
-    (λ c κs. let p = c .before .before .before .before .before .before .before .before .before .before .pre in (p .1 .size, p .0 .stepCount, p .3))
+    (λ c κs. let p = c .before .before .before .before .before .before .before .before .before .before .pre in (p .table .size, p .form .stepCount, p .rows))
     (λ c κs.
     let p = c .before .before .before .before .before .before .before .before .before .before .before .pre in
-    (omega (arith, p .0 .stepCount), omega (arith, c .count-orders .ensures .1), omega (arith, p .0 .conditionCount, p .0 .goalCount)))
+    (omega (arith, p .form .stepCount), omega (arith, c .count-orders .ensures .1), omega (arith, p .form .conditionCount, p .form .goalCount)))
     (λ c.
     λ x l t.
     let d = c .before in
-    written-short (model d) x (d .before .before .before .before .before .before .before .before .before .before .before .before .pre .0) _ (limits d) (latest d) (early d) (gaps d) (links d) (held d x l t) _ _ (fits d x l t) (c .if1 .taken))
+    written-short (model d) x (d .before .before .before .before .before .before .before .before .before .before .before .before .pre .form) _ (limits d) (latest d) (early d) (gaps d) (links d) (held d x l t) _ _ (fits d x l t) (c .if1 .taken))
     (λ c. search needs)
     (λ c. search needs)
     (λ c. search needs)
     (λ c κs.
     let d = c .before .before .before .before .before .before .before .before .before in
     let p = d .before .before .before .before .before .before .before .before .before .before .before .before .pre in
-    let w = p .0 in
+    let w = p .form in
     let o = d .before .count-orders .ensures in
     let e = d .before .before .earliest-starts .ensures .1 .size in
     let f = d .before .before .before .before .limits .ensures .1 .size in
@@ -85,9 +85,9 @@ file-found-spec =
       limitCount = omega (arith, f, w .stepCount);
       latestCount = omega (arith, d .before .before .before .latest-starts .ensures .1, w .stepCount);
       earliestCount = omega (arith, e, f, w .stepCount);
-      gapCount = p .1 .size;
-      gapRows = p .3;
-      linkedCount = omega (arith, p .2, w .conditionCount, w .goalCount);
+      gapCount = p .table .size;
+      gapRows = p .rows;
+      linkedCount = omega (arith, p .linkCount, w .conditionCount, w .goalCount);
       fileFits = omega (arith, d .link-at .ensures .0, c .before .before .before .before .before .before .before .before .if1 .left);
     })
     (λ c. omega (arith, c .before .before .before .before .before .before .before .before .before .before .before .before .link-at .ensures .1))
@@ -95,5 +95,5 @@ file-found-spec =
     (λ c.
     λ x l t.
     let d = c .before .before .before .before .before .before .before .before .before .before .before .before in
-    written-file (model d) x (d .before .before .before .before .before .before .before .before .before .before .before .before .pre .0) _ (limits d) (latest d) (early d) (gaps d) (links d) (held d x l t) _ _ _ (fits d x l t)
+    written-file (model d) x (d .before .before .before .before .before .before .before .before .before .before .before .before .pre .form) _ (limits d) (latest d) (early d) (gaps d) (links d) (held d x l t) _ _ _ (fits d x l t)
     (c .before .before .before .before .before .before .before .before .before .before .before .if1 .left) (c .before .before .write-file .ensures)))

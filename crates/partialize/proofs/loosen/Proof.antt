@@ -43,7 +43,7 @@ loosen-spec =
     (λ c κs.
     let p = c .before .before .before .before .before .before .before .before .before .before .before .before .before .before .before .before .before .before .before .before .before .before .before .before .before .before .before .before .before .pre in
     let sound = c .before .before .before .before .before .before .before .check-planned .ensures .sound (sym (c .before .before .before .before .before .before .number .ensures) ∙ c .before .before .before .before .before .if1 .left) in
-    (c .before .before .before .before .before .before .before .before .before .before .before .before .before .before .before .before .before .before .before .before .list-effects .ensures, c .before .before .before .before .before .before .before .before .before .before .before .before .before .list-uses .ensures, rw (p .written, p .header) (sound .valid)))
+    record { effects = c .before .before .before .before .before .before .before .before .before .before .before .before .before .before .before .before .before .before .before .before .list-effects .ensures; used = c .before .before .before .before .before .before .before .before .before .before .before .before .before .list-uses .ensures; valid = rw (p .written, p .header) (sound .valid) })
     (λ c. search needs)
     (λ c.
     let p = c .before .before .before .before .before .before .before .before .before .before .before .before .before .before .before .before .before .before .before .before .before .before .before .before .before .before .before .before .before .before .before .before .pre in
