@@ -1,22 +1,37 @@
 -- Laws of little-endian numbers: what lies past the end, and a u32 written as two u16.
 use Prim.Native.Nat.{ℕ, suc, _+_, _*_, _/_, _%_, _≤_, _<_}
-use mathlib.Core.Path.{_≡_, refl, sym, ap, _∙_}
-use mathlib.Core.Bool.{Bool, true}
+use mathlib.Core.Path.{_≡_, sym, ap, _∙_}
+use mathlib.Core.Bool.{Bool, true, false}
 use mathlib.Core.List.{List, [], _∷_}
 use native.Mathlib.Omega.{arith}
 use native.Mathlib.Numerals.{add-two}
-use borrow.Author.Tests.{leb-true}
+use borrow.Author.Tests.{leb-true, leb-false}
 use lib.Dec.{leb}
 use lib.ListN.{length, set, length-set, List·getD-eq-default}
-use lib.Seq.{sets, set-out}
-use Rattle.little_endian.specs.Bytes.{byteAt, u16At, u32At, u16Bytes, u32Bytes}
+use lib.Seq.{sets}
+use Rattle.little_endian.proofs.Sets.{sets-out}
+use Rattle.little_endian.specs.Bytes.{byteAt, u16At, u32At, biasedAt, u16Bytes, u32Bytes}
 
--- A test for room that passed shows that what begins with it, and what lies inside, is within the bytes.
+-- What a test for room says: that it passed, and that it failed.
+pub room : (end size : ℕ) {r : Bool} → r ≡ leb end size → r ≡ true → end ≤ size
+room end size e t = leb-true end size (sym e ∙ t)
+
+pub no-room : (end size : ℕ) {r : Bool} → r ≡ leb end size → r ≡ false → size < end
+no-room end size e f = leb-false end size (sym e ∙ f)
+
+-- Where it passed, what begins with the bytes tested, and what lies inside, is within the bytes.
 pub room-start : (at w k size : ℕ) {r : Bool} → r ≡ leb (at + w) size → r ≡ true → k ≤ w → at + k ≤ size
-room-start at w k size e t h = let g : at + w ≤ size = leb-true (at + w) size (sym e ∙ t) in omega arith
+room-start at w k size e t h = let g : at + w ≤ size = room (at + w) size e t in omega arith
 
 pub room-inside : (at w i k size : ℕ) {r : Bool} → r ≡ leb (at + w) size → r ≡ true → i + k ≤ w → at + i + k ≤ size
-room-inside at w i k size e t h = let g : at + w ≤ size = leb-true (at + w) size (sym e ∙ t) in omega arith
+room-inside at w i k size e t h = let g : at + w ≤ size = room (at + w) size e t in omega arith
+
+-- the bits of an i32 read without a sign
+pub biased :
+    (s : List ℕ) (at : ℕ) {n : ℕ} → n ≡ u32At s at
+    → ((n + 2147483648) % 4294967296 ≡ biasedAt s at) × ((n + 2147483648) % 4294967296 < 4294967296)
+unfolding biasedAt
+biased s at {n} e = (ap (λ k. (k + 2147483648) % 4294967296) e, omega arith)
 
 -- past the end every number reads as 0
 pub byte-out : (s : List ℕ) (at : ℕ) → length s ≤ at → byteAt s at ≡ 0
@@ -46,20 +61,20 @@ u32-low s at h =
     let b : u16At s (at + 2) ≡ 0 = u16-out s (at + 2) (omega arith) in
     omega arith
 
--- stores past the end change nothing
-pub sets-out : (l : List ℕ) (at : ℕ) (vs : List ℕ) → length l ≤ at → sets l at vs ≡ l
-sets-out l at [] h = refl
-sets-out l at (v ∷ vs) h =
-    let e : set l at v ≡ l = set-out l at v h in
-    ap (λ (k : List ℕ). sets k (suc at) vs) e ∙ sets-out l (suc at) vs (omega arith)
-
 -- of a u16 whose upper byte lies past the end only the lower is stored
 pub sets-cut : (l : List ℕ) (at n : ℕ) → length l < at + 2 → set l at (n % 256) ≡ sets l at (u16Bytes n)
 unfolding u16Bytes
 sets-cut l at n h =
-    sym (sets-out (set l at (n % 256)) (suc at) (n / 256 % 256 ∷ []) (let e : length (set l at (n % 256)) ≡ length l = length-set l at (n % 256) in omega arith))
+    let e : length (set l at (n % 256)) ≡ length l = length-set l at (n % 256) in
+    sym (sets-out (set l at (n % 256)) (suc at) (n / 256 % 256 ∷ []) (omega arith))
 
 -- a u32 is its lower and its upper half, each a u16
-pub u32-halves : (l : List ℕ) (at n : ℕ) → sets l at (u32Bytes n) ≡ sets (sets l at (u16Bytes n)) (at + 2) (u16Bytes (n / 65536))
+u32-halves : (l : List ℕ) (at n : ℕ) → sets l at (u32Bytes n) ≡ sets (sets l at (u16Bytes n)) (at + 2) (u16Bytes (n / 65536))
 unfolding u32Bytes u16Bytes
 u32-halves l at n = rw add-two
+
+pub put-halves :
+    (l : List ℕ) (at n : ℕ) {a b : List ℕ} → a ≡ sets l at (u16Bytes n) → b ≡ sets a (at + 2) (u16Bytes (n / 65536))
+    → b ≡ sets l at (u32Bytes n)
+put-halves l at n e f =
+    f ∙ ap (λ (k : List ℕ). sets k (at + 2) (u16Bytes (n / 65536))) e ∙ sym (u32-halves l at n)

@@ -1,2 +1,3 @@
 -- Their laws.
+pub mod Sets
 pub mod Bytes

@@ -2,39 +2,37 @@
 use Prim.Native.Nat.{ℕ, zero, suc, _+_, _*_, _≤_, _<_}
 use mathlib.Core.Path.{_≡_, refl, sym, ap, _∙_}
 use mathlib.Core.Bool.{Bool, true, false, cond, not}
-use mathlib.Core.List.{List, [], _∷_, _++_}
-use native.Mathlib.Nat.{add-zero}
+use mathlib.Core.List.{List, _++_}
 use native.Mathlib.Decide.{decLe}
 use native.Mathlib.Omega.{arith}
 use borrow.Author.Tests.{eq-eqb, ne-eqb}
-use lib.ListN.{length, set, getD, length-append}
+use lib.ListN.{length, getD, length-append}
 use lib.Seq.{sets}
 use Rattle.laws.specs.Listed.{concatenate}
 use Rattle.little_endian.specs.Bytes.{u16Bytes, u32Bytes}
 use Rattle.laws.specs.Nth.{count}
 use Rattle.laws.proofs.Listed.{concatenate-more}
 use Rattle.laws.proofs.Nth.{count-more, count-same, nth-is}
+use Rattle.little_endian.proofs.Sets.{sets-behind}
+use Rattle.order_file.specs.Encode.{headerWith, windowWith}
 use Rattle.order_file.specs.Layout.{edition, windowsAt, ordersAt, linksAt}
 use Rattle.order_file.proofs.Stands.{length-parts}
 use Rattle.order_file.specs.Table.{rowWidth, tableSize, startIn}
-use Rattle.order_file.specs.Held.{entered, headerIn, windowIn, entryBytes, orderIn, linkIn, NoneFrom}
+use Rattle.order_file.specs.Held.{entered, windowIn, entryBytes, orderIn, linkIn, NoneFrom}
 
--- the second part begins where the first ends
-pub put-behind : (l a b : List ℕ) (at next : ℕ) → at + length a ≡ next → sets l at (a ++ b) ≡ sets (sets l at a) next b
-put-behind l [] b at next e = ap (λ k. sets l k b) (sym (add-zero at) ∙ e)
-put-behind l (v ∷ a) b at next e = put-behind (set l at v) a b (suc at) next (omega arith)
-
+-- three parts, each where the one before it ends
 pub put-three :
     (l a b c : List ℕ) (at next last : ℕ) → at + length a ≡ next → next + length b ≡ last
     → sets (sets (sets l at a) next b) last c ≡ sets l at (a ++ b ++ c)
 put-three l a b c at next last e f =
     sym
-    (put-behind l (a ++ b) c at last (omega (arith, length-append a b))
-    ∙ ap (λ k. sets k last c) (put-behind l a b at next e))
+    (sets-behind l (a ++ b) c at last (omega (arith, length-append a b))
+    ∙ ap (λ k. sets k last c) (sets-behind l a b at next e))
 
 -- the numbers of the header, one behind the other
 pub put-header :
-    (l : List ℕ) {a b c d e f g h : List ℕ} (steps orders links rounds : ℕ) {second third : ℕ} → second ≡ ordersAt steps → third ≡ linksAt steps orders
+    (l : List ℕ) {a b c d e f g h : List ℕ} (steps orders links rounds : ℕ) {second third : ℕ}
+    → second ≡ ordersAt steps → third ≡ linksAt steps orders
     → a ≡ sets l 0 (u16Bytes edition)
     → b ≡ sets a 2 (u16Bytes steps)
     → c ≡ sets b 4 (u16Bytes orders)
@@ -43,8 +41,8 @@ pub put-header :
     → f ≡ sets e 12 (u32Bytes windowsAt)
     → g ≡ sets f 16 (u32Bytes second)
     → h ≡ sets g 20 (u32Bytes third)
-    → h ≡ sets l 0 (headerIn steps orders links rounds)
-unfolding headerIn u32Bytes u16Bytes
+    → h ≡ sets l 0 (headerWith steps orders links rounds)
+unfolding u32Bytes u16Bytes
 put-header l steps orders links rounds p q ea eb ec ed ee ef eg eh = rw (eh, eg, ef, ee, ed, ec, eb, ea, p, q)
 
 -- A loop that puts records has put the first i of them.
@@ -68,33 +66,38 @@ put-more f width each before from i at e q w =
     ∙ ap (λ l. sets l at (f i)) e
     ∙ sym
     (ap (sets before from) (concatenate-more f i)
-    ∙ put-behind before (concatenate i f) (f i) from at (ap (λ n. from + n) (length-parts f width each i) ∙ sym q))
+    ∙ sets-behind before (concatenate i f) (f i) from at (ap (λ n. from + n) (length-parts f width each i) ∙ sym q))
 
--- one more window
-module _ (limits latest earliest before : List ℕ) (from : ℕ) where
-  pub length-window : (k : ℕ) → length (windowIn limits latest earliest k) ≡ 12
-  unfolding windowIn u32Bytes u16Bytes
-  length-window k = refl
+-- how long the records of the lists are
+pub length-window : (limits latest earliest : List ℕ) (k : ℕ) → length (windowIn limits latest earliest k) ≡ 12
+unfolding windowIn u32Bytes u16Bytes
+length-window limits latest earliest k = refl
 
-  pub windows-more :
-      (i at : ℕ) {now next : List ℕ} → now ≡ sets before from (concatenate i (windowIn limits latest earliest)) → at ≡ from + 12 * i
-      → next ≡ sets now at (u32Bytes (startIn limits i) ++ u32Bytes (startIn latest i) ++ u32Bytes (startIn earliest i))
-      → next ≡ sets before from (concatenate (i + 1) (windowIn limits latest earliest))
-  unfolding windowIn
-  windows-more i at e q w = put-more (windowIn limits latest earliest) 12 length-window before from i at e q w
+pub length-order : (gaps : List ℕ) (o : ℕ) → length (orderIn gaps o) ≡ 8
+unfolding orderIn entryBytes u32Bytes u16Bytes
+length-order gaps o = refl
 
--- one more link
-module _ (linked before : List ℕ) (from : ℕ) where
-  pub length-link : (j : ℕ) → length (linkIn linked j) ≡ 2
-  unfolding linkIn u16Bytes
-  length-link j = refl
+length-link : (linked : List ℕ) (j : ℕ) → length (linkIn linked j) ≡ 2
+unfolding linkIn u16Bytes
+length-link linked j = refl
 
-  pub links-more :
-      (i at : ℕ) {now next : List ℕ} → now ≡ sets before from (concatenate i (linkIn linked)) → at ≡ from + 2 * i
-      → next ≡ sets now at (u16Bytes (getD linked i 0))
-      → next ≡ sets before from (concatenate (i + 1) (linkIn linked))
-  unfolding linkIn
-  links-more i at e q w = put-more (linkIn linked) 2 length-link before from i at e q w
+-- one more window, one more link
+pub windows-more :
+    (limits latest earliest before : List ℕ) (from i at : ℕ) {now next : List ℕ}
+    → now ≡ sets before from (concatenate i (windowIn limits latest earliest))
+    → at ≡ from + 12 * i
+    → next ≡ sets now at (windowWith (startIn limits i) (startIn latest i) (startIn earliest i))
+    → next ≡ sets before from (concatenate (i + 1) (windowIn limits latest earliest))
+unfolding windowIn
+windows-more limits latest earliest = put-more (windowIn limits latest earliest) 12 (length-window limits latest earliest)
+
+pub links-more :
+    (linked before : List ℕ) (from i at : ℕ) {now next : List ℕ} → now ≡ sets before from (concatenate i (linkIn linked))
+    → at ≡ from + 2 * i
+    → next ≡ sets now at (u16Bytes (getD linked i 0))
+    → next ≡ sets before from (concatenate (i + 1) (linkIn linked))
+unfolding linkIn
+links-more linked = put-more (linkIn linked) 2 (length-link linked)
 
 -- indexes that do not pass at the end of a count add nothing
 count-rest : (p : ℕ → Bool) (m n : ℕ) → m ≤ n → ((q : ℕ) → m ≤ q → p q ≡ false) → count m p ≡ count n p
@@ -109,7 +112,8 @@ count-rest p m (suc n) h e =
     ]
 
 -- all orders of a table without one from step n on are among its first rows
-pub entered-rest : (gaps : List ℕ) (n q : ℕ) → NoneFrom n gaps → rowWidth * n ≤ q → q ≤ tableSize → count q (entered gaps) ≡ count tableSize (entered gaps)
+pub entered-rest :
+    (gaps : List ℕ) (n q : ℕ) → NoneFrom n gaps → rowWidth * n ≤ q → q ≤ tableSize → count q (entered gaps) ≡ count tableSize (entered gaps)
 entered-rest gaps n q z h m = count-rest (entered gaps) q tableSize m (λ j l. ap not (eq-eqb _ _ (z j (omega arith))))
 
 -- A loop over the table of gaps has put the orders among the first q entries, and puts the next one at a place.
@@ -120,10 +124,6 @@ pub record OrdersPut (gaps before : List ℕ) (from q at : ℕ) (bytes : List �
   pub put : bytes ≡ sets before from (concatenate (count q (entered gaps)) (orderIn gaps))
 
 module _ (gaps before : List ℕ) (from : ℕ) where
-  pub length-order : (o : ℕ) → length (orderIn gaps o) ≡ 8
-  unfolding orderIn entryBytes u32Bytes u16Bytes
-  length-order o = refl
-
   pub orders-start : OrdersPut gaps before from 0 from before
   unfolding count
   orders-start =
@@ -146,7 +146,7 @@ module _ (gaps before : List ℕ) (from : ℕ) where
           fewer = omega (arith, w .fewer);
           place = omega (arith, w .place);
           put =
-              put-more (orderIn gaps) 8 length-order before from (count q (entered gaps)) at (w .put) (w .place)
+              put-more (orderIn gaps) 8 (length-order gaps) before from (count q (entered gaps)) at (w .put) (w .place)
               (e ∙ ap (sets bytes at) (sym (order-of q h t)))
               ∙ ap (λ o. sets before from (concatenate o (orderIn gaps))) m;
         }

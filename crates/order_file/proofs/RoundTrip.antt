@@ -25,13 +25,15 @@ u32-back n h = omega arith
 
 module _ (c : Contents) where
   -- what stands before the links, or before the orders, stands in the file
-  before-links : (part : List ℕ) (at : ℕ) → Stands (upToOrder c (c .orders)) at part → at + length part ≤ orderAt (c .steps) (c .orders) → Stands (encode c) at part
+  before-links :
+      (part : List ℕ) (at : ℕ) → Stands (upToOrder c (c .orders)) at part → at + length part ≤ orderAt (c .steps) (c .orders) → Stands (encode c) at part
   unfolding upToLink
   before-links part at p h =
       stands-longer (upToOrder c (c .orders)) (concatenate (c .links) (linkBytes c)) part at p
       (omega (arith, length-up-to-order c (c .orders)))
 
-  before-orders : (part : List ℕ) (at : ℕ) → Stands (upToWindow c (c .steps)) at part → at + length part ≤ windowAt (c .steps) → Stands (encode c) at part
+  before-orders :
+      (part : List ℕ) (at : ℕ) → Stands (upToWindow c (c .steps)) at part → at + length part ≤ windowAt (c .steps) → Stands (encode c) at part
   unfolding upToOrder
   before-orders part at p h =
       before-links part at

@@ -1,16 +1,16 @@
 -- The contents of an order file as lists hold them: starts by step, gaps by pair of steps, links by number.
-use Prim.Native.Nat.{ℕ, _+_, _*_, _/_, _%_, _≤_, _<_}
+use Prim.Native.Nat.{ℕ, _*_, _/_, _%_, _≤_}
 use mathlib.Core.Path.{_≡_}
 use mathlib.Core.Bool.{Bool, not}
 use mathlib.Core.List.{List, _++_}
 use lib.ListN.{length, drop, getD}
 use lib.Dec.{eqb}
-use Rattle.little_endian.specs.Bytes.{u16Bytes, u32Bytes}
+use Rattle.little_endian.specs.Bytes.{u16Bytes}
 use Rattle.laws.specs.Nth.{count, nth}
 use Rattle.order_file.specs.declared.write.Header.{Header}
 use Rattle.order_file.specs.Contents.{Contents, mostSteps, mostLinks}
-use Rattle.order_file.specs.Layout.{edition, windowsAt, ordersAt, linksAt, fileLength}
-use Rattle.order_file.specs.Encode.{gapBits}
+use Rattle.order_file.specs.Layout.{fileLength}
+use Rattle.order_file.specs.Encode.{windowWith, orderWith}
 use Rattle.order_file.specs.Table.{rowWidth, tableSize, noOrder, startIn}
 
 -- whether an entry of the table of gaps is an order
@@ -38,17 +38,12 @@ heldIn steps links rounds limits latest earliest gaps linked =
       link = λ j. getD linked j 0;
     }
 
--- the bytes of the header, of an order, and of a record of these lists
-unfoldable pub headerIn : ℕ → ℕ → ℕ → ℕ → List ℕ
-headerIn steps orders links rounds =
-    u16Bytes edition ++ u16Bytes steps ++ u16Bytes orders ++ u16Bytes links
-    ++ u32Bytes rounds ++ u32Bytes windowsAt ++ u32Bytes (ordersAt steps) ++ u32Bytes (linksAt steps orders)
-
+-- the bytes of a record of these lists
 unfoldable pub windowIn : List ℕ → List ℕ → List ℕ → ℕ → List ℕ
-windowIn limits latest earliest k = u32Bytes (startIn limits k) ++ u32Bytes (startIn latest k) ++ u32Bytes (startIn earliest k)
+windowIn limits latest earliest k = windowWith (startIn limits k) (startIn latest k) (startIn earliest k)
 
 unfoldable pub entryBytes : ℕ → ℕ → List ℕ
-entryBytes q gap = u16Bytes (q / rowWidth) ++ u16Bytes (q % rowWidth) ++ u32Bytes (gapBits gap)
+entryBytes q gap = orderWith (q / rowWidth) (q % rowWidth) gap
 
 unfoldable pub orderIn : List ℕ → ℕ → List ℕ
 orderIn gaps o = let q = nth tableSize (entered gaps) o in entryBytes q (getD gaps q 0)

@@ -1,17 +1,15 @@
 // Writing an order file into a caller's bytes: header, windows, orders, links.
 ghost use mathlib.Core.Path.{_≡_};
-ghost use mathlib.Core.List.{_++_};
 ghost use Prim.Native.Nat.{_≤_, _<_};
 ghost use lib.ListN.{length};
 ghost use lib.Seq.{sets};
-ghost use Rattle.little_endian.specs.Bytes.{u32Bytes};
 ghost use Rattle.laws.specs.Listed.{concatenate};
 ghost use Rattle.laws.specs.Nth.{count};
 ghost use Rattle.order_file.specs.Contents.{mostSteps, mostLinks};
 ghost use Rattle.order_file.specs.Layout.{windowsAt};
 ghost use Rattle.order_file.specs.Table.{tableSize};
-ghost use Rattle.order_file.specs.Encode.{encode};
-ghost use Rattle.order_file.specs.Held.{entered, heldIn, headerIn, windowIn, entryBytes, orderIn, linkIn, over, NoneFrom, Roomy};
+ghost use Rattle.order_file.specs.Encode.{headerWith, windowWith, encode};
+ghost use Rattle.order_file.specs.Held.{entered, heldIn, windowIn, entryBytes, orderIn, linkIn, over, NoneFrom, Roomy};
 use crate::layout;
 use crate::layout::LINK;
 use crate::layout::ORDER;
@@ -55,7 +53,7 @@ pub fn count_orders(gaps: &[u32], steps: usize) -> usize
 // Puts the counts, the rounds and the tables' offsets.
 fn write_header(header: Header, out: &mut [u8])
     requires { ⌜ (header .steps ≤ mostSteps) × (header .orders ≤ tableSize) ⌝ }
-    ensures { λ _. ⌜ now (out .exit) ≡ sets (now (out .entry)) 0 (headerIn (header .steps) (header .orders) (header .links) (header .rounds)) ⌝ }
+    ensures { λ _. ⌜ now (out .exit) ≡ sets (now (out .entry)) 0 (headerWith (header .steps) (header .orders) (header .links) (header .rounds)) ⌝ }
 {
     let steps = header.steps;
     let orders = header.orders;
@@ -72,7 +70,7 @@ fn write_header(header: Header, out: &mut [u8])
 // Puts three numbers, one behind the other.
 fn write_window(at: usize, limit: usize, latest: usize, earliest: usize, out: &mut [u8])
     requires { ⌜ at < 1000000 ⌝ }
-    ensures { λ _. ⌜ now (out .exit) ≡ sets (now (out .entry)) at (u32Bytes limit ++ u32Bytes latest ++ u32Bytes earliest) ⌝ }
+    ensures { λ _. ⌜ now (out .exit) ≡ sets (now (out .entry)) at (windowWith limit latest earliest) ⌝ }
 {
     put_u32(at, limit, out);
     put_u32(at + 4, latest, out);

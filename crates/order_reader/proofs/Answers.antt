@@ -1,18 +1,20 @@
--- The answers: what follows from which answer it is, and what the reader answers about an encoded file.
+-- The answers: what follows from which answer it is.
 use Prim.Native.Nat.{ℕ}
-use mathlib.Core.Path.{_≡_, refl, ap, _∙_}
-use mathlib.Core.Bool.{Bool, true, false, cond, _&&_}
+use mathlib.Core.Path.{_≡_, refl, sym, ap, _∙_}
+use mathlib.Core.Bool.{Bool, true, false, cond, not, _&&_}
 use mathlib.Core.List.{List}
 use mathlib.Core.Logic.{⊎-elim}
+use borrow.Author.Tests.{not-true, not-false}
 use lib.Dec.{eqb}
 use Rattle.verdict.specs.Verdict.{nowhere}
 use Rattle.laws.proofs.Search.{either}
-use Rattle.order_file.specs.Contents.{Contents}
+use Rattle.order_file.specs.Contents.{Contents, signedGap}
 use Rattle.order_file.specs.Layout.{contentsOf}
 use Rattle.order_reader.specs.WellFormed.{wellFormed}
 use Rattle.order_reader.specs.Alike.{alikeContents}
-use Rattle.order_file.specs.Contents.{signedGap}
-use Rattle.order_reader.specs.Answers.{broken, headerOf, headerRead, headerNumber, headerPlace, headerValues, recordOf, recordThere, recordRead, recordNumber, recordPlace, recordValues, alikeAnswer, alikeNumber, alikePlace, alikeYes, HeaderPromise, RecordPromise, AlikePromise}
+use Rattle.order_reader.specs.Answers.{broken, headerOf, headerRead, headerNumber, headerPlace, headerValues, HeaderPromise}
+use Rattle.order_reader.specs.Answers.{recordOf, recordThere, recordRead, recordNumber, recordPlace, recordValues, RecordPromise}
+use Rattle.order_reader.specs.Answers.{alikeAnswer, alikeNumber, alikePlace, alikeYes, AlikePromise}
 use Rattle.order_reader.specs.declared.HeaderRead.{HeaderRead}
 use Rattle.order_reader.specs.declared.RecordRead.{RecordRead}
 use Rattle.order_reader.specs.declared.RecordRead.the-variants.{Window, Order, Link, Broken}
@@ -78,3 +80,21 @@ alike-promise a b r e =
     let same = alikeContents (contentsOf a) (contentsOf b) in
     let s = alike-cases (wellFormed a) (wellFormed b) same in
     record { answer = e; number = ap alikeNumber e ∙ s .0; place = ap alikePlace e ∙ s .1; yes = ap alikeYes e ∙ s .2 }
+
+-- what the code's tests of the two files say
+module _ (a b : List ℕ) where
+  pub first-broken : {x : Bool} → x ≡ wellFormed a → not x ≡ true → AlikePromise a b FirstBroken
+  unfolding alikeAnswer
+  first-broken e t = alike-promise a b FirstBroken (simp (sym e ∙ not-true _ t))
+
+  module _ {x y : Bool} (e : x ≡ wellFormed a) (h : not x ≡ false) (f : y ≡ wellFormed b) where
+    pub second-broken : not y ≡ true → AlikePromise a b SecondBroken
+    unfolding alikeAnswer
+    second-broken t = alike-promise a b SecondBroken (simp (sym e ∙ not-false _ h, sym f ∙ not-true _ t))
+
+    pub both-compared :
+        not y ≡ false → {s : Bool} → s ≡ alikeContents (contentsOf a) (contentsOf b) → (z : Bool) → s ≡ z
+        → AlikePromise a b (cond z Alike Different)
+    unfolding alikeAnswer
+    both-compared g q z t =
+        alike-promise a b (cond z Alike Different) (simp (sym e ∙ not-false _ h, sym f ∙ not-false _ g, sym q ∙ t))

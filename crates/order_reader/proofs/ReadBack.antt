@@ -5,16 +5,16 @@ use mathlib.Core.Bool.{true, and-false}
 use mathlib.Core.List.{List}
 use native.Mathlib.Omega.{arith}
 use borrow.Author.Tests.{lt-ltb, le-ltb}
-use Rattle.order_file.specs.Contents.{Contents}
-use Rattle.order_file.specs.Layout.{windowsAt, ordersAt, linksAt, contentsOf}
+use Rattle.order_file.specs.Contents.{Contents, signedGap}
+use Rattle.order_file.specs.Layout.{edition, windowsAt, ordersAt, linksAt, contentsOf}
 use Rattle.order_file.specs.Encode.{encode}
 use Rattle.order_reader.specs.WellFormed.{wellFormed}
 use Rattle.order_file.specs.Within.{Within}
-use Rattle.order_file.specs.Contents.{signedGap}
 use Rattle.order_reader.specs.Answers.{headerOf, headerRead, recordCount, recordOf, recordThere, recordRead}
 use Rattle.order_reader.specs.declared.HeaderRead.the-variants.{Header}
 use Rattle.order_reader.specs.declared.RecordRead.the-variants.{Window, Order, Link, Broken}
-use Rattle.order_file.proofs.RoundTrip.{round-trip, edition-back, steps-back, orders-back, links-back, rounds-back, windows-at-back, orders-at-back, links-at-back}
+use Rattle.order_file.proofs.RoundTrip.{round-trip, edition-back, steps-back, orders-back, links-back, rounds-back}
+use Rattle.order_file.proofs.RoundTrip.{windows-at-back, orders-at-back, links-at-back}
 use Rattle.order_reader.proofs.WellFormed.{encode-well-formed}
 
 -- a record of a number not counted is not there
@@ -23,12 +23,16 @@ unfolding recordRead recordThere
 record-missing b table k h = simp (le-ltb k (recordCount (contentsOf b) table) h, and-false)
 
 -- one of a number counted, in a well formed file, is
-record-found : (b : List ℕ) (table k : ℕ) → wellFormed b ≡ true → k < recordCount (contentsOf b) table → recordRead b table k ≡ recordOf (contentsOf b) table k
+record-found :
+    (b : List ℕ) (table k : ℕ) → wellFormed b ≡ true → k < recordCount (contentsOf b) table
+    → recordRead b table k ≡ recordOf (contentsOf b) table k
 unfolding recordRead recordThere
 record-found b table k e h = simp (e, lt-ltb k (recordCount (contentsOf b) table) h)
 
 module _ (c : Contents) (w : Within c) where
-  pub header-back : headerRead (encode c) ≡ Header 1 (c .steps) (c .orders) (c .links) (c .rounds) windowsAt (ordersAt (c .steps)) (linksAt (c .steps) (c .orders))
+  pub header-back :
+      headerRead (encode c)
+      ≡ Header edition (c .steps) (c .orders) (c .links) (c .rounds) windowsAt (ordersAt (c .steps)) (linksAt (c .steps) (c .orders))
   unfolding headerRead headerOf
   header-back =
       simp (encode-well-formed c w)

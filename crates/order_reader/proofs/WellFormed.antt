@@ -14,7 +14,8 @@ use Rattle.laws.proofs.Search.{all-intro, all-elim, and-l, and-r, or-out}
 use Rattle.order_file.specs.Contents.{Contents, mostSteps, mostOrders, mostLinks, leastGap, mostGap, lastEffect, initialState}
 use Rattle.order_file.specs.Layout.{edition, windowsAt, windowAt, ordersAt, linksAt, fileLength, contentsOf}
 use Rattle.order_file.specs.Encode.{encode}
-use Rattle.order_reader.specs.WellFormed.{layoutHolds, lengthHolds, countsHold, orderHolds, ascends, linkHolds, roundsHold, windowHolds, wellFormed}
+use Rattle.order_reader.specs.WellFormed.{layoutHolds, lengthHolds, countsHold, orderHolds, ascends}
+use Rattle.order_reader.specs.WellFormed.{linkHolds, roundsHold, windowHolds, wellFormed}
 use Rattle.order_file.specs.Within.{Before, Within}
 use Rattle.order_file.specs.Agree.{Agree}
 use Rattle.order_file.proofs.Encode.{length-encode}

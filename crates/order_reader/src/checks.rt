@@ -4,7 +4,8 @@ ghost use mathlib.Core.Path.{_≡_};
 ghost use Prim.Native.Nat.{_<_, _-_};
 ghost use Rattle.laws.specs.Search.{all};
 ghost use Rattle.order_file.specs.Layout.{contentsOf};
-ghost use Rattle.order_reader.specs.WellFormed.{layoutHolds, lengthHolds, countsHold, orderHolds, ascends, linkHolds, roundsHold, windowHolds, wellFormed};
+ghost use Rattle.order_reader.specs.WellFormed.{layoutHolds, lengthHolds, countsHold, orderHolds, ascends};
+ghost use Rattle.order_reader.specs.WellFormed.{linkHolds, roundsHold, windowHolds, wellFormed};
 
 // The edition, and the offsets of tables without gaps.
 fn layout_holds(file: &[u8]) -> bool

@@ -4,7 +4,8 @@ use crate::HeaderRead;
 use crate::RecordRead;
 use verdict::NOWHERE;
 ghost use mathlib.Core.Path.{_≡_};
-ghost use Rattle.order_reader.specs.Answers.{headerNumber, headerPlace, headerValues, recordNumber, recordPlace, alikeNumber, alikePlace, alikeYes};
+ghost use Rattle.order_reader.specs.Answers.{headerNumber, headerPlace, headerValues, recordNumber, recordPlace};
+ghost use Rattle.order_reader.specs.Answers.{alikeNumber, alikePlace, alikeYes};
 
 // The refusal of a file that is no order file.
 const BROKEN: u16 = 16;

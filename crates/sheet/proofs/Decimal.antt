@@ -19,7 +19,9 @@ digits-fuel (suc f) zero n h k = absurd (not-suc-le-zero k)
 digits-fuel (suc f) (suc g) n h k =
     elim (decLt n 10) [
       | yes l ↦ simp (lt-ltb n 10 l)
-      | no l ↦ simp (le-ltb n 10 (omega arith)) (ap (λ (s : List ℕ). s ++ ((48 + n % 10) ∷ [])) (digits-fuel f g (n / 10) (omega arith) (omega arith)))
+      | no l ↦
+          simp (le-ltb n 10 (omega arith))
+          (ap (λ (s : List ℕ). s ++ ((48 + n % 10) ∷ [])) (digits-fuel f g (n / 10) (omega arith) (omega arith)))
     ]
 
 -- a number of one digit
@@ -46,15 +48,19 @@ longer most w h n l =
 -- a u32 takes ten digits at most
 pub length-decimal : (n : ℕ) → n < 4294967296 → length (decimal n) ≤ 10
 length-decimal n h =
-    longer 1000000000 8 (longer 100000000 7 (longer 10000000 6 (longer 1000000 5 (longer 100000 4 (longer 10000 3 (longer 1000 2 (longer 100 1 (longer 10 0 (λ m l. rw (decimal-one m l) (omega arith))))))))))
-    n (omega arith)
+    let one : (m : ℕ) → m < 10 → length (decimal m) ≤ 0 + 1 = λ m l. rw (decimal-one m l) (omega arith) in
+    let four = longer 1000 2 (longer 100 1 (longer 10 0 one)) in
+    let seven = longer 1000000 5 (longer 100000 4 (longer 10000 3 four)) in
+    longer 1000000000 8 (longer 100000000 7 (longer 10000000 6 seven)) n (omega arith)
 
 -- a number put: its one digit, or what stands before the last digit and then that digit
 module _ {l m : List ℕ} {at r : ℕ} (n : ℕ) where
   pub put-one : n < 10 → Put l at ((48 + n) ∷ []) m r → Put l at (decimal n) m r × (r ≤ at + 10)
   put-one h p = (rw (decimal-one n h) p, omega (arith, p .ends))
 
-  pub put-more : {k : List ℕ} {i : ℕ} → 10 ≤ n → n < 4294967296 → Put l at (decimal (n / 10)) k i → Put k i ((48 + n % 10) ∷ []) m r → Put l at (decimal n) m r × (r ≤ at + 10)
+  pub put-more :
+      {k : List ℕ} {i : ℕ} → 10 ≤ n → n < 4294967296 → Put l at (decimal (n / 10)) k i → Put k i ((48 + n % 10) ∷ []) m r
+      → Put l at (decimal n) m r × (r ≤ at + 10)
   put-more h b p q =
       let w : Put l at (decimal n) m r = rw (decimal-more n h) (put-then p q) in
       (w, omega (arith, w .ends, length-decimal n b))

@@ -8,7 +8,7 @@ use lib.ListN.{length, length-append}
 use Rattle.laws.specs.Listed.{concatenate}
 use Rattle.order_file.specs.Contents.{Contents, mostSteps, mostOrders, noLatest, gapBias}
 use Rattle.order_file.specs.Within.{Within}
-use Rattle.sheet.specs.Text.{gapText, latestText, headLine, windowLine, orderLine, sheetText, sheetMost}
+use Rattle.sheet.specs.Text.{gapText, latestText, headLine, windowLine, orderLine, sheetText, headMost, windowMost, orderMost, sheetMost}
 use Rattle.sheet.proofs.Decimal.{length-decimal}
 use Rattle.sheet.proofs.Forms.{gap-below, gap-above, latest-none, latest-some}
 
@@ -35,13 +35,17 @@ length-gap gap h =
     ]
 
 module _ (c : Contents) (w : Within c) where
-  length-head : length (headLine c) ≤ 35
+  length-head : length (headLine c) ≤ headMost
   unfolding headLine
   length-head =
       simp length-append
-      (omega (arith, w .steps, w .rounds, length-decimal (c .steps) (omega (arith, w .steps)), length-decimal (c .rounds) (omega (arith, w .steps, w .rounds))))
+      (omega (
+        arith,
+        length-decimal (c .steps) (omega (arith, w .steps)),
+        length-decimal (c .rounds) (omega (arith, w .steps, w .rounds)),
+      ))
 
-  length-window : (k : ℕ) → k < c .steps → length (windowLine c k) ≤ 54
+  length-window : (k : ℕ) → k < c .steps → length (windowLine c k) ≤ windowMost
   unfolding windowLine
   length-window k h =
       let most = w .latestMost k h in
@@ -54,7 +58,7 @@ module _ (c : Contents) (w : Within c) where
         length-latest (c .latest k) most,
       ))
 
-  length-order : (k : ℕ) → k < c .orders → length (orderLine c k) ≤ 40
+  length-order : (k : ℕ) → k < c .orders → length (orderLine c k) ≤ orderMost
   unfolding orderLine
   length-order k h =
       simp length-append
@@ -65,7 +69,6 @@ module _ (c : Contents) (w : Within c) where
         length-gap (c .gap k) (omega (arith, w .gapMost k h)),
       ))
 
-  -- 64 steps and 4032 orders at most
   pub sheet-fits : length (sheetText c) ≤ sheetMost mostSteps mostOrders
   unfolding sheetText
   sheet-fits =
@@ -75,6 +78,6 @@ module _ (c : Contents) (w : Within c) where
         w .steps,
         w .orders,
         length-head,
-        length-parts (windowLine c) 54 (c .steps) length-window,
-        length-parts (orderLine c) 40 (c .orders) length-order,
+        length-parts (windowLine c) windowMost (c .steps) length-window,
+        length-parts (orderLine c) orderMost (c .orders) length-order,
       ))

@@ -102,6 +102,19 @@ sheetText c = headLine c ++ concatenate (c .steps) (windowLine c) ++ concatenate
 unfoldable pub refusedText : ℕ → ℕ → List ℕ
 refusedText number place = field refusedWord number ++ field placeWord place ++ newline
 
--- the most bytes of the text of a file with u32 numbers and as many steps and orders
+-- the most bytes of each line, where every number is a u32 or, in a refusal, a u16
+abbrev pub headMost : ℕ
+headMost = 35
+
+abbrev pub windowMost : ℕ
+windowMost = 54
+
+abbrev pub orderMost : ℕ
+orderMost = 40
+
+abbrev pub refusedMost : ℕ
+refusedMost = 36
+
+-- the most bytes of the text of a file with as many steps and orders
 abbrev pub sheetMost : ℕ → ℕ → ℕ
-sheetMost steps orders = 35 + 54 * steps + 40 * orders
+sheetMost steps orders = headMost + windowMost * steps + orderMost * orders

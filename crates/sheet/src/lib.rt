@@ -5,14 +5,15 @@ mod put;
 ghost use Prim.Native.Nat.{_+_, _*_, _≤_, _<_};
 ghost use Rattle.laws.specs.Listed.{concatenate};
 ghost use Rattle.order_file.specs.Layout.{contentsOf};
-ghost use Rattle.sheet.specs.Text.{windowLine, orderLine, sheetText, refusedText, sheetMost};
+ghost use Rattle.sheet.specs.Text.{windowLine, orderLine, sheetText, refusedText, windowMost, orderMost, refusedMost, sheetMost};
 ghost use Rattle.sheet.specs.Put.{Put, Written};
 use order_file::layout;
 
 // Puts the lines of all steps.
 fn put_windows(file: &[u8], steps: usize, at: usize, out: &mut [u8]) -> usize
     requires { ⌜ (at < 1000) × (steps < 65536) ⌝ }
-    ensures { λ r. ⌜ Put (now (out .entry)) at (concatenate steps (windowLine (contentsOf (now (file .entry))))) (now (out .exit)) r × (r ≤ at + 54 * steps) ⌝ }
+    ensures { λ r. ⌜ Put (now (out .entry)) at (concatenate steps (windowLine (contentsOf (now (file .entry))))) (now (out .exit)) r
+        × (r ≤ at + windowMost * steps) ⌝ }
 {
     let mut next = at;
     let mut k = 0;
@@ -26,7 +27,8 @@ fn put_windows(file: &[u8], steps: usize, at: usize, out: &mut [u8]) -> usize
 // Puts the lines of all orders.
 fn put_orders(file: &[u8], orders: usize, at: usize, out: &mut [u8]) -> usize
     requires { ⌜ (at < 10000000) × (orders < 65536) ⌝ }
-    ensures { λ r. ⌜ Put (now (out .entry)) at (concatenate orders (orderLine (contentsOf (now (file .entry))))) (now (out .exit)) r × (r ≤ at + 40 * orders) ⌝ }
+    ensures { λ r. ⌜ Put (now (out .entry)) at (concatenate orders (orderLine (contentsOf (now (file .entry))))) (now (out .exit)) r
+        × (r ≤ at + orderMost * orders) ⌝ }
 {
     let mut next = at;
     let mut k = 0;
@@ -52,7 +54,7 @@ pub fn write_sheet(file: &[u8], out: &mut [u8]) -> usize
 // Writes the line of a refusal to the front of `out`, and answers how long it is, whether or not there was room for it.
 pub fn write_refused(number: u16, place: u16, out: &mut [u8]) -> usize
     ensures { λ r. ⌜ Written (refusedText number place) (now (out .entry)) (now (out .exit)) r ⌝ }
-    ensures { λ r. ⌜ r ≤ 36 ⌝ }
+    ensures { λ r. ⌜ r ≤ refusedMost ⌝ }
 {
     let refused = put::put_field(b"refused ", number as usize, 0, out);
     let placed = put::put_field(b" place ", place as usize, refused, out);

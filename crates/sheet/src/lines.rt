@@ -1,7 +1,7 @@
 // The lines of the text, each put into a buffer from a position on.
 ghost use Prim.Native.Nat.{_+_, _≤_, _<_};
 ghost use Rattle.order_file.specs.Layout.{contentsOf};
-ghost use Rattle.sheet.specs.Text.{latestText, gapText, headLine, windowLine, orderLine};
+ghost use Rattle.sheet.specs.Text.{latestText, gapText, headLine, windowLine, orderLine, headMost, windowMost, orderMost};
 ghost use Rattle.sheet.specs.Put.{Put};
 use crate::put::put_decimal;
 use crate::put::put_field;
@@ -35,7 +35,7 @@ fn put_gap(gap: usize, at: usize, out: &mut [u8]) -> usize
 // Puts the first line.
 pub fn put_head(file: &[u8], at: usize, out: &mut [u8]) -> usize
     requires { ⌜ at < 100000000 ⌝ }
-    ensures { λ r. ⌜ Put (now (out .entry)) at (headLine (contentsOf (now (file .entry)))) (now (out .exit)) r × (r ≤ at + 35) ⌝ }
+    ensures { λ r. ⌜ Put (now (out .entry)) at (headLine (contentsOf (now (file .entry)))) (now (out .exit)) r × (r ≤ at + headMost) ⌝ }
 {
     let steps = put_field(b"steps ", layout::steps(file), at, out);
     let rounds = put_field(b" rounds ", layout::rounds(file), steps, out);
@@ -45,7 +45,7 @@ pub fn put_head(file: &[u8], at: usize, out: &mut [u8]) -> usize
 // Puts the line of a step.
 pub fn put_window(file: &[u8], k: usize, at: usize, out: &mut [u8]) -> usize
     requires { ⌜ (at < 100000000) × (k < 65536) ⌝ }
-    ensures { λ r. ⌜ Put (now (out .entry)) at (windowLine (contentsOf (now (file .entry))) k) (now (out .exit)) r × (r ≤ at + 54) ⌝ }
+    ensures { λ r. ⌜ Put (now (out .entry)) at (windowLine (contentsOf (now (file .entry))) k) (now (out .exit)) r × (r ≤ at + windowMost) ⌝ }
 {
     let step = put_field(b"step ", k, at, out);
     let earliest = put_field(b" earliest ", layout::earliest(file, k), step, out);
@@ -57,7 +57,7 @@ pub fn put_window(file: &[u8], k: usize, at: usize, out: &mut [u8]) -> usize
 // Puts the line of an order.
 pub fn put_order(file: &[u8], k: usize, at: usize, out: &mut [u8]) -> usize
     requires { ⌜ (at < 100000000) × (k < 65536) ⌝ }
-    ensures { λ r. ⌜ Put (now (out .entry)) at (orderLine (contentsOf (now (file .entry))) k) (now (out .exit)) r × (r ≤ at + 40) ⌝ }
+    ensures { λ r. ⌜ Put (now (out .entry)) at (orderLine (contentsOf (now (file .entry))) k) (now (out .exit)) r × (r ≤ at + orderMost) ⌝ }
 {
     let first = put_field(b"order ", layout::first(file, k), at, out);
     let second = put_field(b" ", layout::second(file, k), first, out);

@@ -1,43 +1,12 @@
-use native.Mathlib.Omega.{arith}
 use Rattle.little_endian.specs.Bytes.{u16At}
 use borrow.Author.Needs.{needs}
+use native.Mathlib.Omega.{arith}
 use Rattle.little_endian.proofs.u16_within.Statement.{statement}
 use Rattle.little_endian.proofs.u16_within.Tie as tie
 
-shared-slice-read-wide : tie.Need-shared-slice-read-wide
-shared-slice-read-wide c = search needs
-
-wide-requires : tie.Need-wide-requires
-wide-requires c κs = search needs
-
-add-wide : tie.Need-add-wide
-add-wide c = search needs
-
-shared-slice-read-wide-2 : tie.Need-shared-slice-read-wide-2
-shared-slice-read-wide-2 c = search needs
-
-wide-requires-2 : tie.Need-wide-requires-2
-wide-requires-2 c κs = search needs
-
-mul-result : tie.Need-mul-result
-mul-result c = search needs
-
-add-result : tie.Need-add-result
-add-result c = search needs
-
-returns : tie.Need-returns
-unfolding u16At
-returns c = (omega (arith, c .before .before .wide .ensures), omega (arith, c .before .before .wide .ensures))
-
 pub u16-within-spec : {M : Type 1} → statement M
+unfolding u16At
 u16-within-spec =
     tie.close
-    (tie.spec
-    shared-slice-read-wide
-    wide-requires
-    add-wide
-    shared-slice-read-wide-2
-    wide-requires-2
-    mul-result
-    add-result
-    returns)
+    (tie.spec (λ c. search needs) (λ c κs. search needs) (λ c. search needs) (λ c. search needs) (λ c κs. search needs) (λ c. search needs)
+    (λ c. search needs) (λ c. (omega (arith, c .before .before .wide .ensures), omega (arith, c .before .before .wide .ensures))))

@@ -1,56 +1,28 @@
-use mathlib.Core.Path.{sym, _∙_}
+use mathlib.Core.Bool.{true, false}
+use Rattle.order_reader.proofs.Answers.{first-broken, second-broken, both-compared}
 use borrow.Author.Needs.{needs}
-use borrow.Author.Tests.{not-true, not-false}
-use Rattle.order_reader.proofs.Answers.{alike-promise}
-use Rattle.order_reader.specs.Answers.{alikeAnswer}
 use Rattle.order_reader.proofs.alike.Statement.{statement}
 use Rattle.order_reader.proofs.alike.Tie as tie
-
-returns : tie.Need-returns
-unfolding alikeAnswer
-returns c = alike-promise _ _ _ (simp (sym (c .before .well-formed .ensures) ∙ not-true (c .before .well-formed .result) (c .if1 .taken)))
-
-returns-2 : tie.Need-returns-2
-unfolding alikeAnswer
-returns-2 c =
-    alike-promise _ _ _
-    (simp (
-      sym (c .before .before .before .well-formed .ensures) ∙ not-false (c .before .before .before .well-formed .result) (c .before .before .if1 .left),
-      sym (c .before .well-formed2 .ensures) ∙ not-true (c .before .well-formed2 .result) (c .if2 .taken),
-    ))
-
-returns-3 : tie.Need-returns-3
-unfolding alikeAnswer
-returns-3 c =
-    alike-promise _ _ _
-    (simp (
-      sym (c .before .before .before .before .before .well-formed .ensures)
-          ∙ not-false (c .before .before .before .before .before .well-formed .result) (c .before .before .before .before .if1 .left),
-      sym (c .before .before .before .well-formed2 .ensures)
-          ∙ not-false (c .before .before .before .well-formed2 .result) (c .before .before .if2 .left),
-      sym (c .before .same-contents .ensures) ∙ c .if3 .taken,
-    ))
-
-returns-4 : tie.Need-returns-4
-unfolding alikeAnswer
-returns-4 c =
-    alike-promise _ _ _
-    (simp (
-      sym (c .before .before .before .before .before .well-formed .ensures)
-          ∙ not-false (c .before .before .before .before .before .well-formed .result) (c .before .before .before .before .if1 .left),
-      sym (c .before .before .before .well-formed2 .ensures)
-          ∙ not-false (c .before .before .before .well-formed2 .result) (c .before .before .if2 .left),
-      sym (c .before .same-contents .ensures) ∙ c .if3 .left,
-    ))
 
 pub alike-spec : {M : Type 1} → statement M
 alike-spec =
     tie.close
-    (tie.spec
+    (tie.spec (λ c κs. search needs) (λ c. first-broken _ _ (c .before .well-formed .ensures) (c .if1 .taken)) (λ c κs. search needs)
+    (λ c.
+    let first = c .before .before in
+    second-broken _ _ (first .before .well-formed .ensures) (first .if1 .left) (c .before .well-formed2 .ensures) (c .if2 .taken))
     (λ c κs. search needs)
-    returns
-    (λ c κs. search needs)
-    returns-2
-    (λ c κs. search needs)
-    returns-3
-    returns-4)
+    (λ c.
+    let second = c .before .before in
+    let first = second .before .before in
+    both-compared _ _ (first .before .well-formed .ensures) (first .if1 .left) (second .before .well-formed2 .ensures) (second .if2 .left)
+    (c .before .same-contents .ensures)
+    true
+    (c .if3 .taken))
+    (λ c.
+    let second = c .before .before in
+    let first = second .before .before in
+    both-compared _ _ (first .before .well-formed .ensures) (first .if1 .left) (second .before .well-formed2 .ensures) (second .if2 .left)
+    (c .before .same-contents .ensures)
+    false
+    (c .if3 .left)))

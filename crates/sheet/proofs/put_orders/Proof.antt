@@ -1,10 +1,7 @@
--- The lines below k stand, each of at most 40 bytes.
-use Prim.Native.Nat.{_+_, _-_, _*_, _≤_}
-use Rattle.laws.specs.Listed.{concatenate}
+use Prim.Native.Nat.{_-_}
 use Rattle.order_file.specs.Layout.{contentsOf}
-use Rattle.sheet.specs.Text.{orderLine}
-use Rattle.sheet.specs.Put.{Put}
-use Rattle.sheet.proofs.Writing.{put-length, parts-start, parts-more, parts-end}
+use Rattle.sheet.specs.Text.{orderLine, orderMost}
+use Rattle.sheet.proofs.Writing.{LinesPut, lines-start, lines-more, lines-length, lines-end}
 use borrow.Author.Needs.{needs}
 use native.Mathlib.Omega.{arith}
 use Rattle.sheet.proofs.put_orders.Statement.{statement}
@@ -13,13 +10,8 @@ use Rattle.sheet.proofs.put_orders.Tie as tie
 pub put-orders-spec : {M : Type 1} → statement M
 put-orders-spec =
     tie.close
-    (tie.spec
-    (λ file orders at out₀ next₀ k₀ out next k. (k ≤ orders) × Put out₀ at (concatenate k (orderLine (contentsOf file))) out next × (next ≤ at + 40 * k))
-    (λ file orders at out₀ next₀ k₀ out next k. orders - k)
-    (λ c. (omega arith, parts-start _ _ _, omega arith))
-    (λ c κs. search needs)
+    (tie.spec (λ file orders at out₀ next₀ k₀ out next k. LinesPut (orderLine (contentsOf file)) orderMost orders out₀ at k out next)
+    (λ file orders at out₀ next₀ k₀ out next k. orders - k) (λ c. lines-start _ _ _ _ _) (λ c κs. search needs) (λ c. search needs)
     (λ c. search needs)
-    (λ c. search needs)
-    (λ c. (omega arith, parts-more _ _ (c .before .before .before .before .before .loop .inv .1) (c .before .before .put-order .ensures .0), omega arith))
-    (λ c. put-length (c .before .loop .inv .1))
-    (λ c. (parts-end _ _ _ (c .before .loop .inv .1) (omega arith) (omega arith), omega arith)))
+    (λ c. lines-more (c .before .before .before .before .before .loop .inv) (omega arith) (c .before .before .put-order .ensures .0) (omega arith))
+    (λ c. lines-length (c .before .loop .inv)) (λ c. lines-end (c .before .loop .inv) (omega arith)))

@@ -1,24 +1,10 @@
-use borrow.Author.Needs.{needs}
 use Rattle.order_file.specs.Layout.{contentsOf}
+use borrow.Author.Needs.{needs}
 use Rattle.order_file.proofs.layout.second.Statement.{statement}
 use Rattle.order_file.proofs.layout.second.Tie as tie
 
-steps-requires : tie.Need-steps-requires
-steps-requires c κs = search needs
-
-order-at-requires : tie.Need-order-at-requires
-order-at-requires c κs = search needs
-
-add-u16-at : tie.Need-add-u16-at
-add-u16-at c = search needs
-
-u16-at-requires : tie.Need-u16-at-requires
-u16-at-requires c κs = search needs
-
-returns : tie.Need-returns
-unfolding contentsOf
-returns c = (cc, c .u16-at .ensures .1)
-
 pub second-spec : {M : Type 1} → statement M
+unfolding contentsOf
 second-spec =
-    tie.close (tie.spec steps-requires order-at-requires add-u16-at u16-at-requires returns)
+    tie.close
+    (tie.spec (λ c κs. search needs) (λ c κs. search needs) (λ c. search needs) (λ c κs. search needs) (λ c. (cc, c .u16-at .ensures .1)))

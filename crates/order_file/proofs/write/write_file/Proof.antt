@@ -1,7 +1,6 @@
 -- The tables are put one behind the other.
 use native.Mathlib.Omega.{arith}
 use borrow.Author.Needs.{needs}
-use denote.Ref.{now}
 use Rattle.order_file.proofs.Whole.{orders-most, put-file}
 use Rattle.order_file.proofs.write.write_file.Statement.{statement}
 use Rattle.order_file.proofs.write.write_file.Tie as tie

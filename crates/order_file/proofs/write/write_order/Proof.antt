@@ -5,6 +5,7 @@ use native.Mathlib.Omega.{arith}
 use borrow.Author.Needs.{needs}
 use denote.Ref.{now}
 use Rattle.little_endian.specs.Bytes.{u16Bytes, u32Bytes}
+use Rattle.order_file.specs.Table.{rowWidth}
 use Rattle.order_file.specs.Encode.{gapBits}
 use Rattle.order_file.specs.Held.{entryBytes}
 use Rattle.order_file.proofs.Put.{put-three}
@@ -25,4 +26,8 @@ write-order-spec =
     (λ c. search needs)
     (λ c.
     let a = c .before .before .before .before .before .before .before .before .before .before .before .before .before .args in
-    cc (put-three (now (a .out)) (u16Bytes (a .q / 64)) (u16Bytes (a .q % 64)) (u32Bytes (gapBits (a .gap))) (a .at) (a .at + 2) (a .at + 4) refl (omega arith))))
+    cc
+    (put-three (now (a .out)) (u16Bytes (a .q / rowWidth)) (u16Bytes (a .q % rowWidth)) (u32Bytes (gapBits (a .gap))) (a .at) (a .at + 2)
+    (a .at + 4)
+    refl
+    (omega arith))))

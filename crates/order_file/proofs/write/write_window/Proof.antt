@@ -22,4 +22,7 @@ write-window-spec =
     (λ c. search needs)
     (λ c.
     let a = c .before .before .before .before .before .before .before .before .before .before .before .before .before .args in
-    cc (put-three (now (a .out)) (u32Bytes (a .limit)) (u32Bytes (a .latest)) (u32Bytes (a .earliest)) (a .at) (a .at + 4) (a .at + 8) refl (omega arith))))
+    cc
+    (put-three (now (a .out)) (u32Bytes (a .limit)) (u32Bytes (a .latest)) (u32Bytes (a .earliest)) (a .at) (a .at + 4) (a .at + 8)
+    refl
+    (omega arith))))

@@ -5,4 +5,7 @@ use Rattle.order_reader.proofs.checks.ascends_at.Tie as tie
 
 pub ascends-at-spec : {M : Type 1} → statement M
 unfolding ascends
-ascends-at-spec = tie.close (tie.spec (λ c κs. search needs) (λ c. search needs) (λ c κs. search needs) (λ c κs. search needs) (λ c. search needs) (λ c κs. search needs) (λ c. cc))
+ascends-at-spec =
+    tie.close
+    (tie.spec (λ c κs. search needs) (λ c. search needs) (λ c κs. search needs) (λ c κs. search needs) (λ c. search needs)
+    (λ c κs. search needs) (λ c. cc))

@@ -5,4 +5,6 @@ use Rattle.order_reader.proofs.checks.length_holds.Tie as tie
 
 pub length-holds-spec : {M : Type 1} → statement M
 unfolding lengthHolds
-length-holds-spec = tie.close (tie.spec (λ c κs. search needs) (λ c κs. search needs) (λ c κs. search needs) (λ c κs. search needs) (λ c. cc))
+length-holds-spec =
+    tie.close
+    (tie.spec (λ c κs. search needs) (λ c κs. search needs) (λ c κs. search needs) (λ c κs. search needs) (λ c. cc))

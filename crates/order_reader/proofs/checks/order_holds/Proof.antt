@@ -5,4 +5,6 @@ use Rattle.order_reader.proofs.checks.order_holds.Tie as tie
 
 pub order-holds-spec : {M : Type 1} → statement M
 unfolding orderHolds
-order-holds-spec = tie.close (tie.spec (λ c κs. search needs) (λ c κs. search needs) (λ c κs. search needs) (λ c κs. search needs) (λ c. cc))
+order-holds-spec =
+    tie.close
+    (tie.spec (λ c κs. search needs) (λ c κs. search needs) (λ c κs. search needs) (λ c κs. search needs) (λ c. cc))

@@ -5,4 +5,6 @@ use Rattle.order_reader.proofs.compare.same_counts.Tie as tie
 
 pub same-counts-spec : {M : Type 1} → statement M
 unfolding sameCounts
-same-counts-spec = tie.close (tie.spec (λ c κs. search needs) (λ c κs. search needs) (λ c κs. search needs) (λ c κs. search needs) (λ c. cc))
+same-counts-spec =
+    tie.close
+    (tie.spec (λ c κs. search needs) (λ c κs. search needs) (λ c κs. search needs) (λ c κs. search needs) (λ c. cc))

@@ -5,4 +5,7 @@ use Rattle.order_reader.proofs.compare.same_order.Tie as tie
 
 pub same-order-spec : {M : Type 1} → statement M
 unfolding sameOrder
-same-order-spec = tie.close (tie.spec (λ c κs. search needs) (λ c κs. search needs) (λ c κs. search needs) (λ c κs. search needs) (λ c κs. search needs) (λ c κs. search needs) (λ c. cc))
+same-order-spec =
+    tie.close
+    (tie.spec (λ c κs. search needs) (λ c κs. search needs) (λ c κs. search needs) (λ c κs. search needs) (λ c κs. search needs)
+    (λ c κs. search needs) (λ c. cc))

@@ -5,4 +5,6 @@ use Rattle.order_reader.proofs.compare.same_window.Tie as tie
 
 pub same-window-spec : {M : Type 1} → statement M
 unfolding sameWindow
-same-window-spec = tie.close (tie.spec (λ c κs. search needs) (λ c κs. search needs) (λ c κs. search needs) (λ c κs. search needs) (λ c. cc))
+same-window-spec =
+    tie.close
+    (tie.spec (λ c κs. search needs) (λ c κs. search needs) (λ c κs. search needs) (λ c κs. search needs) (λ c. cc))

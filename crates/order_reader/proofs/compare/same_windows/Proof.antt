@@ -1,27 +1,18 @@
-use Prim.Native.Nat.{_≤_, _-_}
-use mathlib.Core.Path.{_≡_}
-use mathlib.Core.Bool.{true}
-use borrow.Author.Needs.{needs}
-use borrow.Author.Tests.{not-true, not-false}
-use native.Mathlib.Omega.{arith}
-use Rattle.laws.specs.Search.{all}
-use Rattle.laws.proofs.Search.{all-start, all-more, all-found, all-end}
+use Prim.Native.Nat.{_-_}
 use Rattle.order_file.specs.Layout.{contentsOf}
 use Rattle.order_reader.specs.Alike.{sameWindow}
+use Rattle.order_reader.proofs.Passed.{Passed, passed-start, passed-more, passed-found, passed-end}
+use borrow.Author.Needs.{needs}
+use native.Mathlib.Omega.{arith}
 use Rattle.order_reader.proofs.compare.same_windows.Statement.{statement}
 use Rattle.order_reader.proofs.compare.same_windows.Tie as tie
 
 pub same-windows-spec : {M : Type 1} → statement M
 same-windows-spec =
     tie.close
-    (tie.spec
-    (λ a b steps k₀ k. (k ≤ steps) × (all k (sameWindow (contentsOf a) (contentsOf b)) ≡ true))
-    (λ a b steps k₀ k. steps - k)
-    (λ c κs. search needs)
-    (λ c. (omega arith, all-start _))
-    (λ c κs. search needs)
-    (λ c. all-found _ _ _ (omega arith) (c .before .same-window .ensures) (not-true _ (c .if1 .taken)))
-    (λ c. search needs)
-    (λ c. search needs)
-    (λ c. (omega arith, all-more _ _ (c .before .before .before .loop .inv .1) (c .before .same-window .ensures) (not-false _ (c .if1 .left))))
-    (λ c. all-end _ _ _ (c .before .loop .inv .1) (omega arith) (omega arith)))
+    (tie.spec (λ a b steps k₀ k. Passed steps (sameWindow (contentsOf a) (contentsOf b)) k) (λ a b steps k₀ k. steps - k)
+    (λ c κs. search needs) (λ c. passed-start _ _) (λ c κs. search needs)
+    (λ c. passed-found (c .before .before .before .loop .inv) _ (omega arith) (omega arith) (c .before .same-window .ensures) (c .if1 .taken))
+    (λ c. search needs) (λ c. search needs)
+    (λ c. passed-more (c .before .before .before .loop .inv) (omega arith) (c .before .same-window .ensures) (c .if1 .left))
+    (λ c. passed-end (c .before .loop .inv) _ (omega arith) (omega arith)))

@@ -33,4 +33,6 @@ pub +put-decimal-spec : {M : Type 1} → statement M
     (λ c. search needs)
     (λ c. put-one _ (omega arith) (c .before .before .put-digit .ensures))
     (λ c. search needs)
-    (λ c. put-more _ (omega arith) (omega arith) (c .before .before .before .before .before .before .put-decimal .ensures .0) (c .before .before .put-digit2 .ensures))
+    (λ c.
+    let last = c .before .before in
+    put-more _ (omega arith) (omega arith) (last .before .before .before .before .put-decimal .ensures .0) (last .put-digit2 .ensures))

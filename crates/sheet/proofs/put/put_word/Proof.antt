@@ -21,7 +21,9 @@ put-word-spec =
     (λ c κs. search needs)
     (λ c. search needs)
     (λ c. search needs)
-    (λ c. (omega arith, word-more _ _ _ _ (c .before .before .before .before .before .before .loop .inv .1) (omega arith) (c .before .before .put-byte .ensures)))
+    (λ c.
+    let put = c .before .before in
+    (omega arith, word-more _ _ _ _ (put .before .before .before .before .loop .inv .1) (omega arith) (put .put-byte .ensures)))
     (λ c. search needs)
     (λ c. put-length (c .before .loop .inv .1))
     (λ c. word-end _ _ _ (c .before .loop .inv .1) (omega arith)))
