@@ -6,7 +6,7 @@ use libc::STDOUT_FILENO;
 use partialize::answer;
 
 // The longest buffer.
-const MOST: u32 = 65536;
+const LONGEST_BUFFER: u32 = 65536;
 
 // What a buffer holds beforehand.
 const FILL: u8 = 165;
@@ -32,7 +32,7 @@ fn print_buffer(bytes: &[u8]) {
 }
 
 // Loosens a job into a whole buffer, and prints the line.
-fn loosen(file: &[u8], out: &mut [u8]) -> bool {
+fn print_loosened(file: &[u8], out: &mut [u8]) -> bool {
     let a = partialize::partialize(file, out);
     lines::begin(b"l", answer::number(a), answer::place(a));
     lines::print_number(answer::length(a) as u64);
@@ -48,12 +48,12 @@ pub fn serve_loosen(fd: i32) -> bool {
     if !(field.whole & room.whole) {
         return lines::bad_cases();
     }
-    if MOST < room.value {
+    if LONGEST_BUFFER < room.value {
         return lines::bad_cases();
     }
-    let mut out = [FILL; 65536];
+    let mut out = [FILL; LONGEST_BUFFER as usize];
     let n = field.len;
     let from = 0;
     let k = room.value as usize;
-    loosen(&file[..n], &mut out[from..k])
+    print_loosened(&file[..n], &mut out[from..k])
 }

@@ -6,7 +6,7 @@ use crate::fields::read_field;
 use crate::lines;
 
 // The most starts that a field holds.
-const MOST: usize = 16384;
+const MOST_STARTS: usize = 16384;
 
 // `c`: the job check.
 pub fn serve_job(fd: i32) -> bool {
@@ -26,7 +26,7 @@ fn decode(bytes: &[u8], n: usize) -> [u32; 16384]
     requires { ⌜ n ≤ 16384 ⌝ }
     ensures { λ r. ⌜ length r ≡ 16384 ⌝ }
 {
-    let mut starts = [0u32; MOST];
+    let mut starts = [0u32; MOST_STARTS];
     let mut i = 0;
     while i < n {
         starts[i] = little_endian::u32_at(bytes, 4 * i) as u32;
@@ -35,7 +35,7 @@ fn decode(bytes: &[u8], n: usize) -> [u32; 16384]
     starts
 }
 
-fn check_starts(file: &[u8], bytes: &[u8], n: usize) -> verdict::Verdict
+fn check_decoded(file: &[u8], bytes: &[u8], n: usize) -> verdict::Verdict
     requires { ⌜ n ≤ 16384 ⌝ }
 {
     let starts = decode(bytes, n);
@@ -53,11 +53,11 @@ pub fn serve_schedule(fd: i32) -> bool {
     if !(field.whole & starts.whole & (len % 4 == 0)) {
         return lines::bad_cases();
     }
-    if MOST < n {
+    if MOST_STARTS < n {
         return lines::bad_cases();
     }
     let m = field.len;
-    let v = check_starts(&file[..m], &list[..len], n);
+    let v = check_decoded(&file[..m], &list[..len], n);
     lines::begin(b"t", verdict::number(v), verdict::place(v));
     lines::end()
 }

@@ -265,7 +265,7 @@ fn broken(
 }
 
 // The lowest of the first n that breaks a rule, or n.
-pub fn first_broken(
+pub fn first_breaking(
     s: &[u8],
     job: Job,
     starts: &[u32],

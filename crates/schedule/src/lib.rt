@@ -71,7 +71,7 @@ fn rule_after(
         return before;
     }
     let n = count_under(s, job, rule);
-    let k = checks::first_broken(s, job, starts, ticks, facts, uses, levels, end, rule, n);
+    let k = checks::first_breaking(s, job, starts, ticks, facts, uses, levels, end, rule, n);
     if k < n {
         refusal_of(rule, k)
     } else {

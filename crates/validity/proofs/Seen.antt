@@ -207,26 +207,7 @@ module _ (m : Model) (x : ℕ → ℕ) (fact : ℕ) where
       (λ l. let e : seen m x fact t ≡ 0 = seen-later 0 t (omega arith) l in omega arith)
       (λ q. let e : seen m x fact t ≡ m .initial fact = seen-tied 1 t (omega arith) q in omega arith)
 
-  -- at two ticks with the same givers before them the same is seen
-  pub seen-same :
-      (t t' : ℕ) → ((v e : ℕ) → Giver m fact v e → effectTick m x e < t → effectTick m x e < t')
-      → ((v e : ℕ) → Giver m fact v e → effectTick m x e < t' → effectTick m x e < t)
-      → seen m x fact t ≡ seen m x fact t'
-  unfolding seen
-  seen-same t t' h k =
-      let e : (v : ℕ) → lastGiven m x fact v t ≡ lastGiven m x fact v t' =
-      λ v. omega (arith, lastGiven-grows v t t' (h v), lastGiven-grows v t' t (k v))
-      in
-      rw (e 0, e 1)
-
 -- every effect lies before the tick after all
 pub afterAll-ge : (m : Model) (x : ℕ → ℕ) (e : ℕ) → e < m .effects → effectTick m x e < afterAll m x
 unfolding afterAll
 afterAll-ge m x e h = largest-ge (λ e. suc (effectTick m x e)) (m .effects) e h
-
--- after every effect the end value is seen
-pub seen-after-all :
-    (m : Model) (x : ℕ → ℕ) (fact t : ℕ) → ((e : ℕ) → e < m .effects → effectTick m x e < t)
-    → seen m x fact t ≡ seen m x fact (afterAll m x)
-seen-after-all m x fact t h =
-    seen-same m x fact t (afterAll m x) (λ v e g _. afterAll-ge m x e (g .known)) (λ v e g _. h e (g .known))

@@ -8,11 +8,11 @@ use Rattle.job.specs.Model.{view}
 use Rattle.validity.specs.Ticks.{scheduleOf}
 use Rattle.validity.specs.Checks.{broken}
 use borrow.Author.Needs.{needs}
-use Rattle.schedule.proofs.checks.first_broken.Statement.{statement}
-use Rattle.schedule.proofs.checks.first_broken.Tie as tie
+use Rattle.schedule.proofs.checks.first_breaking.Statement.{statement}
+use Rattle.schedule.proofs.checks.first_breaking.Tie as tie
 
-pub first-broken-spec : {M : Type 1} → statement M
-first-broken-spec =
+pub first-breaking-spec : {M : Type 1} → statement M
+first-breaking-spec =
     tie.close
     (tie.spec
     (λ s job starts ticks facts uses levels end rule n k₀ k. (k ≤ n) × (lowest k (broken (view job s) (scheduleOf starts) rule) ≡ k))

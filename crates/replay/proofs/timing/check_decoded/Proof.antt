@@ -3,11 +3,11 @@ use mathlib.Core.Path.{sym}
 use lib.Seq.{length-take-le}
 use borrow.Author.Needs.{needs}
 use native.Mathlib.Omega.{arith}
-use Rattle.replay.proofs.timing.check_starts.Statement.{statement}
-use Rattle.replay.proofs.timing.check_starts.Tie as tie
+use Rattle.replay.proofs.timing.check_decoded.Statement.{statement}
+use Rattle.replay.proofs.timing.check_decoded.Tie as tie
 
-pub check-starts-spec : {M : Type 1} → statement M
-check-starts-spec =
+pub check-decoded-spec : {M : Type 1} → statement M
+check-decoded-spec =
     tie.close
     (tie.spec
     (λ c κs. search needs)
