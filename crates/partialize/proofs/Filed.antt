@@ -80,7 +80,9 @@ module _
           | no a ↦ rw (no-entry q l (λ b _. a b), le-ltb (q / 64) (m .steps) (omega arith))
         ]
       where
-        counted : Dec (q % 64 < m .steps) → q / 64 < m .steps → not (eqb (getD gaps q 0) 0) ≡ (ltb (q / 64) (m .steps) && ltb (q % 64) (m .steps) && not (eqb (gapOf m x (q / 64) (q % 64)) 0))
+        counted :
+            Dec (q % 64 < m .steps) → q / 64 < m .steps → not
+            (eqb (getD gaps q 0) 0) ≡ (ltb (q / 64) (m .steps) && ltb (q % 64) (m .steps) && not (eqb (gapOf m x (q / 64) (q % 64)) 0))
         counted (yes b) a = rw (entry q a b, lt-ltb _ _ a, lt-ltb _ _ b)
         counted (no b) a = rw (no-entry q l (λ _ c. b c), lt-ltb _ _ a, le-ltb (q % 64) (m .steps) (omega arith))
 

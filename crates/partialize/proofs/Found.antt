@@ -50,7 +50,9 @@ module _
           roundCount = counted ∙ rounds-same (m .steps) (gapIn gaps) (gapOf m x) gapBias (startIn limits) (limitOf m) (table .below) limit;
           limitAt = limit;
           latestAt = late;
-          earliestAt = λ k l. filled .below k l ∙ earliest-same (m .steps) (gapIn gaps) (gapOf m x) gapBias (startIn limits) (limitOf m) (table .below) limit k l;
+          earliestAt =
+              λ k l. filled .below k l ∙ earliest-same (m .steps) (gapIn gaps) (gapOf m x) gapBias (startIn limits) (limitOf m) (table .below) limit k
+              l;
           gapAt = table .below;
           emptyAt = λ i k _. table .rest i k;
           conditionAt = λ c l. links .each c (omega arith) ∙ condition-link c l;

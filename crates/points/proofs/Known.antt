@@ -17,7 +17,9 @@ use Rattle.points.specs.Keys.{factKey, levelKey, keyOf}
 use Rattle.validity.specs.Ticks.{gives, opposes}
 
 -- one more tick is listed
-pub timed-more : (P : ℕ → ℕ → Type 0) (k v : ℕ) (l : List ℕ) → k < length l → P k v → ((j : ℕ) → j < k → P j (getD l j 0)) → (j : ℕ) → j < k + 1 → P j (getD (set l k v) j 0)
+pub timed-more :
+    (P : ℕ → ℕ → Type 0) (k v : ℕ) (l : List ℕ) → k < length l → P k v → ((j : ℕ) → j < k → P j (getD l j 0)) → (j : ℕ) → j < k + 1 → P j
+    (getD (set l k v) j 0)
 timed-more P k v l h p below j g =
     ⊎-elim
     (λ (q : j ≡ k). subst (λ i. P i (getD (set l k v) i 0)) (sym q) (subst (P k) (sym (getD-set-same l k v 0 h)) p))

@@ -25,7 +25,9 @@ module _ (m : Model) (x : ℕ → ℕ) (fact value t e : ℕ) where
   unfolding givenAt
   not-given other = rw (passed-over (gives-key m e fact value) other)
 
-  pub given : {ticks index : List ℕ} → EffectsKnown m x ticks index → fact < 256 → value ≤ 1 → e < m .effects → keyOf m EffectsByFact e ≡ factKey fact value → {v : ℕ} → v ≡ cond (ltb (getD ticks e 0) t) (suc (getD ticks e 0)) 0 → v ≡ givenAt m x fact value t e
+  pub given :
+      {ticks index : List ℕ} → EffectsKnown m x ticks index → fact < 256 → value ≤ 1 → e < m .effects → keyOf m EffectsByFact e ≡ factKey fact value
+      → {v : ℕ} → v ≡ cond (ltb (getD ticks e 0) t) (suc (getD ticks e 0)) 0 → v ≡ givenAt m x fact value t e
   unfolding givenAt
   given known f b h q v =
       v ∙ rw (known .timed .at e h, key-gives m (known .form) e h fact value f b q)
@@ -37,8 +39,12 @@ module _ {m : Model} {x : ℕ → ℕ} {ticks sorted : List ℕ} (known : Effect
   key-listed fact value f b e = let few : m .facts ≤ 256 = known .form .factCount in omega (arith, e)
 
   pub key-searched : (v : ℕ) → v < 2 * m .facts → (length sorted ≡ 1025) × (v < 512) × Rising ticks sorted (getD sorted v 0) (getD sorted (v + 1) 0)
-  key-searched v h =
-      (known .ordered .size, omega (arith, known .form .factCount), key-rising (known .ordered) v h (known .form .effectCount) (record { size = known .timed .size; low = known .timed .low }))
+  key-searched v h = (
+    known .ordered .size,
+    omega (arith, known .form .factCount),
+    key-rising (known .ordered) v h (known .form .effectCount)
+        (record { size = known .timed .size; low = known .timed .low }),
+  )
 
   -- the record at a place of a key is an effect
   pub place-counted : (v : ℕ) → v < 2 * m .facts → (p : ℕ) → getD sorted v 0 ≤ p → p < getD sorted (v + 1) 0 → {k : ℕ} → k ≡ recordIn sorted p → k < m .effects
@@ -50,7 +56,8 @@ module _ {m : Model} {x : ℕ → ℕ} {ticks sorted : List ℕ} (known : Effect
       omega (arith, known .form .effectCount)
 
   -- the latest tick before t at which the fact is given the value
-  module _ (fact value : ℕ) (f : fact < m .facts) (b : value ≤ 1) (t : ℕ) {v r : ℕ} (key : v ≡ factKey fact value) (parts : Parts ticks sorted (getD sorted v 0) (getD sorted (v + 1) 0) t r) where
+  module _ (fact value : ℕ) (f : fact < m .facts) (b : value ≤ 1) (t : ℕ) {v r : ℕ} (key : v ≡ factKey fact value)
+      (parts : Parts ticks sorted (getD sorted v 0) (getD sorted (v + 1) 0) t r) where
     listed : v < 2 * m .facts
     listed = key-listed fact value f b key
 
@@ -93,12 +100,16 @@ pub opposing-key : {r a b v fact value : ℕ} → (r ≡ factKey a b) × (r < 51
 opposing-key key f b v = (key .0 ∙ ap₂ factKey f (b ∙ ap (λ (k : ℕ). 1 - k) v), key .1)
 
 -- whether a fact has a value, by the last ticks at which it was given that value and the other
-pub held : (m : Model) (x : ℕ → ℕ) (fact value t : ℕ) → value ≤ 1 → {given opposed : ℕ} {r : Bool} → given ≡ lastGiven m x fact value t → opposed ≡ lastGiven m x fact (1 - value) t → r ≡ cond (ltb opposed given) true (cond (ltb given opposed) false (eqb (m .initial fact) value)) → r ≡ eqb (seen m x fact t) value
+pub held :
+    (m : Model) (x : ℕ → ℕ) (fact value t : ℕ) → value ≤ 1 → {given opposed : ℕ} {r : Bool} → given ≡ lastGiven m x fact value t → opposed ≡ lastGiven
+    m x fact (1 - value) t → r ≡ cond (ltb opposed given) true (cond (ltb given opposed) false (eqb (m .initial fact) value)) → r ≡ eqb
+    (seen m x fact t) value
 held m x fact value t b {given} {opposed} g o e =
     elim (decLt opposed given) [
       | yes l ↦
           let s : seen m x fact t ≡ value = seen-later m x fact value t b (omega arith) in
-          e ∙ ap (λ c. cond c true (cond (ltb given opposed) false (eqb (m .initial fact) value))) (lt-ltb opposed given l) ∙ sym (eq-eqb (seen m x fact t) value s)
+          e ∙ ap (λ c. cond c true (cond (ltb given opposed) false (eqb (m .initial fact) value))) (lt-ltb opposed given l) ∙ sym
+          (eq-eqb (seen m x fact t) value s)
       | no l ↦
           e
           ∙ ap (λ c. cond c true (cond (ltb given opposed) false (eqb (m .initial fact) value))) (le-ltb opposed given (omega arith))

@@ -25,7 +25,9 @@ use Rattle.points.proofs.Searches.{key-listed}
 
 -- A search along the index for an effect that opposes something: those with the key of its fact and the other value are enough.
 module _ (m : Model) (x : ℕ → ℕ) (form : WellFormed m) where
-  pub meets-key : (e : ℕ) → e < m .effects → (f : ℕ) → f < m .effects → meets m x e f ≡ true → keyOf m EffectsByFact f ≡ factKey (m .effectFact e) (1 - m .effectValue e)
+  pub meets-key :
+      (e : ℕ) → e < m .effects → (f : ℕ) → f < m .effects → meets m x e f ≡ true → keyOf m EffectsByFact f ≡ factKey (m .effectFact e)
+      (1 - m .effectValue e)
   unfolding meets keyOf
   meets-key e h f g t =
       let apart = ofAnother m e (m .effectStep f) in
@@ -37,7 +39,9 @@ module _ (m : Model) (x : ℕ → ℕ) (form : WellFormed m) where
       let differ : m .effectValue e ≡ m .effectValue f → ⊥ = eqb-false _ _ (not-true _ (both .1)) in
       ap₂ factKey (sym (eqb-true _ _ (both .0))) (omega arith)
 
-  pub breaks-key : (c : ℕ) → c < m .conditions → (e : ℕ) → e < m .effects → breaks m x c e ≡ true → keyOf m EffectsByFact e ≡ factKey (m .conditionFact c) (1 - m .conditionValue c)
+  pub breaks-key :
+      (c : ℕ) → c < m .conditions → (e : ℕ) → e < m .effects → breaks m x c e ≡ true → keyOf m EffectsByFact e ≡ factKey (m .conditionFact c)
+      (1 - m .conditionValue c)
   unfolding breaks
   breaks-key c h e g t =
       let apart = ofAnother m e (m .conditionStep c) in
@@ -47,7 +51,9 @@ module _ (m : Model) (x : ℕ → ℕ) (form : WellFormed m) where
       opposes-key m form e g (m .conditionFact c) (m .conditionValue c) (form .conditionValue c h)
       (and-r apart against (and-l (apart && against) late (and-l (apart && against && late) early t)))
 
-  pub undoes-key : (g : ℕ) → g < m .goals → (e : ℕ) → e < m .effects → undoes m x g e ≡ true → keyOf m EffectsByFact e ≡ factKey (m .goalFact g) (1 - m .goalValue g)
+  pub undoes-key :
+      (g : ℕ) → g < m .goals → (e : ℕ) → e < m .effects → undoes m x g e ≡ true → keyOf m EffectsByFact e ≡ factKey (m .goalFact g)
+      (1 - m .goalValue g)
   unfolding undoes
   undoes-key g h e l t =
       opposes-key m form e l (m .goalFact g) (m .goalValue g) (form .goalValue g h)
@@ -69,7 +75,8 @@ module _ {m : Model} {x : ℕ → ℕ} {ticks sorted : List ℕ} (known : Effect
     meets-until k l t = let s : tick ≡ getD ticks k 0 = same-tick k l t in omega arith
 
   -- what breaks condition c has the key of its fact and the other value, and a tick from its first to its last
-  module _ (c : ℕ) (h : c < m .conditions) {v first last : ℕ} (key : v ≡ factKey (m .conditionFact c) (1 - m .conditionValue c)) (from : first ≡ firstTick m x c) (to : last ≡ lastTick m x c) where
+  module _ (c : ℕ) (h : c < m .conditions) {v first last : ℕ} (key : v ≡ factKey (m .conditionFact c) (1 - m .conditionValue c))
+      (from : first ≡ firstTick m x c) (to : last ≡ lastTick m x c) where
     within : (k : ℕ) → k < m .effects → breaks m x c k ≡ true → (first ≤ getD ticks k 0) × (getD ticks k 0 ≤ last)
     unfolding breaks
     within k l t =
@@ -88,14 +95,16 @@ module _ {m : Model} {x : ℕ → ℕ} {ticks sorted : List ℕ} (known : Effect
     breaks-until k l t = within k l t .1
 
   -- whatever has the key of a goal's fact and the other value after its deadline undoes it, and nothing else does
-  module _ (g : ℕ) (h : g < m .goals) {v r : ℕ} (key : v ≡ factKey (m .goalFact g) (1 - m .goalValue g)) (parts : Parts ticks sorted (getD sorted v 0) (getD sorted (v + 1) 0) (m .goalDeadline g + 1) r) where
+  module _ (g : ℕ) (h : g < m .goals) {v r : ℕ} (key : v ≡ factKey (m .goalFact g) (1 - m .goalValue g))
+      (parts : Parts ticks sorted (getD sorted v 0) (getD sorted (v + 1) 0) (m .goalDeadline g + 1) r) where
     goal-listed : v < 2 * m .facts
     goal-listed = key-listed known (m .goalFact g) (1 - m .goalValue g) (known .form .goalFact g h) (omega arith) key
 
     undoes-only : (k : ℕ) → k < m .effects → undoes m x g k ≡ true → (keyOf m EffectsByFact k ≡ v) × (m .goalDeadline g + 1 ≤ getD ticks k 0)
     unfolding undoes
     undoes-only k l t =
-        let a : m .goalDeadline g < effectTick m x k = ltb-true _ _ (and-r (opposes m k (m .goalFact g) (m .goalValue g)) (ltb (m .goalDeadline g) (effectTick m x k)) t) in
+        let a : m .goalDeadline g < effectTick m x k = ltb-true _ _
+        (and-r (opposes m k (m .goalFact g) (m .goalValue g)) (ltb (m .goalDeadline g) (effectTick m x k)) t) in
         let s : getD ticks k 0 ≡ effectTick m x k = known .timed .at k l in
         (undoes-key m x (known .form) g h k l t ∙ sym key, omega arith)
 
@@ -103,12 +112,14 @@ module _ {m : Model} {x : ℕ → ℕ} {ticks sorted : List ℕ} (known : Effect
     unfolding undoes
     undoes-late k o e a =
         let s : getD ticks k 0 ≡ effectTick m x k = known .timed .at k o in
-        ap₂ _&&_ (key-opposes m (known .form) k o (m .goalFact g) (m .goalValue g) (omega (arith, known .form .goalFact g h, known .form .factCount)) (known .form .goalValue g h) (e ∙ key)) (lt-ltb (m .goalDeadline g) (effectTick m x k) (omega arith))
+        ap₂ _&&_ (key-opposes m (known .form) k o (m .goalFact g) (m .goalValue g) (omega (arith, known .form .goalFact g h, known .form .factCount))
+        (known .form .goalValue g h) (e ∙ key)) (lt-ltb (m .goalDeadline g) (effectTick m x k) (omega arith))
 
     pub undone : r < getD sorted (v + 1) 0 → true ≡ any (m .effects) (undoes m x g)
     undone l =
         let there = key-holds (known .ordered) v goal-listed r (parts .from) l in
-        any-found (undoes m x g) (m .effects) (recordIn sorted r) (there .0) refl (undoes-late (recordIn sorted r) (there .0) (there .1) (parts .after r (omega arith) l))
+        any-found (undoes m x g) (m .effects) (recordIn sorted r) (there .0) refl
+        (undoes-late (recordIn sorted r) (there .0) (there .1) (parts .after r (omega arith) l))
 
     pub not-undone : getD sorted (v + 1) 0 ≤ r → false ≡ any (m .effects) (undoes m x g)
     not-undone l =
@@ -131,7 +142,9 @@ module _ (m : Model) (x : ℕ → ℕ) where
       let rest = ofAnother m e (m .effectStep f) && opposes m e (m .effectFact f) (m .effectValue f) in
       sym (ap (λ b. rest && b) (ne-eqb _ _ apart) ∙ and-false rest)
 
-  pub meets-there : (e f : ℕ) {a b : Bool} → a ≡ ofAnother m e (m .effectStep f) → b ≡ opposes m e (m .effectFact f) (m .effectValue f) → effectTick m x e ≡ effectTick m x f → (a && b) ≡ meets m x e f
+  pub meets-there :
+      (e f : ℕ) {a b : Bool} → a ≡ ofAnother m e (m .effectStep f) → b ≡ opposes m e (m .effectFact f) (m .effectValue f) → effectTick m x
+      e ≡ effectTick m x f → (a && b) ≡ meets m x e f
   unfolding meets
   meets-there e f p q r =
       let rest = ofAnother m e (m .effectStep f) && opposes m e (m .effectFact f) (m .effectValue f) in
@@ -143,7 +156,9 @@ module _ (m : Model) (x : ℕ → ℕ) where
       between (ofAnother m e (m .conditionStep c) && opposes m e (m .conditionFact c) (m .conditionValue c))
       (leb (firstTick m x c) (effectTick m x e)) (leb (effectTick m x e) (lastTick m x c)) out
 
-  pub breaks-inside : (c e : ℕ) {a b : Bool} → a ≡ ofAnother m e (m .conditionStep c) → b ≡ opposes m e (m .conditionFact c) (m .conditionValue c) → (leb (firstTick m x c) (effectTick m x e) && leb (effectTick m x e) (lastTick m x c)) ≡ true → (a && b) ≡ breaks m x c e
+  pub breaks-inside :
+      (c e : ℕ) {a b : Bool} → a ≡ ofAnother m e (m .conditionStep c) → b ≡ opposes m e (m .conditionFact c) (m .conditionValue c)
+      → (leb (firstTick m x c) (effectTick m x e) && leb (effectTick m x e) (lastTick m x c)) ≡ true → (a && b) ≡ breaks m x c e
   unfolding breaks
   breaks-inside c e p q inside =
       let rest = ofAnother m e (m .conditionStep c) && opposes m e (m .conditionFact c) (m .conditionValue c) in
@@ -152,7 +167,10 @@ module _ (m : Model) (x : ℕ → ℕ) where
       ap₂ _&&_ p q ∙ and-passed rest ∙ ap (λ b. rest && b) (sym (both .0)) ∙ and-passed (rest && late) ∙ ap (λ b. rest && late && b) (sym (both .1))
 
 -- so a place behind the deadline tells whether a goal is undone
-pub goal-search : {m : Model} {x : ℕ → ℕ} {ticks sorted : List ℕ} → EffectsKnown m x ticks sorted → (g : ℕ) → g < m .goals → {v deadline r end : ℕ} → v ≡ factKey (m .goalFact g) (1 - m .goalValue g) → deadline ≡ m .goalDeadline g → Parts ticks sorted (getD sorted v 0) (getD sorted (v + 1) 0) (deadline + 1) r → end ≡ getD sorted (v + 1) 0 → ltb r end ≡ any (m .effects) (undoes m x g)
+pub goal-search :
+    {m : Model} {x : ℕ → ℕ} {ticks sorted : List ℕ} → EffectsKnown m x ticks sorted → (g : ℕ) → g < m .goals → {v deadline r end : ℕ} → v ≡ factKey
+    (m .goalFact g) (1 - m .goalValue g) → deadline ≡ m .goalDeadline g → Parts ticks sorted (getD sorted v 0) (getD sorted (v + 1) 0) (deadline + 1)
+    r → end ≡ getD sorted (v + 1) 0 → ltb r end ≡ any (m .effects) (undoes m x g)
 goal-search {m} {x} {ticks} {sorted} known g h {v} {deadline} {r} {end} key due parts last =
     let at : Parts ticks sorted (getD sorted v 0) (getD sorted (v + 1) 0) (m .goalDeadline g + 1) r = parts-when (ap (λ k. k + 1) due) parts in
     elim (decLt r end) [

@@ -29,7 +29,10 @@ use Rattle.schedule.specs.Known.{Summed}
 
 -- one more use is summed
 module _ (m : Model) (sorted : List ℕ) (l : ℕ) (sums : Changes) (so : Summed m sorted l sums) where
-  pub summed-more : (next : Changes) {u : ℕ} → u ≡ recordIn sorted (sums .place) → sums .place < getD sorted (l + 1) 0 → rise m u ≤ 2147483648 → fall m u ≤ 2147483648 → (next .place ≡ sums .place + 1) × (next .rises ≡ sums .rises + rise m u) × (next .falls ≡ sums .falls + fall m u) → Summed m sorted l next
+  pub summed-more :
+      (next : Changes) {u : ℕ} → u ≡ recordIn sorted (sums .place) → sums .place < getD sorted (l + 1) 0 → rise m u ≤ 2147483648 → fall m
+      u ≤ 2147483648 → (next .place ≡ sums .place + 1) × (next .rises ≡ sums .rises + rise m u) × (next .falls ≡ sums .falls + fall m u) → Summed m
+      sorted l next
   unfolding sum
   summed-more next {u} here within ups downs sum-of =
       let begins : getD sorted l 0 ≤ sums .place = so .begins in
@@ -43,9 +46,12 @@ module _ (m : Model) (sorted : List ℕ) (l : ℕ) (sums : Changes) (so : Summed
         few = (omega (arith, few .0, sum-of .1), omega (arith, few .1, sum-of .2));
       }
     where
-      more : (g : ℕ → ℕ) {total other : ℕ} → total ≡ sum (sums .place) (placed (getD sorted l 0) g sorted) → other ≡ total + g u → other ≡ sum (next .place) (placed (getD sorted l 0) g sorted)
+      more :
+          (g : ℕ → ℕ) {total other : ℕ} → total ≡ sum (sums .place) (placed (getD sorted l 0) g sorted) → other ≡ total + g u → other ≡ sum
+          (next .place) (placed (getD sorted l 0) g sorted)
       more g {total} {other} e q =
-          let here-too : g u ≡ placed (getD sorted l 0) g sorted (sums .place) = ap g here ∙ sym (ap (λ b. cond b (g (recordIn sorted (sums .place))) 0) (le-leb (getD sorted l 0) (sums .place) (so .begins))) in
+          let here-too : g u ≡ placed (getD sorted l 0) g sorted (sums .place) = ap g here ∙ sym
+          (ap (λ b. cond b (g (recordIn sorted (sums .place))) 0) (le-leb (getD sorted l 0) (sums .place) (so .begins))) in
           q ∙ ap₂ _+_ e here-too ∙ ap (λ k. sum k (placed (getD sorted l 0) g sorted)) (sym (add-one (sums .place)) ∙ sym (sum-of .0))
 
   pub summed-low : sums .place ≤ 512 → (sums .rises ≤ 1099511627776) × (sums .falls ≤ 1099511627776)
@@ -97,8 +103,11 @@ module _ {m : Model} {x : ℕ → ℕ} {ticks sorted : List ℕ} (known : UsesKn
 
     pub sums-before : (sums : Changes) → Summed m sorted l sums → sums .place ≡ r → (sums .rises ≡ risesBefore m x l t) × (sums .falls ≡ fallsBefore m x l t)
     unfolding risesBefore fallsBefore
-    sums-before sums so e =
-        (so .rising ∙ ap (λ k. sum k (placed (getD sorted l 0) (rise m) sorted)) e ∙ total (rise m), so .falling ∙ ap (λ k. sum k (placed (getD sorted l 0) (fall m) sorted)) e ∙ total (fall m))
+    sums-before sums so e = (
+      so .rising ∙ ap (λ k. sum k (placed (getD sorted l 0) (rise m) sorted)) e ∙ total (rise m),
+      so .falling ∙ ap
+          (λ k. sum k (placed (getD sorted l 0) (fall m) sorted)) e ∙ total (fall m),
+    )
 
 passes-level : (m : Model) (x : ℕ → ℕ) (l u : ℕ) → passes m x l u ≡ true → m .useLevel u ≡ l
 unfolding passes
@@ -128,9 +137,12 @@ module _ {m : Model} {x : ℕ → ℕ} {ticks sorted : List ℕ} (known : UsesKn
       }
     where
       nothing : (g : ℕ → ℕ) → sum (sums .place) (placed (getD sorted l 0) g sorted) ≡ 0
-      nothing g = sum-zero (placed (getD sorted l 0) g sorted) (sums .place) (λ q b. ap (λ c. cond c (g (recordIn sorted q)) 0) (lt-leb (getD sorted l 0) q (omega arith)))
+      nothing g =
+          sum-zero (placed (getD sorted l 0) g sorted) (sums .place)
+          (λ q b. ap (λ c. cond c (g (recordIn sorted q)) 0) (lt-leb (getD sorted l 0) q (omega arith)))
 
-  module _ (sums next : Changes) (so : Swept m x ticks sorted l sums) (within : sums .place < getD sorted (l + 1) 0) (summed : Summed m sorted l next) (parts : Parts ticks sorted (sums .place) (getD sorted (l + 1) 0) (tickIn ticks sorted (sums .place) + 1) (next .place)) where
+  module _ (sums next : Changes) (so : Swept m x ticks sorted l sums) (within : sums .place < getD sorted (l + 1) 0) (summed : Summed m sorted l next)
+      (parts : Parts ticks sorted (sums .place) (getD sorted (l + 1) 0) (tickIn ticks sorted (sums .place) + 1) (next .place)) where
     rises : (p q : ℕ) → getD sorted l 0 ≤ p → p ≤ q → q < getD sorted (l + 1) 0 → tickIn ticks sorted p ≤ tickIn ticks sorted q
     rises p q a b c =
         elim (decLt p q) [
@@ -165,18 +177,24 @@ module _ {m : Model} {x : ℕ → ℕ} {ticks sorted : List ℕ} (known : UsesKn
     sweep-goes-on =
         elim (decLt (sums .place) (next .place)) [
           | yes d ↦ d
-          | no d ↦ let e : tickIn ticks sorted (sums .place) + 1 ≤ tickIn ticks sorted (sums .place) = parts .after (sums .place) (omega arith) within in absurd (omega arith)
+          | no d ↦ let e : tickIn ticks sorted (sums .place) + 1 ≤ tickIn ticks sorted (sums .place) = parts .after (sums .place) (omega arith)
+              within in absurd (omega arith)
         ]
 
     -- so what the code tests at the place is the level's rule at the tick
-    at-tick : (leb (m .levelLeast l + next .falls) (m .levelInitial l + sums .rises) && leb (m .levelInitial l + next .rises) (m .levelMost l + sums .falls)) ≡ (aboveLeast m x l (tickIn ticks sorted (sums .place)) && belowMost m x l (tickIn ticks sorted (sums .place)))
+    at-tick :
+        (leb (m .levelLeast l + next .falls) (m .levelInitial l + sums .rises) && leb (m .levelInitial l + next .rises)
+        (m .levelMost l + sums .falls)) ≡ (aboveLeast m x l (tickIn ticks sorted (sums .place)) && belowMost m x l
+        (tickIn ticks sorted (sums .place)))
     at-tick =
         let a = sums-before known l h (tickIn ticks sorted (sums .place)) (sums .place) before sums (so .summed) refl in
         let b = sums-before known l h (tickIn ticks sorted (sums .place) + 1) (next .place) through next summed refl in
         let c = add-one (tickIn ticks sorted (sums .place)) in
         rw (a .0, a .1, b .0, b .1, c) refl
 
-    passes-there : (q : ℕ) → sums .place ≤ q → q < next .place → passes m x l (recordIn sorted q) ≡ not (aboveLeast m x l (tickIn ticks sorted (sums .place)) && belowMost m x l (tickIn ticks sorted (sums .place)))
+    passes-there :
+        (q : ℕ) → sums .place ≤ q → q < next .place → passes m x l (recordIn sorted q) ≡ not
+        (aboveLeast m x l (tickIn ticks sorted (sums .place)) && belowMost m x l (tickIn ticks sorted (sums .place)))
     unfolding passes
     passes-there q a b =
         let ends : next .place ≤ getD sorted (l + 1) 0 = parts .to in
@@ -188,7 +206,9 @@ module _ {m : Model} {x : ℕ → ℕ} {ticks sorted : List ℕ} (known : UsesKn
         let e : useTick m x (recordIn sorted q) ≡ tickIn ticks sorted (sums .place) = omega arith in
         rw (eq-eqb (m .useLevel (recordIn sorted q)) l (own-level known l h (recordIn sorted q) (there .0) (there .1)), e) refl
 
-    pub swept-more : {r : Bool} → r ≡ (leb (m .levelLeast l + next .falls) (m .levelInitial l + sums .rises) && leb (m .levelInitial l + next .rises) (m .levelMost l + sums .falls)) → r ≡ true → Swept m x ticks sorted l next
+    pub swept-more :
+        {r : Bool} → r ≡ (leb (m .levelLeast l + next .falls) (m .levelInitial l + sums .rises) && leb (m .levelInitial l + next .rises)
+        (m .levelMost l + sums .falls)) → r ≡ true → Swept m x ticks sorted l next
     swept-more r yes-bounds =
         let begins : getD sorted l 0 ≤ sums .place = so .summed .begins in
         record {
@@ -204,7 +224,9 @@ module _ {m : Model} {x : ℕ → ℕ} {ticks sorted : List ℕ} (known : UsesKn
               ];
         }
 
-    pub swept-fails : {r : Bool} → r ≡ (leb (m .levelLeast l + next .falls) (m .levelInitial l + sums .rises) && leb (m .levelInitial l + next .rises) (m .levelMost l + sums .falls)) → r ≡ false → true ≡ levelFails m x l
+    pub swept-fails :
+        {r : Bool} → r ≡ (leb (m .levelLeast l + next .falls) (m .levelInitial l + sums .rises) && leb (m .levelInitial l + next .rises)
+        (m .levelMost l + sums .falls)) → r ≡ false → true ≡ levelFails m x l
     unfolding levelFails
     swept-fails r out =
         let there = key-holds (known .ordered) l h (sums .place) (so .summed .begins) within in
@@ -226,25 +248,34 @@ module _ {m : Model} {x : ℕ → ℕ} {ticks sorted : List ℕ} (known : UsesKn
       (either (passes m x l u))))
 
 -- The uses at one tick, from the first of them on, come into the sums one by one.
-module _ {m : Model} {x : ℕ → ℕ} {ticks sorted : List ℕ} (known : UsesKnown m x ticks sorted) (l : ℕ) (h : l < m .levels) (from : ℕ) {k tick : ℕ} (first : k ≡ recordIn sorted from) (at : tick ≡ getD ticks k 0) (sums : Changes) (so : Summed m sorted l sums × (from ≤ sums .place) × ((q : ℕ) → from ≤ q → q < sums .place → tickIn ticks sorted q < tick + 1)) where
-  pub tick-more : (next : Changes) {u : ℕ} → sums .place < getD sorted (l + 1) 0 → u ≡ recordIn sorted (sums .place) → getD ticks u 0 ≤ tick → (next .place ≡ sums .place + 1) × (next .rises ≡ sums .rises + rise m u) × (next .falls ≡ sums .falls + fall m u) → Summed m sorted l next × (from ≤ next .place) × ((q : ℕ) → from ≤ q → q < next .place → tickIn ticks sorted q < tick + 1)
+module _ {m : Model} {x : ℕ → ℕ} {ticks sorted : List ℕ} (known : UsesKnown m x ticks sorted) (l : ℕ) (h : l < m .levels) (from : ℕ) {k tick : ℕ}
+    (first : k ≡ recordIn sorted from) (at : tick ≡ getD ticks k 0) (sums : Changes)
+    (so : Summed m sorted l sums × (from ≤ sums .place) × ((q : ℕ) → from ≤ q → q < sums .place → tickIn ticks sorted q < tick + 1)) where
+  pub tick-more :
+      (next : Changes) {u : ℕ} → sums .place < getD sorted (l + 1) 0 → u ≡ recordIn sorted (sums .place) → getD ticks u 0 ≤ tick
+      → (next .place ≡ sums .place + 1) × (next .rises ≡ sums .rises + rise m u) × (next .falls ≡ sums .falls + fall m u) → Summed m sorted l
+      next × (from ≤ next .place) × ((q : ℕ) → from ≤ q → q < next .place → tickIn ticks sorted q < tick + 1)
   tick-more next {u} within here same sum-of =
       let counted : u < m .uses = use-counted known l h (sums .place) (so .0 .begins) within here in
       let place : next .place ≡ sums .place + 1 = sum-of .0 in
       let begins : from ≤ sums .place = so .1 in (
-        summed-more m sorted l sums (so .0) next here within (omega (arith, known .form .useTo u counted)) (omega (arith, known .form .useFrom u counted)) sum-of,
+        summed-more m sorted l sums (so .0) next here within (omega (arith, known .form .useTo u counted))
+            (omega (arith, known .form .useFrom u counted)) sum-of,
         omega arith,
         λ q a b.
             elim (decLt q (sums .place)) [
               | yes d ↦ so .2 q a d
               | no d ↦
-                  let e : tickIn ticks sorted q ≡ getD ticks u 0 = ap (tickIn ticks sorted) (let f : q ≡ sums .place = omega arith in f) ∙ ap (λ j. getD ticks j 0) (sym here) in
+                  let e : tickIn ticks sorted q ≡ getD ticks u 0 = ap (tickIn ticks sorted) (let f : q ≡ sums .place = omega arith in
+                  f) ∙ ap (λ j. getD ticks j 0) (sym here) in
                   omega arith
             ],
       )
 
   -- until a later tick, or the level's end
-  ended : ((p : ℕ) → sums .place ≤ p → p < getD sorted (l + 1) 0 → tick + 1 ≤ tickIn ticks sorted p) → Summed m sorted l sums × Parts ticks sorted from (getD sorted (l + 1) 0) (tickIn ticks sorted from + 1) (sums .place)
+  ended :
+      ((p : ℕ) → sums .place ≤ p → p < getD sorted (l + 1) 0 → tick + 1 ≤ tickIn ticks sorted p) → Summed m sorted l sums × Parts ticks sorted from
+      (getD sorted (l + 1) 0) (tickIn ticks sorted from + 1) (sums .place)
   ended after =
       let e : tick ≡ tickIn ticks sorted from = at ∙ ap (λ j. getD ticks j 0) first in (
         so .0,
@@ -256,15 +287,21 @@ module _ {m : Model} {x : ℕ → ℕ} {ticks sorted : List ℕ} (known : UsesKn
         },
       )
 
-  pub tick-past : {u : ℕ} → sums .place < getD sorted (l + 1) 0 → u ≡ recordIn sorted (sums .place) → tick < getD ticks u 0 → Summed m sorted l sums × Parts ticks sorted from (getD sorted (l + 1) 0) (tickIn ticks sorted from + 1) (sums .place)
+  pub tick-past :
+      {u : ℕ} → sums .place < getD sorted (l + 1) 0 → u ≡ recordIn sorted (sums .place) → tick < getD ticks u 0 → Summed m sorted l sums × Parts ticks
+      sorted from (getD sorted (l + 1) 0) (tickIn ticks sorted from + 1) (sums .place)
   tick-past {u} within here late =
       ended
       (λ p a b.
       let e : getD ticks u 0 ≡ tickIn ticks sorted (sums .place) = ap (λ j. getD ticks j 0) here in
       elim (decLt (sums .place) p) [
-        | yes d ↦ let up : tickIn ticks sorted (sums .place) ≤ tickIn ticks sorted p = known .ordered .each l h .rises (sums .place) p (so .0 .begins) d b .0 in omega arith
-        | no d ↦ let f : tickIn ticks sorted (sums .place) ≡ tickIn ticks sorted p = ap (tickIn ticks sorted) (let g : sums .place ≡ p = omega arith in g) in omega arith
+        | yes d ↦ let up : tickIn ticks sorted (sums .place) ≤ tickIn ticks sorted p = known .ordered .each l h .rises (sums .place) p (so .0 .begins)
+            d b .0 in omega arith
+        | no d ↦ let f : tickIn ticks sorted (sums .place) ≡ tickIn ticks sorted p = ap (tickIn ticks sorted)
+            (let g : sums .place ≡ p = omega arith in g) in omega arith
       ])
 
-  pub tick-last : getD sorted (l + 1) 0 ≤ sums .place → Summed m sorted l sums × Parts ticks sorted from (getD sorted (l + 1) 0) (tickIn ticks sorted from + 1) (sums .place)
+  pub tick-last :
+      getD sorted (l + 1) 0 ≤ sums .place → Summed m sorted l sums × Parts ticks sorted from (getD sorted (l + 1) 0) (tickIn ticks sorted from + 1)
+      (sums .place)
   tick-last past = ended (λ p a b. absurd (omega arith))

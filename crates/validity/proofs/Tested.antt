@@ -57,7 +57,8 @@ module _ (m : Model) (x : ℕ → ℕ) where
   conflicts-none e f h n s a t =
       elim (ℕ-discrete (m .effectValue e) (m .effectValue f)) [
         | yes v ↦ v
-        | no v ↦ contrary (ap₂ _&&_ (ap₂ _&&_ (ap not (ne-eqb _ _ s)) (opposes-in e (m .effectFact f) (m .effectValue f) a v)) (eq-eqb _ _ t)) (any-false (meets m x e) (m .effects) n f h)
+        | no v ↦ contrary (ap₂ _&&_ (ap₂ _&&_ (ap not (ne-eqb _ _ s)) (opposes-in e (m .effectFact f) (m .effectValue f) a v)) (eq-eqb _ _ t))
+            (any-false (meets m x e) (m .effects) n f h)
       ]
 
   pub none-conflicts : Valid m x → (e : ℕ) → e < m .effects → conflicts m x e ≡ false
@@ -82,7 +83,9 @@ module _ (m : Model) (x : ℕ → ℕ) where
   breaks-none c e h n s a l r =
       elim (ℕ-discrete (m .effectValue e) (m .conditionValue c)) [
         | yes v ↦ v
-        | no v ↦ contrary (ap₂ _&&_ (ap₂ _&&_ (ap₂ _&&_ (ap not (ne-eqb _ _ s)) (opposes-in e (m .conditionFact c) (m .conditionValue c) a v)) (le-leb _ _ l)) (le-leb _ _ r)) (any-false (breaks m x c) (m .effects) n e h)
+        | no v ↦ contrary (ap₂ _&&_
+            (ap₂ _&&_ (ap₂ _&&_ (ap not (ne-eqb _ _ s)) (opposes-in e (m .conditionFact c) (m .conditionValue c) a v)) (le-leb _ _ l)) (le-leb _ _ r))
+            (any-false (breaks m x c) (m .effects) n e h)
       ]
 
   none-breaks : Valid m x → (c : ℕ) → c < m .conditions → any (m .effects) (breaks m x c) ≡ false
@@ -112,28 +115,40 @@ module _ (m : Model) (x : ℕ → ℕ) where
       (λ u k. ap (λ b. cond b (rise m u) 0) (fails (usedBy m x l t u) (λ e. let b = and-both _ _ e in h u k (eqb-true _ _ (b .0)) (ltb-true _ _ (b .1)))))
 
   -- the bounds hold at the tick of every use
-  passes-none : (l u : ℕ) → u < m .uses → levelFails m x l ≡ false → m .useLevel u ≡ l → (aboveLeast m x l (useTick m x u) ≡ true) × (belowMost m x l (useTick m x u) ≡ true)
+  passes-none :
+      (l u : ℕ) → u < m .uses → levelFails m x l ≡ false → m .useLevel u ≡ l
+      → (aboveLeast m x l (useTick m x u) ≡ true) × (belowMost m x l (useTick m x u) ≡ true)
   unfolding levelFails passes
   passes-none l u h n e =
-      and-both _ _ (not-false _ (sym (ap (λ b. b && not (aboveLeast m x l (useTick m x u) && belowMost m x l (useTick m x u))) (eq-eqb _ _ e)) ∙ any-false (passes m x l) (m .uses) n u h))
+      and-both _ _ (not-false _
+      (sym (ap (λ b. b && not (aboveLeast m x l (useTick m x u) && belowMost m x l (useTick m x u))) (eq-eqb _ _ e)) ∙ any-false (passes m x l)
+      (m .uses) n u h))
 
   -- and so at every tick: up to the next use nothing changes
-  pub low-everywhere : (l t : ℕ) → m .levelLeast l ≤ m .levelInitial l → levelFails m x l ≡ false → m .levelLeast l + fallsBefore m x l (suc t) ≤ m .levelInitial l + risesBefore m x l t
+  pub low-everywhere :
+      (l t : ℕ) → m .levelLeast l ≤ m .levelInitial l → levelFails m x l ≡ false → m .levelLeast l + fallsBefore m x l (suc t) ≤ m .levelInitial
+      l + risesBefore m x l t
   low-everywhere l t i n =
       ⊎-elim
       (λ (z : (u : ℕ) → u < m .uses → m .useLevel u ≡ l → useTick m x u < suc t → ⊥). omega (arith, idle-falls l (suc t) z))
-      (λ (w : (u : ℕ) × (u < m .uses) × (m .useLevel u ≡ l) × (useTick m x u < suc t) × ((v : ℕ) → v < m .uses → m .useLevel v ≡ l → useTick m x v < suc t → useTick m x v ≤ useTick m x u)).
-      let b : m .levelLeast l + fallsBefore m x l (suc (useTick m x (w .0))) ≤ m .levelInitial l + risesBefore m x l (useTick m x (w .0)) = leb-true _ _ (passes-none l (w .0) (w .1) n (w .2) .0) in
+      (λ (w : (u : ℕ) × (u < m .uses) × (m .useLevel u ≡ l) × (useTick m x u < suc t) × ((v : ℕ) → v < m .uses → m .useLevel v ≡ l → useTick m x
+      v < suc t → useTick m x v ≤ useTick m x u)).
+      let b : m .levelLeast l + fallsBefore m x l (suc (useTick m x (w .0))) ≤ m .levelInitial l + risesBefore m x l (useTick m x (w .0)) = leb-true _
+      _ (passes-none l (w .0) (w .1) n (w .2) .0) in
       let f = falls-idle m x l (suc (useTick m x (w .0))) (suc t) (omega (arith, w .3)) (λ v h a g. omega (arith, w .4 v h a g)) in
       omega (arith, b, f, rises-ascend m x l (useTick m x (w .0)) t (omega (arith, w .3))))
       (last-use m x l (suc t))
 
-  pub high-everywhere : (l t : ℕ) → m .levelInitial l ≤ m .levelMost l → levelFails m x l ≡ false → m .levelInitial l + risesBefore m x l (suc t) ≤ m .levelMost l + fallsBefore m x l t
+  pub high-everywhere :
+      (l t : ℕ) → m .levelInitial l ≤ m .levelMost l → levelFails m x l ≡ false → m .levelInitial l + risesBefore m x l (suc t) ≤ m .levelMost
+      l + fallsBefore m x l t
   high-everywhere l t i n =
       ⊎-elim
       (λ (z : (u : ℕ) → u < m .uses → m .useLevel u ≡ l → useTick m x u < suc t → ⊥). omega (arith, idle-rises l (suc t) z))
-      (λ (w : (u : ℕ) × (u < m .uses) × (m .useLevel u ≡ l) × (useTick m x u < suc t) × ((v : ℕ) → v < m .uses → m .useLevel v ≡ l → useTick m x v < suc t → useTick m x v ≤ useTick m x u)).
-      let b : m .levelInitial l + risesBefore m x l (suc (useTick m x (w .0))) ≤ m .levelMost l + fallsBefore m x l (useTick m x (w .0)) = leb-true _ _ (passes-none l (w .0) (w .1) n (w .2) .1) in
+      (λ (w : (u : ℕ) × (u < m .uses) × (m .useLevel u ≡ l) × (useTick m x u < suc t) × ((v : ℕ) → v < m .uses → m .useLevel v ≡ l → useTick m x
+      v < suc t → useTick m x v ≤ useTick m x u)).
+      let b : m .levelInitial l + risesBefore m x l (suc (useTick m x (w .0))) ≤ m .levelMost l + fallsBefore m x l (useTick m x (w .0)) = leb-true _
+      _ (passes-none l (w .0) (w .1) n (w .2) .1) in
       let f = rises-idle m x l (suc (useTick m x (w .0))) (suc t) (omega (arith, w .3)) (λ v h a g. omega (arith, w .4 v h a g)) in
       omega (arith, b, f, falls-ascend m x l (useTick m x (w .0)) t (omega (arith, w .3))))
       (last-use m x l (suc t))
@@ -157,7 +172,10 @@ module _ (m : Model) (x : ℕ → ℕ) where
       let o = any-false (overlaps m x i) (m .steps) (sym (ap (λ b. b && any (m .steps) (overlaps m x i)) (eq-eqb _ _ s)) ∙ n) k h in
       elim (decLe (finish m x i) (x k)) [
         | yes l ↦ inl l
-        | no l ↦ inr (leb-true _ _ (not-false _ (sym (ap (λ b. b && not (leb (finish m x k) (x i))) (ap₂ _&&_ (ap not (ne-eqb _ _ d)) (ap not (fails (leb (finish m x i) (x k)) (λ t. l (leb-true _ _ t)))))) ∙ o)))
+        | no l ↦ inr (leb-true _ _
+            (not-false _
+            (sym (ap (λ b. b && not (leb (finish m x k) (x i)))
+            (ap₂ _&&_ (ap not (ne-eqb _ _ d)) (ap not (fails (leb (finish m x i) (x k)) (λ t. l (leb-true _ _ t)))))) ∙ o)))
       ]
 
   pub none-crowded : Valid m x → (i : ℕ) → i < m .steps → crowded m x i ≡ false
@@ -179,7 +197,9 @@ module _ (m : Model) (x : ℕ → ℕ) where
       (v .serialApart (eqb-true _ _ (s .0)) i k h g (eqb-false _ _ (not-true _ (a .0))))))))
 
   -- the two halves of 11, and those of 13
-  pub condition-holds : (c : ℕ) → conditionFails m x c ≡ false → (seen m x (m .conditionFact c) (firstTick m x c) ≡ m .conditionValue c) × (any (m .effects) (breaks m x c) ≡ false)
+  pub condition-holds :
+      (c : ℕ) → conditionFails m x c ≡ false → (seen m x (m .conditionFact c) (firstTick m x c) ≡ m .conditionValue c) × (any (m .effects)
+      (breaks m x c) ≡ false)
   unfolding conditionFails
   condition-holds c n = let b = or-both _ _ n in (eqb-true _ _ (not-false _ (b .0)), b .1)
 
@@ -190,7 +210,8 @@ module _ (m : Model) (x : ℕ → ℕ) where
 module _ (m : Model) (x : ℕ → ℕ) (w : WellFormed m) where
   -- refusal 11: from the first tick on, what opposes is another step's and caught, or the step's own and refused by 7
   pub condition-seen :
-      (c t : ℕ) → c < m .conditions → conditionFails m x c ≡ false → firstTick m x c ≤ t → t ≤ lastTick m x c → seen m x (m .conditionFact c) t ≡ m .conditionValue c
+      (c t : ℕ) → c < m .conditions → conditionFails m x c ≡ false → firstTick m x c ≤ t → t ≤ lastTick m x c → seen m x (m .conditionFact c)
+      t ≡ m .conditionValue c
   condition-seen c t h n l r =
       let b = condition-holds m x c n in
       seen-persists m x (m .conditionFact c) (m .conditionValue c) (firstTick m x c) t (w .conditionValue c h) l
@@ -215,7 +236,9 @@ module _ (m : Model) (x : ℕ → ℕ) (w : WellFormed m) where
       (g t : ℕ) → g < m .goals → late m x g ≡ false → (m .goalDeadline g ≡ noDeadline → ⊥) → m .goalDeadline g < t → seen m x (m .goalFact g) t ≡ m .goalValue g
   unfolding late undoes
   goal-in-time g t h n d l =
-      let b = or-both _ _ (sym (ap (λ b. b && (not (eqb (seen m x (m .goalFact g) (suc (m .goalDeadline g))) (m .goalValue g)) || any (m .effects) (undoes m x g))) (ap not (ne-eqb _ _ d))) ∙ n) in
+      let b = or-both _ _
+      (sym (ap (λ b. b && (not (eqb (seen m x (m .goalFact g) (suc (m .goalDeadline g))) (m .goalValue g)) || any (m .effects) (undoes m x g)))
+      (ap not (ne-eqb _ _ d))) ∙ n) in
       seen-persists m x (m .goalFact g) (m .goalValue g) (suc (m .goalDeadline g)) t (w .goalValue g h) l
       (λ f k i j.
       contrary
@@ -224,7 +247,9 @@ module _ (m : Model) (x : ℕ → ℕ) (w : WellFormed m) where
       (eqb-true _ _ (not-false _ (b .0)))
 
   -- two effects on a fact at one tick agree
-  agree : Valid m x → (e f : ℕ) → e < m .effects → f < m .effects → m .effectFact e ≡ m .effectFact f → effectTick m x e ≡ effectTick m x f → m .effectValue e ≡ m .effectValue f
+  agree :
+      Valid m x → (e f : ℕ) → e < m .effects → f < m .effects → m .effectFact e ≡ m .effectFact f → effectTick m x e ≡ effectTick m x f
+      → m .effectValue e ≡ m .effectValue f
   agree v e f h g a t =
       elim (ℕ-discrete (m .effectStep e) (m .effectStep f)) [
         | yes s ↦ let q : x (m .effectStep e) ≡ x (m .effectStep f) = ap x s in w .oneWay e f h g s a (omega arith)
@@ -259,7 +284,8 @@ module _ (m : Model) (x : ℕ → ℕ) (w : WellFormed m) where
   none-goal-fails v g h =
       ap₂ _||_ (ap not (eq-eqb _ _ (v .goalReached g h)))
       (elim (ℕ-discrete (m .goalDeadline g) noDeadline) [
-        | yes d ↦ ap (λ b. not b && (not (eqb (seen m x (m .goalFact g) (suc (m .goalDeadline g))) (m .goalValue g)) || any (m .effects) (undoes m x g))) (eq-eqb _ _ d)
+        | yes d ↦ ap (λ b. not
+            b && (not (eqb (seen m x (m .goalFact g) (suc (m .goalDeadline g))) (m .goalValue g)) || any (m .effects) (undoes m x g))) (eq-eqb _ _ d)
         | no d ↦
             ap₂ _&&_ (ap not (ne-eqb _ _ d))
             (ap₂ _||_ (ap not (eq-eqb _ _ (v .goalInTime g (suc (m .goalDeadline g)) h d (omega arith)))) (none-undoes v g h d))

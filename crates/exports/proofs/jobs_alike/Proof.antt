@@ -20,7 +20,8 @@ returns c =
     let p = d .alike .ensures in
     let y = c .before .before .before .alike-yes in
     carried (AlikePromise (now (b .a)) (now (b .b))) packedAlike (p .answer) p
-    (repacked (c .packed .ensures) (as-number (y .result) ∙ ap (λ (t : Bool). cond t 1 0) (y .ensures)) (c .before .before .alike-number .ensures) (c .before .alike-place .ensures))
+    (repacked (c .packed .ensures) (as-number (y .result) ∙ ap (λ (t : Bool). cond t 1 0) (y .ensures)) (c .before .before .alike-number .ensures)
+    (c .before .alike-place .ensures))
 
 pub jobs-alike-spec : {M : Type 1} → statement M
 jobs-alike-spec =

@@ -20,7 +20,9 @@ use Rattle.partialize.proofs.file_found.Tie as tie
 
 module _ (c : tie.After-link-at) where
   abbrev model : Model
-  model = view (c .before .before .before .before .before .before .before .before .before .before .before .before .args .job) (now (c .before .before .before .before .before .before .before .before .before .before .before .before .args .s))
+  model =
+      view (c .before .before .before .before .before .before .before .before .before .before .before .before .args .job)
+      (now (c .before .before .before .before .before .before .before .before .before .before .before .before .args .s))
 
   abbrev limits : List ℕ
   limits = c .before .before .before .before .limits .result .at
@@ -41,13 +43,15 @@ module _ (c : tie.After-link-at) where
     held : Holds model x (c .before .before .earliest-starts .result .rounds) limits latest early gaps links
     held =
         found-holds model x _ limits latest early gaps links l t (c .before .before .before .before .limits .ensures .0)
-        (c .before .before .before .latest-starts .ensures .0 x l) (c .before .before .earliest-starts .ensures .0) (c .before .before .earliest-starts .ensures .1)
+        (c .before .before .before .latest-starts .ensures .0 x l) (c .before .before .earliest-starts .ensures .0)
+        (c .before .before .earliest-starts .ensures .1)
 
     fits : c .link-at .result ≡ length (encode (fileOf model x))
     fits =
         c .link-at .ensures .0
         ∙ ap (λ o. fileLength (model .steps) o (model .conditions + model .goals)) (c .before .count-orders .ensures .0)
-        ∙ found-length model x (c .before .before .before .before .before .before .before .before .before .before .before .before .pre .form) _ limits latest early gaps links held
+        ∙ found-length model x (c .before .before .before .before .before .before .before .before .before .before .before .before .pre .form) _ limits
+        latest early gaps links held
 
 pub file-found-spec : {M : Type 1} → statement M
 file-found-spec =
@@ -67,7 +71,8 @@ file-found-spec =
     (λ c.
     λ x l t.
     let d = c .before in
-    written-short (model d) x (d .before .before .before .before .before .before .before .before .before .before .before .before .pre .form) _ (limits d) (latest d) (early d) (gaps d) (links d) (held d x l t) _ _ (fits d x l t) (c .if1 .taken))
+    written-short (model d) x (d .before .before .before .before .before .before .before .before .before .before .before .before .pre .form) _
+    (limits d) (latest d) (early d) (gaps d) (links d) (held d x l t) _ _ (fits d x l t) (c .if1 .taken))
     (λ c. search needs)
     (λ c. search needs)
     (λ c. search needs)
@@ -95,5 +100,6 @@ file-found-spec =
     (λ c.
     λ x l t.
     let d = c .before .before .before .before .before .before .before .before .before .before .before .before in
-    written-file (model d) x (d .before .before .before .before .before .before .before .before .before .before .before .before .pre .form) _ (limits d) (latest d) (early d) (gaps d) (links d) (held d x l t) _ _ _ (fits d x l t)
+    written-file (model d) x (d .before .before .before .before .before .before .before .before .before .before .before .before .pre .form) _
+    (limits d) (latest d) (early d) (gaps d) (links d) (held d x l t) _ _ _ (fits d x l t)
     (c .before .before .before .before .before .before .before .before .before .before .before .if1 .left) (c .before .before .write-file .ensures)))

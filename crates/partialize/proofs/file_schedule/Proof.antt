@@ -27,9 +27,29 @@ file-schedule-spec =
     (λ c κs. search needs)
     (λ c. search needs)
     (λ c. search needs)
-    (λ c κs. let d = c .before .before .before .before .before .before .before .before .before .before .before .before in let f = c .before .before .before .find-links .ensures in (d .pre .effects, d .pre .used, d .pre .valid, record { each = f .below }, omega (arith, f .size, length-replicate {A = ℕ} 544 0, d .pre .effects .form .conditionCount, d .pre .effects .form .goalCount), refl, zeros))
+    (λ c κs.
+    let d = c .before .before .before .before .before .before .before .before .before .before .before .before in
+    let f = c .before .before .before .find-links .ensures in (
+      d .pre .effects,
+      d .pre .used,
+      d .pre .valid,
+      record { each = f .below },
+      omega
+          (arith, f .size, length-replicate {A = ℕ} 544 0, d .pre .effects .form .conditionCount, d .pre .effects .form .goalCount),
+      refl,
+      zeros,
+    ))
     (λ c. search needs)
     (λ c. search needs)
-    (λ c κs. record { form = c .before .before .before .before .before .before .before .before .before .before .before .before .before .before .before .before .before .pre .effects .form; table = c .before .before .before .before .fill-gaps .ensures .whole; linkCount = search needs; rows = none-from _ _ _ (c .before .before .before .before .fill-gaps .ensures) })
+    (λ c κs. record {
+      form =
+          c .before .before .before .before .before .before .before .before .before .before .before .before .before .before .before .before .before .pre .effects .form;
+      table = c .before .before .before .before .fill-gaps .ensures .whole;
+      linkCount = search needs;
+      rows = none-from _ _ _ (c .before .before .before .before .fill-gaps .ensures);
+    })
     (λ c. search needs)
-    (λ c. c .before .before .file-found .ensures (scheduleOf (now (c .before .before .before .before .before .before .before .before .before .before .before .before .before .before .before .before .before .before .before .before .args .starts))) (record { each = c .before .before .before .before .before .before .before .before .before .before .before .find-links .ensures .below }) (c .before .before .before .before .before .before .before .fill-gaps .ensures)))
+    (λ c. c .before .before .file-found .ensures
+    (scheduleOf (now (c .before .before .before .before .before .before .before .before .before .before .before .before .before .before .before .before .before .before .before .before .args .starts)))
+    (record { each = c .before .before .before .before .before .before .before .before .before .before .before .find-links .ensures .below })
+    (c .before .before .before .before .before .before .before .fill-gaps .ensures)))

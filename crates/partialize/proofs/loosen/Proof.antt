@@ -20,7 +20,9 @@ loosen-spec =
     (λ c κs. let w = c .before .before .before .before .before .before .before .before .before .before .before .pre .wellFormed in search needs)
     (λ c. search needs)
     (λ c. search needs)
-    (λ c κs. let w = c .before .before .before .before .before .before .before .before .before .before .before .before .before .before .before .pre .wellFormed in search needs)
+    (λ c κs.
+    let w = c .before .before .before .before .before .before .before .before .before .before .before .before .before .before .before .pre .wellFormed in
+    search needs)
     (λ c. search needs)
     (λ c. search needs)
     (λ c. search needs)
@@ -42,11 +44,18 @@ loosen-spec =
     (λ c. search needs)
     (λ c κs.
     let p = c .before .before .before .before .before .before .before .before .before .before .before .before .before .before .before .before .before .before .before .before .before .before .before .before .before .before .before .before .before .pre in
-    let sound = c .before .before .before .before .before .before .before .check-planned .ensures .sound (sym (c .before .before .before .before .before .before .number .ensures) ∙ c .before .before .before .before .before .if1 .left) in
-    record { effects = c .before .before .before .before .before .before .before .before .before .before .before .before .before .before .before .before .before .before .before .before .list-effects .ensures; used = c .before .before .before .before .before .before .before .before .before .before .before .before .before .list-uses .ensures; valid = rw (p .written, p .header) (sound .valid) })
+    let sound = c .before .before .before .before .before .before .before .check-planned .ensures .sound
+    (sym (c .before .before .before .before .before .before .number .ensures) ∙ c .before .before .before .before .before .if1 .left) in
+    record {
+      effects =
+          c .before .before .before .before .before .before .before .before .before .before .before .before .before .before .before .before .before .before .before .before .list-effects .ensures;
+      used = c .before .before .before .before .before .before .before .before .before .before .before .before .before .list-uses .ensures;
+      valid = rw (p .written, p .header) (sound .valid);
+    })
     (λ c. search needs)
     (λ c.
     let p = c .before .before .before .before .before .before .before .before .before .before .before .before .before .before .before .before .before .before .before .before .before .before .before .before .before .before .before .before .before .before .before .before .pre in
     let promised = c .before .before .before .before .before .before .before .before .before .before .check-planned .ensures in
-    filed-promise _ _ _ _ _ promised (sym (c .before .before .before .before .before .before .before .before .before .number .ensures) ∙ c .before .before .before .before .before .before .before .before .if1 .left)
+    filed-promise _ _ _ _ _ promised (sym (c .before .before .before .before .before .before .before .before .before .number .ensures)
+    ∙ c .before .before .before .before .before .before .before .before .if1 .left)
     (rw (p .written, p .header) at (c .before .before .file-schedule .ensures))))

@@ -11,7 +11,9 @@ use Rattle.partialize.proofs.partialize.Statement.{statement}
 use Rattle.partialize.proofs.partialize.Tie as tie
 
 -- a form that passed is that of a well-formed job
-formed : (c : tie.After-job) → WellFormed (view (c .before .before .before .open-job .result .job) (now (c .before .before .before .before .before .before .args .s)))
+formed :
+    (c : tie.After-job) → WellFormed (view (c .before .before .before .open-job .result .job)
+    (now (c .before .before .before .before .before .before .args .s)))
 formed c =
     let f = c .before .before .before .open-job .ensures in
     rw (f .job) (f .wellFormed (sym (c .before .before .number .ensures) ∙ c .before .if1 .left))

@@ -15,13 +15,18 @@ check-listed-spec =
     (λ c. search needs)
     (λ c κs. search needs)
     (λ c κs. c .before .before .before .before .before .before .before .before .pre .0 .timed)
-    (λ c κs. let p = c .before .before .before .before .before .before .before .before .before .pre in record { effects = p .0; uses = p .1; after = c .after-all .ensures })
+    (λ c κs.
+    let p = c .before .before .before .before .before .before .before .before .before .pre in
+    record { effects = p .0; uses = p .1; after = c .after-all .ensures })
     (λ c κs. search needs)
     (λ c.
     let d = c .before .before in
     let e = rw (d .before .before .refuse-if .ensures, accepted-then) at (d .rule-after .ensures) in
     e ∙ then-refused _ _ (λ z. c .if1 .taken (c .before .number .ensures ∙ ap number e ∙ z)))
-    (λ c κs. let d = c .before .before .before in let p = d .before .before .before .before .before .before .before .before .before .pre in record { effects = p .0; uses = p .1; after = d .after-all .ensures })
+    (λ c κs.
+    let d = c .before .before .before in
+    let p = d .before .before .before .before .before .before .before .before .before .pre in
+    record { effects = p .0; uses = p .1; after = d .after-all .ensures })
     (λ c.
     let d = c .before .before .before in
     let e = rw (d .before .before .refuse-if .ensures, accepted-then) at (d .rule-after .ensures) in

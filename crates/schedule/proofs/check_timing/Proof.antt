@@ -15,4 +15,11 @@ check-timing-spec =
     (λ c κs. search needs)
     (λ c κs. search needs)
     (λ c κs. search needs)
-    (λ c. rw (c .rule-after5 .ensures, c .before .rule-after4 .ensures, c .before .before .rule-after3 .ensures, c .before .before .before .rule-after2 .ensures, c .before .before .before .before .rule-after .ensures, accepted-then)))
+    (λ c. rw (
+      c .rule-after5 .ensures,
+      c .before .rule-after4 .ensures,
+      c .before .before .rule-after3 .ensures,
+      c .before .before .before .rule-after2 .ensures,
+      c .before .before .before .before .rule-after .ensures,
+      accepted-then,
+    )))

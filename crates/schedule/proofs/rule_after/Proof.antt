@@ -16,5 +16,11 @@ rule-after-spec =
     (λ c κs. search needs)
     (λ c κs. (c .before .before .before .before .before .before .before .before .before .pre, c .count-under .ensures))
     (λ c κs. search needs)
-    (λ c. let d = c .before .before .before in c .refusal-of .ensures ∙ lowest-refused _ _ _ (rw (d .count-under .ensures) at (c .before .before .first-breaking .ensures)) (rw (d .count-under .ensures) at (c .before .if2 .taken)) ∙ then-accepted _ _ (sym (d .before .before .number .ensures) ∙ d .before .if1 .left))
-    (λ c. let d = c .before .before in lowest-passed _ _ _ (rw (d .count-under .ensures) at (c .before .first-breaking .ensures)) (rw (d .count-under .ensures) at (c .if2 .left)) ∙ then-accepted _ _ (sym (d .before .before .number .ensures) ∙ d .before .if1 .left)))
+    (λ c.
+    let d = c .before .before .before in
+    c .refusal-of .ensures ∙ lowest-refused _ _ _ (rw (d .count-under .ensures) at (c .before .before .first-breaking .ensures))
+    (rw (d .count-under .ensures) at (c .before .if2 .taken)) ∙ then-accepted _ _ (sym (d .before .before .number .ensures) ∙ d .before .if1 .left))
+    (λ c.
+    let d = c .before .before in
+    lowest-passed _ _ _ (rw (d .count-under .ensures) at (c .before .first-breaking .ensures)) (rw (d .count-under .ensures) at (c .if2 .left))
+    ∙ then-accepted _ _ (sym (d .before .before .number .ensures) ∙ d .before .if1 .left)))

@@ -22,6 +22,16 @@ fill-spec =
     (λ c κs. search needs)
     (λ c. search needs)
     (λ c. search needs)
-    (λ c. let d = c .before .before in let g = d .before .before .before .before in let i = g .loop .inv in (omega arith, (d .put .kept .1 .1 .0 ∙ i .1 .0, fill-more _ (now (g .before .before .before .args .numbers)) (g .loop .k) (i .1 .1) (omega arith) (d .put .ensures))))
+    (λ c.
+    let d = c .before .before in
+    let g = d .before .before .before .before in
+    let i = g .loop .inv in (
+      omega arith,
+      (
+        d .put .kept .1 .1 .0 ∙ i .1 .0,
+        fill-more _ (now (g .before .before .before .args .numbers)) (g .loop .k) (i .1 .1) (omega arith)
+            (d .put .ensures),
+      ),
+    ))
     (λ c. c .before .loop .inv .1 .0)
     (λ c. let g = c .before in fill-end _ (now (g .before .before .before .args .numbers)) (g .loop .k) (g .loop .inv .1 .1) (omega arith)))

@@ -23,7 +23,9 @@ returns-2 : tie.Need-returns-2
 returns-2 c =
     let d = c .before .before .before .before .before in
     let l = now (d .before .before .before .before .before .args .list) in
-    third l _ _ (c .before .before .fill2 .ensures) (d .bits .ensures ∙ ap bits (toZ-ofZ {w = w32} {z = d .before .before .read2 .given .0 .1 .1 .0} (record { sfits = d .before .known-told2 .given .1 .1 .0 .1 }))) ∙ sym (ap (λ r. filled l (recordList r)) (d .before .before .read2 .given .1))
+    third l _ _ (c .before .before .fill2 .ensures) (d .bits .ensures ∙ ap bits (toZ-ofZ {w =
+    w32} {z = d .before .before .read2 .given .0 .1 .1 .0} (record { sfits = d .before .known-told2 .given .1 .1 .0 .1 }))) ∙ sym
+    (ap (λ r. filled l (recordList r)) (d .before .before .read2 .given .1))
 
 returns-3 : tie.Need-returns-3
 returns-3 c =

@@ -26,5 +26,9 @@ index-of-spec =
     (λ c. search needs)
     (λ c. search needs)
     (λ c. search needs)
-    (λ c. (search needs, begun-less _ _ _ _ _ (c .before .loop-test .taken) (c .before .before .loop .inv .0) (c .before .before .before .before .pre) (c .key .ensures .0) (c .key .ensures .1) (c .before .before .loop .inv .1)))
+    (λ c. (
+      search needs,
+      begun-less _ _ _ _ _ (c .before .loop-test .taken) (c .before .before .loop .inv .0) (c .before .before .before .before .pre)
+          (c .key .ensures .0) (c .key .ensures .1) (c .before .before .loop .inv .1),
+    ))
     (λ c. begun-end _ _ _ _ (c .loop-test .left) (c .before .loop .inv .1)))

@@ -13,8 +13,13 @@ list-conditions-spec =
     (λ c κs. omega (arith, c .before .before .before .before .before .pre .0 .conditionCount))
     (λ c. search needs)
     (λ c κs.
-    let p = c .before .before .before .before .before .before .before .before .pre in
-    (record { size = p .1 .size; low = p .1 .low }, omega (arith, p .0 .conditionCount), omega (arith, p .0 .factCount), p .2, (_, c .before .before .index-of .ensures)))
+    let p = c .before .before .before .before .before .before .before .before .pre in (
+      record { size = p .1 .size; low = p .1 .low },
+      omega (arith, p .0 .conditionCount),
+      omega (arith, p .0 .factCount),
+      p .2,
+      (_, c .before .before .index-of .ensures),
+    ))
     (λ c. search needs)
     (λ c.
     let p = c .before .before .before .before .before .before .before .before .before .before .before .pre in

@@ -16,7 +16,8 @@ pub effect-ticks-spec : {M : Type 1} → statement M
 effect-ticks-spec =
     tie.close
     (tie.spec
-    (λ s job starts ticks₀ n e₀ ticks e. (e ≤ n) × (length ticks ≡ length ticks₀) × ((j : ℕ) → j < e → (getD ticks j 0 ≡ effectTick (view job s) (scheduleOf starts) j) × (getD ticks j 0 < 8589934592)))
+    (λ s job starts ticks₀ n e₀ ticks e. (e ≤ n) × (length ticks ≡ length ticks₀) × ((j : ℕ) → j < e
+    → (getD ticks j 0 ≡ effectTick (view job s) (scheduleOf starts) j) × (getD ticks j 0 < 8589934592)))
     (λ s job starts ticks₀ n e₀ ticks e. n - e)
     (λ c. (search needs, refl, λ j h. absurd (not-suc-le-zero h)))
     (λ c κs. search needs)
@@ -25,6 +26,23 @@ effect-ticks-spec =
     (λ c. omega (arith, c .before .loop-test .taken, c .before .before .before .before .before .before .pre, c .before .before .loop .inv .1))
     (λ c. search needs)
     (λ c. search needs)
-    (λ c. let h = c .before .before .loop in (search needs, length-set (h .ticks) (h .e) (c .effect-tick .result) ∙ h .inv .1, timed-more (λ j v. (v ≡ effectTick (view (c .before .before .before .before .before .before .args .job) (now (c .before .before .before .before .before .before .args .s))) (scheduleOf (now (c .before .before .before .before .before .before .args .starts))) j) × (v < 8589934592)) (h .e) (c .effect-tick .result) (h .ticks) (omega (arith, c .before .loop-test .taken, c .before .before .before .before .before .before .pre, h .inv .1)) (c .effect-tick .ensures) (h .inv .2)))
+    (λ c.
+    let h = c .before .before .loop in (
+      search needs,
+      length-set (h .ticks) (h .e) (c .effect-tick .result) ∙ h .inv .1,
+      timed-more
+          (λ j v. (v ≡ effectTick (view (c .before .before .before .before .before .before .args .job)
+          (now (c .before .before .before .before .before .before .args .s)))
+          (scheduleOf (now (c .before .before .before .before .before .before .args .starts))) j) × (v < 8589934592)) (h .e) (c .effect-tick .result)
+          (h .ticks) (omega (arith, c .before .loop-test .taken, c .before .before .before .before .before .before .pre, h .inv .1))
+          (c .effect-tick .ensures) (h .inv .2),
+    ))
     (λ c. c .before .loop .inv .1)
-    (λ c. let h = c .before .loop in record { size = omega (arith, c .before .before .before .before .before .pre, h .inv .1); at = λ k l. h .inv .2 k (omega (arith, c .loop-test .left)) .0; low = λ k l. h .inv .2 k (omega (arith, c .loop-test .left)) .1 }))
+    (λ c.
+    let h = c .before .loop in
+    record {
+      size = omega (arith, c .before .before .before .before .before .pre, h .inv .1);
+      at = λ k l. h .inv .2 k
+          (omega (arith, c .loop-test .left)) .0;
+      low = λ k l. h .inv .2 k (omega (arith, c .loop-test .left)) .1;
+    }))

@@ -16,7 +16,8 @@ pub first-ticks-spec : {M : Type 1} → statement M
 first-ticks-spec =
     tie.close
     (tie.spec
-    (λ s job starts ticks₀ n c₀ ticks c. (c ≤ n) × (length ticks ≡ length ticks₀) × ((j : ℕ) → j < c → (getD ticks j 0 ≡ firstTick (view job s) (scheduleOf starts) j) × (getD ticks j 0 < 8589934592)))
+    (λ s job starts ticks₀ n c₀ ticks c. (c ≤ n) × (length ticks ≡ length ticks₀) × ((j : ℕ) → j < c
+    → (getD ticks j 0 ≡ firstTick (view job s) (scheduleOf starts) j) × (getD ticks j 0 < 8589934592)))
     (λ s job starts ticks₀ n c₀ ticks c. n - c)
     (λ c. (search needs, refl, λ j h. absurd (not-suc-le-zero h)))
     (λ c κs. search needs)
@@ -25,6 +26,23 @@ first-ticks-spec =
     (λ c. omega (arith, c .before .loop-test .taken, c .before .before .before .before .before .before .pre, c .before .before .loop .inv .1))
     (λ c. search needs)
     (λ c. search needs)
-    (λ c. let h = c .before .before .loop in (search needs, length-set (h .ticks) (h .c) (c .first-tick .result) ∙ h .inv .1, timed-more (λ j v. (v ≡ firstTick (view (c .before .before .before .before .before .before .args .job) (now (c .before .before .before .before .before .before .args .s))) (scheduleOf (now (c .before .before .before .before .before .before .args .starts))) j) × (v < 8589934592)) (h .c) (c .first-tick .result) (h .ticks) (omega (arith, c .before .loop-test .taken, c .before .before .before .before .before .before .pre, h .inv .1)) (c .first-tick .ensures) (h .inv .2)))
+    (λ c.
+    let h = c .before .before .loop in (
+      search needs,
+      length-set (h .ticks) (h .c) (c .first-tick .result) ∙ h .inv .1,
+      timed-more
+          (λ j v. (v ≡ firstTick (view (c .before .before .before .before .before .before .args .job)
+          (now (c .before .before .before .before .before .before .args .s)))
+          (scheduleOf (now (c .before .before .before .before .before .before .args .starts))) j) × (v < 8589934592)) (h .c) (c .first-tick .result)
+          (h .ticks) (omega (arith, c .before .loop-test .taken, c .before .before .before .before .before .before .pre, h .inv .1))
+          (c .first-tick .ensures) (h .inv .2),
+    ))
     (λ c. c .before .loop .inv .1)
-    (λ c. let h = c .before .loop in record { size = omega (arith, c .before .before .before .before .before .pre, h .inv .1); at = λ k l. h .inv .2 k (omega (arith, c .loop-test .left)) .0; low = λ k l. h .inv .2 k (omega (arith, c .loop-test .left)) .1 }))
+    (λ c.
+    let h = c .before .loop in
+    record {
+      size = omega (arith, c .before .before .before .before .before .pre, h .inv .1);
+      at = λ k l. h .inv .2 k
+          (omega (arith, c .loop-test .left)) .0;
+      low = λ k l. h .inv .2 k (omega (arith, c .loop-test .left)) .1;
+    }))

@@ -28,5 +28,13 @@ planned-starts-spec =
     (λ c. omega (arith, c .before .before .before .before .pre))
     (λ c. search needs)
     (λ c. search needs)
-    (λ c. let h = c .before .before .loop in let p = c .before .before .before .before .pre in (search needs, length-set (h .starts) (h .k) (c .step-start .result) ∙ h .inv .1, rw add-one (take-suc-set (h .starts) (h .k) (c .step-start .result) (omega (arith, p)) ∙ ap₂ (λ (l : List ℕ) (v : ℕ). l ++ (v ∷ [])) (h .inv .2) (c .step-start .ensures .0))))
+    (λ c.
+    let h = c .before .before .loop in
+    let p = c .before .before .before .before .pre in (
+      search needs,
+      length-set (h .starts) (h .k) (c .step-start .result) ∙ h .inv .1,
+      rw add-one
+          (take-suc-set (h .starts) (h .k) (c .step-start .result) (omega (arith, p)) ∙ ap₂ (λ (l : List ℕ) (v : ℕ). l ++ (v ∷ [])) (h .inv .2)
+          (c .step-start .ensures .0)),
+    ))
     (λ c. let h = c .before .loop in let q : h .k ≡ c .before .before .before .args .n = omega arith in (h .inv .1, rw q at (h .inv .2))))

@@ -27,5 +27,10 @@ after-all-spec =
     (λ c κs. search needs)
     (λ c. search needs)
     (λ c. search needs)
-    (λ c. let h = c .before .before .if1 .taken in (omega (arith, h), largest-more _ _ (c .before .before .before .before .loop .inv .1) (add-one _ ∙ ap suc (c .before .before .before .before .before .before .before .before .pre .at _ h)) (c .larger .ensures)))
+    (λ c.
+    let h = c .before .before .if1 .taken in (
+      omega (arith, h),
+      largest-more _ _ (c .before .before .before .before .loop .inv .1)
+          (add-one _ ∙ ap suc (c .before .before .before .before .before .before .before .before .pre .at _ h)) (c .larger .ensures),
+    ))
     (λ c. let i = c .before .before .loop .inv in largest-end _ _ _ (i .1) (i .0) (c .if1 .left)))

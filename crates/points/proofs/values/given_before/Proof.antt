@@ -17,7 +17,21 @@ given-before-spec =
     (λ c κs. search needs)
     (λ c. search needs)
     (λ c. search needs)
-    (λ c. omega (arith, c .before .record-at .ensures, c .before .before .before .before .before .before .pre .known (omega (arith, c .before .before .if1 .taken, c .before .before .before .begin-of .ensures)) .0))
-    (λ c. search (needs, subst (λ k. getD (c .before .before .before .before .before .before .args .ticks .now) k 0 < 8589934592) (sym (c .before .record-at .ensures)) (c .before .before .before .before .before .before .pre .known (omega (arith, c .before .before .if1 .taken, c .before .before .before .begin-of .ensures)) .1)))
-    (λ c. rw (lt-ltb _ _ (let h : getD (c .before .before .before .before .before .before .args .sorted .now) (c .before .before .before .before .before .before .args .key) 0 < c .before .before .before .before .before .before .args .p = omega (arith, c .before .before .if1 .taken, c .before .before .before .begin-of .ensures) in h)) (ap (λ k. getD (c .before .before .before .before .before .before .args .ticks .now) k 0 + 1) (c .before .record-at .ensures)))
-    (λ c. rw (le-ltb _ _ (let h : c .before .before .before .before .args .p ≤ getD (c .before .before .before .before .args .sorted .now) (c .before .before .before .before .args .key) 0 = omega (arith, c .if1 .left, c .before .begin-of .ensures) in h)) refl))
+    (λ c. omega (
+      arith,
+      c .before .record-at .ensures,
+      c .before .before .before .before .before .before .pre .known
+          (omega (arith, c .before .before .if1 .taken, c .before .before .before .begin-of .ensures)) .0,
+    ))
+    (λ c. search (
+      needs,
+      subst (λ k. getD (c .before .before .before .before .before .before .args .ticks .now) k 0 < 8589934592)
+          (sym (c .before .record-at .ensures)) (c .before .before .before .before .before .before .pre .known
+          (omega (arith, c .before .before .if1 .taken, c .before .before .before .begin-of .ensures)) .1),
+    ))
+    (λ c. rw (lt-ltb _ _
+    (let h : getD (c .before .before .before .before .before .before .args .sorted .now) (c .before .before .before .before .before .before .args .key) 0 < c .before .before .before .before .before .before .args .p = omega (arith, c .before .before .if1 .taken, c .before .before .before .begin-of .ensures) in
+    h)) (ap (λ k. getD (c .before .before .before .before .before .before .args .ticks .now) k 0 + 1) (c .before .record-at .ensures)))
+    (λ c. rw (le-ltb _ _
+    (let h : c .before .before .before .before .args .p ≤ getD (c .before .before .before .before .args .sorted .now) (c .before .before .before .before .args .key) 0 = omega (arith, c .if1 .left, c .before .begin-of .ensures) in
+    h)) refl))

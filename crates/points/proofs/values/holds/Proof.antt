@@ -13,4 +13,5 @@ holds-spec =
     (λ c κs. search needs)
     (λ c. rw (lt-ltb _ _ (c .if1 .taken)) refl)
     (λ c. rw (le-ltb _ _ (c .before .if1 .left), lt-ltb _ _ (c .if2 .taken)) refl)
-    (λ c. rw (le-ltb _ _ (c .before .before .if1 .left), le-ltb _ _ (c .before .if2 .left)) (ap (λ v. eqb v (c .before .before .before .before .args .value)) (c .fact-initial .ensures))))
+    (λ c. rw (le-ltb _ _ (c .before .before .if1 .left), le-ltb _ _ (c .before .if2 .left))
+    (ap (λ v. eqb v (c .before .before .before .before .args .value)) (c .fact-initial .ensures))))

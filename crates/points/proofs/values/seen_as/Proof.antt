@@ -19,4 +19,8 @@ seen-as-spec =
     (λ c κs. search needs)
     (λ c κs. let p = c .before .before .before .before .before .before .pre in (p .0, p .1, omega (arith, c .other .ensures)))
     (λ c κs. search needs)
-    (λ c. let d = c .before .before .before .before .before .before .before .before in held _ _ _ _ _ (d .pre .2) (c .before .before .before .last-given .ensures) (c .before .last-given2 .ensures ∙ ap (λ (v : ℕ). lastGiven (view (d .args .job) (now (d .args .s))) (scheduleOf (now (d .args .starts))) (d .args .fact) v (d .args .t)) (c .before .before .other .ensures)) (c .holds .ensures)))
+    (λ c.
+    let d = c .before .before .before .before .before .before .before .before in
+    held _ _ _ _ _ (d .pre .2) (c .before .before .before .last-given .ensures)
+    (c .before .last-given2 .ensures ∙ ap (λ (v : ℕ). lastGiven (view (d .args .job) (now (d .args .s))) (scheduleOf (now (d .args .starts)))
+    (d .args .fact) v (d .args .t)) (c .before .before .other .ensures)) (c .holds .ensures)))

@@ -15,4 +15,8 @@ in-bounds-spec =
     (λ c. search needs)
     (λ c κs. search needs)
     (λ c. search needs)
-    (λ c. rw (c .before .before .before .before .before .before .level-initial .ensures .0, c .before .before .before .before .before .level-least .ensures .0, c .before .level-most .ensures .0) refl))
+    (λ c. rw (
+      c .before .before .before .before .before .before .level-initial .ensures .0,
+      c .before .before .before .before .before .level-least .ensures .0,
+      c .before .level-most .ensures .0,
+    ) refl))

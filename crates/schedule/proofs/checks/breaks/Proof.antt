@@ -25,5 +25,19 @@ breaks-spec =
     (λ c κs. search needs)
     (λ c κs. search needs)
     (λ c κs. search needs)
-    (λ c. let p = c .before .before .before .before .before .before .before .before .before .before .before .before .before .pre in let a = c .before .before .before .before .before .before .before .before .before .before .before .before .before .args in breaks-inside _ _ _ _ (ap₂ (λ (i k : ℕ). not (eqb i k)) (c .before .before .effect-step .ensures) (c .before .condition-step .ensures)) (c .opposes .ensures ∙ ap₂ (opposes (view (a .job) (now (a .s))) (a .e)) (c .before .before .before .before .condition-fact .ensures) (c .before .before .before .condition-value .ensures)) (rw (c .before .before .before .before .before .before .before .first-tick .ensures .0, c .before .before .before .before .before .before .last-tick .ensures .0, p .0 .timed .at _ (p .1)) at (c .before .before .before .before .before .if1 .taken)))
-    (λ c. let p = c .before .before .before .before .before .before .before .before .pre in breaks-outside _ _ _ _ (rw (c .before .before .first-tick .ensures .0, c .before .last-tick .ensures .0, p .0 .timed .at _ (p .1)) at (c .if1 .left))))
+    (λ c.
+    let p = c .before .before .before .before .before .before .before .before .before .before .before .before .before .pre in
+    let a = c .before .before .before .before .before .before .before .before .before .before .before .before .before .args in
+    breaks-inside _ _ _ _ (ap₂ (λ (i k : ℕ). not (eqb i k)) (c .before .before .effect-step .ensures) (c .before .condition-step .ensures))
+    (c .opposes .ensures ∙ ap₂ (opposes (view (a .job) (now (a .s))) (a .e)) (c .before .before .before .before .condition-fact .ensures)
+    (c .before .before .before .condition-value .ensures))
+    (rw (
+      c .before .before .before .before .before .before .before .first-tick .ensures .0,
+      c .before .before .before .before .before .before .last-tick .ensures .0,
+      p .0 .timed .at _ (p .1),
+    ) at
+    (c .before .before .before .before .before .if1 .taken)))
+    (λ c.
+    let p = c .before .before .before .before .before .before .before .before .pre in
+    breaks-outside _ _ _ _ (rw (c .before .before .first-tick .ensures .0, c .before .last-tick .ensures .0, p .0 .timed .at _ (p .1)) at
+    (c .if1 .left))))

@@ -10,13 +10,30 @@ broken-spec =
     (λ c. search needs)
     (λ c κs. search needs)
     (λ c. search needs)
-    (λ c κs. (c .before .before .before .before .before .before .before .before .pre .0 .effects, rw (c .enum-told2 .given .1) at (c .before .before .before .before .before .before .before .before .pre .1)))
+    (λ c κs. (
+      c .before .before .before .before .before .before .before .before .pre .0 .effects,
+      rw (c .enum-told2 .given .1) at
+          (c .before .before .before .before .before .before .before .before .pre .1),
+    ))
     (λ c. search needs)
-    (λ c κs. (c .before .before .before .before .before .before .before .before .pre .0 .effects, rw (c .enum-told3 .given .1) at (c .before .before .before .before .before .before .before .before .pre .1)))
+    (λ c κs. (
+      c .before .before .before .before .before .before .before .before .pre .0 .effects,
+      rw (c .enum-told3 .given .1) at
+          (c .before .before .before .before .before .before .before .before .pre .1),
+    ))
     (λ c. search needs)
-    (λ c κs. (c .before .before .before .before .before .before .before .before .pre .0 .uses, rw (c .enum-told4 .given .1) at (c .before .before .before .before .before .before .before .before .pre .1)))
+    (λ c κs. (
+      c .before .before .before .before .before .before .before .before .pre .0 .uses,
+      rw (c .enum-told4 .given .1) at
+          (c .before .before .before .before .before .before .before .before .pre .1),
+    ))
     (λ c. search needs)
-    (λ c κs. record { known = c .before .before .before .before .before .before .before .before .pre .0 .effects; after = c .before .before .before .before .before .before .before .before .pre .0 .after; counted = rw (c .enum-told5 .given .1) at (c .before .before .before .before .before .before .before .before .pre .1) })
+    (λ c κs. record {
+      known = c .before .before .before .before .before .before .before .before .pre .0 .effects;
+      after = c .before .before .before .before .before .before .before .before .pre .0 .after;
+      counted = rw (c .enum-told5 .given .1) at
+          (c .before .before .before .before .before .before .before .before .pre .1);
+    })
     (λ c. search needs)
     (λ c κs. search needs)
     (λ c. rw (c .before .enum-told .given .1) (c .moved .ensures))

@@ -18,7 +18,11 @@ first-breaking-spec =
     (λ s job starts ticks facts uses levels end rule n k₀ k. (k ≤ n) × (lowest k (broken (view job s) (scheduleOf starts) rule) ≡ k))
     (λ s job starts ticks facts uses levels end rule n k₀ k. n - k)
     (λ c. (search needs, lowest-start _))
-    (λ c κs. (c .before .before .before .before .before .before .before .before .pre .0, omega (arith, c .loop-test .taken, c .before .before .before .before .before .before .before .before .pre .1)))
+    (λ c κs. (
+      c .before .before .before .before .before .before .before .before .pre .0,
+      omega
+          (arith, c .loop-test .taken, c .before .before .before .before .before .before .before .before .pre .1),
+    ))
     (λ c. lowest-found _ _ _ (c .before .before .before .loop .inv .1) (c .before .before .loop-test .taken) (c .before .broken .ensures) (c .if1 .taken))
     (λ c. search needs)
     (λ c. search needs)

@@ -11,6 +11,12 @@ goal-fails-spec =
     (tie.spec
     (λ c κs. search needs)
     (λ c κs. search needs)
-    (λ c κs. let p = c .before .before .before .before .before .before .pre in (p .known, rw (c .before .goal-fact .ensures) (p .known .form .goalFact _ (p .counted)), rw (c .goal-value .ensures) (p .known .form .goalValue _ (p .counted))))
+    (λ c κs.
+    let p = c .before .before .before .before .before .before .pre in (
+      p .known,
+      rw (c .before .goal-fact .ensures) (p .known .form .goalFact _ (p .counted)),
+      rw (c .goal-value .ensures)
+          (p .known .form .goalValue _ (p .counted)),
+    ))
     (λ c κs. (c .before .before .before .before .before .before .before .pre .known, c .before .before .before .before .before .before .before .pre .counted))
     (λ c. cc (c .before .before .before .before .before .before .before .before .pre .after)))

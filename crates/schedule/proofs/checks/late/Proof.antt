@@ -17,6 +17,10 @@ late-spec =
     (λ c κs. search needs)
     (λ c κs. search needs)
     (λ c. search needs)
-    (λ c κs. let p = c .before .before .before .before .before .before .before .before .pre in (p .0, rw (c .before .goal-fact .ensures) (p .0 .form .goalFact _ (p .1)), rw (c .goal-value .ensures) (p .0 .form .goalValue _ (p .1))))
+    (λ c κs.
+    let p = c .before .before .before .before .before .before .before .before .pre in
+    (p .0, rw (c .before .goal-fact .ensures) (p .0 .form .goalFact _ (p .1)), rw (c .goal-value .ensures) (p .0 .form .goalValue _ (p .1))))
     (λ c κs. c .before .before .before .before .before .before .before .before .before .pre)
-    (λ c. let d = c .before .before .before .before in rw (ne-eqb _ _ (λ e. d .if1 .left (d .before .goal-deadline .ensures .0 ∙ e))) (cc (add-one (d .before .goal-deadline .result)))))
+    (λ c.
+    let d = c .before .before .before .before in
+    rw (ne-eqb _ _ (λ e. d .if1 .left (d .before .goal-deadline .ensures .0 ∙ e))) (cc (add-one (d .before .goal-deadline .result)))))
