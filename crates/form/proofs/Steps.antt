@@ -10,23 +10,20 @@ use Rattle.form.specs.Against.{bothWays, usesTwice, opposesOwn}
 use Rattle.form.specs.Keys.{stepKey, effectKey, conditionKey, useKey}
 
 -- only records of one step and fact or level pass, so they share a key
+shared-key : (a b x y : ℕ) → (eqb a b && eqb x y) ≡ true → stepKey b y ≡ stepKey a x
+shared-key a b x y t = let e = and-both _ _ t in ap₂ stepKey (sym (eqb-true _ _ (e .0))) (sym (eqb-true _ _ (e .1)))
+
 pub own-both-ways : (m : Model) (e k : ℕ) → bothWays m e k ≡ true → effectKey m k ≡ effectKey m e
 unfolding bothWays
-own-both-ways m e k t =
-    let a = and-both _ _ (and-both _ _ (and-both _ _ t .0) .0) in
-    ap₂ stepKey (sym (eqb-true _ _ (a .0))) (sym (eqb-true _ _ (a .1)))
+own-both-ways m e k t = shared-key _ _ _ _ (and-both _ _ (and-both _ _ t .0) .0)
 
 pub own-uses-twice : (m : Model) (u k : ℕ) → usesTwice m u k ≡ true → useKey m k ≡ useKey m u
 unfolding usesTwice
-own-uses-twice m u k t =
-    let a = and-both _ _ (and-both _ _ t .0) in
-    ap₂ stepKey (sym (eqb-true _ _ (a .0))) (sym (eqb-true _ _ (a .1)))
+own-uses-twice m u k t = shared-key _ _ _ _ (and-both _ _ t .0)
 
 pub own-opposes : (m : Model) (e k : ℕ) → opposesOwn m e k ≡ true → conditionKey m k ≡ effectKey m e
 unfolding opposesOwn
-own-opposes m e k t =
-    let a = and-both _ _ (and-both _ _ (and-both _ _ (and-both _ _ t .0) .0) .0) in
-    ap₂ stepKey (sym (eqb-true _ _ (a .0))) (sym (eqb-true _ _ (a .1)))
+own-opposes m e k t = shared-key _ _ _ _ (and-both _ _ (and-both _ _ (and-both _ _ t .0) .0) .0)
 
 -- A field that was tested before the others fails them all, or leaves the answer to them; x and y are the code's readings.
 module _ (m : Model) (k j : ℕ) {x y : ℕ} where

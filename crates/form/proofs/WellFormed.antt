@@ -1,16 +1,14 @@
 -- A file that refusals 1 to 7 pass holds a well-formed job.
-use Prim.Native.Nat.{ℕ, _≤_, _<_, min}
-use mathlib.Core.Path.{_≡_, refl, sym, ap, ap₂, subst, _∙_}
-use mathlib.Core.Bool.{Bool, true, false, not, _&&_, _||_, cond}
+use Prim.Native.Nat.{ℕ, _≤_, _<_}
+use mathlib.Core.Path.{_≡_, sym, ap, ap₂, subst, _∙_}
+use mathlib.Core.Bool.{Bool, true, false, not, _&&_, _||_}
 use mathlib.Core.List.{List, [], _∷_}
 use mathlib.Core.Logic.{_⊎_, inl, inr, ⊎-elim}
 use native.Mathlib.Omega.{arith}
-use native.Mathlib.Decide.{ℕ-discrete, decLt}
-use borrow.Author.Tests.{ltb-true, ltb-false, leb-true, leb-false, eqb-true, eqb-false, not-true, not-false, eq-eqb, ne-eqb, le-leb, lt-ltb, le-ltb}
-use lib.Dec.{ltb, leb, eqb, lit<}
+use borrow.Author.Tests.{ltb-true, ltb-false, leb-true, eqb-true, eqb-false, not-true, not-false, eq-eqb, le-leb, lt-ltb}
+use lib.Dec.{leb, eqb, lit<}
 use lib.ListN.{getD}
 use Rattle.little_endian.specs.Bytes.{u16At}
-use Rattle.laws.specs.Search.{any}
 use Rattle.laws.proofs.Search.{either, contrary, by-order, and-both, or-both, any-false, owner-none}
 use Rattle.job.specs.declared.layout.Table.the-variants.{Facts, Levels, Steps, Conditions, Effects, Uses, Goals}
 use Rattle.verdict.specs.declared.Verdict.the-variants.{RecordOutOfRange}
@@ -18,13 +16,12 @@ use Rattle.job.specs.declared.layout.Table.{Table}
 use Rattle.job.specs.declared.layout.Counts.{Counts}
 use Rattle.job.specs.declared.layout.Job.{Job}
 use Rattle.verdict.specs.Verdict.{number, _then_}
-use Rattle.job.specs.Layout.{countsOf, countList, highest, jobOf}
-use Rattle.form.specs.Header.{countTooHigh}
-use Rattle.job.specs.Model.{Model, modelOf}
-use Rattle.job.specs.Model.{noDeadline}
+use Rattle.job.specs.Layout.{mostUses, countsOf, countList, highest, jobOf, countTooHigh}
+use Rattle.job.specs.Model.{Model, modelOf, lastStart, longest, lastDeadline, noDeadline, signBias, lowestLevel, highestLevel, lowestAmount, highestAmount}
 use Rattle.form.specs.Ranges.{levelInRange, factOk, levelOk, stepOk, conditionOk, effectOk, useOk, goalOk, recordOk, recordBroken, countIn}
 use Rattle.form.specs.Against.{bothWays, usesTwice, opposesOwn, setBefore, usedBefore, opposesAny, bothWaysStep, usesTwiceStep, opposesOwnStep}
 use Rattle.form.specs.Header.{headerCheck}
+use Rattle.form.specs.Keys.{Linkable}
 use Rattle.form.specs.Refusals.{tableCheck, recordCheck, againstStep, stepCheck, formCheck}
 use Rattle.job.specs.WellFormed.{WellFormed}
 use Rattle.verdict.proofs.Chain.{then-zero, refuse-zero, lowest-zero}
@@ -63,32 +60,32 @@ steps-zero : (m : Model) → number (stepCheck m) ≡ 0 → m .steps ≤ against
 unfolding stepCheck
 steps-zero m e = ltb-false _ _ (refuse-zero _ _ (λ z. let y : _≡_ {A = ℕ} 7 0 = z in omega arith) e)
 
-deadline : {d : ℕ} → (leb d 1100000 || eqb d noDeadline) ≡ true → (d ≤ 1100000) ⊎ (d ≡ noDeadline)
+deadline : {d : ℕ} → (leb d lastDeadline || eqb d noDeadline) ≡ true → (d ≤ lastDeadline) ⊎ (d ≡ noDeadline)
 deadline {d} e =
     ⊎-elim
-    (λ (t : leb d 1100000 ≡ true). inl (leb-true _ _ t))
-    (λ (f : leb d 1100000 ≡ false). inr (eqb-true _ _ (sym (ap (λ b. b || eqb d noDeadline) f) ∙ e)))
-    (either (leb d 1100000))
+    (λ (t : leb d lastDeadline ≡ true). inl (leb-true _ _ t))
+    (λ (f : leb d lastDeadline ≡ false). inr (eqb-true _ _ (sym (ap (λ b. b || eqb d noDeadline) f) ∙ e)))
+    (either (leb d lastDeadline))
 
 -- what each record's test says, part by part
 fact-in : (m : Model) (k : ℕ) → factOk m k ≡ true → m .initial k ≤ 1
 unfolding factOk
 fact-in m k e = leb-true _ _ e
 
-level-in : (m : Model) (k : ℕ) → levelOk m k ≡ true → (1147483648 ≤ m .levelLeast k) × (m .levelLeast k ≤ m .levelInitial k) × (m .levelInitial k ≤ m .levelMost k) × (m .levelMost k ≤ 3147483648)
+level-in : (m : Model) (k : ℕ) → levelOk m k ≡ true → (lowestLevel ≤ m .levelLeast k) × (m .levelLeast k ≤ m .levelInitial k) × (m .levelInitial k ≤ m .levelMost k) × (m .levelMost k ≤ highestLevel)
 unfolding levelOk
 level-in m k e =
     let d = and-both _ _ e in
     let c = and-both _ _ (d .0) in
     let b = and-both _ _ (c .0) in
     let a = and-both (levelInRange (m .levelInitial k)) _ (b .0) in (
-      leb-true _ _ (and-both _ (leb (m .levelLeast k) 3147483648) (a .1) .0),
+      leb-true _ _ (and-both _ (leb (m .levelLeast k) highestLevel) (a .1) .0),
       leb-true _ _ (c .1),
       leb-true _ _ (d .1),
-      leb-true _ _ (and-both (leb 1147483648 (m .levelMost k)) _ (b .1) .1),
+      leb-true _ _ (and-both (leb lowestLevel (m .levelMost k)) _ (b .1) .1),
     )
 
-step-in : (m : Model) (k : ℕ) → stepOk m k ≡ true → (m .start k ≤ 1000000) × (m .stepLength k ≤ 100000) × (m .fixed k ≤ 1)
+step-in : (m : Model) (k : ℕ) → stepOk m k ≡ true → (m .start k ≤ lastStart) × (m .stepLength k ≤ longest) × (m .fixed k ≤ 1)
 unfolding stepOk
 step-in m k e =
     let b = and-both _ _ e in
@@ -112,7 +109,7 @@ effect-in m k e =
     let a = and-both _ _ (b .0) in
     (ltb-true _ _ (a .0), ltb-true _ _ (a .1), leb-true _ _ (b .1), leb-true _ _ (c .1))
 
-use-in : (m : Model) (k : ℕ) → useOk m k ≡ true → (m .useStep k < m .steps) × (m .useLevel k < m .levels) × (m .useAt k ≤ m .stepLength (m .useStep k)) × (2146483648 ≤ m .useAmount k) × (m .useAmount k ≤ 2148483648) × (m .useAmount k ≡ 2147483648 → ⊥)
+use-in : (m : Model) (k : ℕ) → useOk m k ≡ true → (m .useStep k < m .steps) × (m .useLevel k < m .levels) × (m .useAt k ≤ m .stepLength (m .useStep k)) × (lowestAmount ≤ m .useAmount k) × (m .useAmount k ≤ highestAmount) × (m .useAmount k ≡ signBias → ⊥)
 unfolding useOk
 use-in m k e =
     let f = and-both _ _ e in
@@ -122,7 +119,7 @@ use-in m k e =
     let a = and-both _ _ (b .0) in
     (ltb-true _ _ (a .0), ltb-true _ _ (a .1), leb-true _ _ (b .1), leb-true _ _ (c .1), leb-true _ _ (d .1), eqb-false _ _ (not-true _ (f .1)))
 
-goal-in : (m : Model) (k : ℕ) → goalOk m k ≡ true → (m .goalFact k < m .facts) × (m .goalValue k ≤ 1) × ((m .goalDeadline k ≤ 1100000) ⊎ (m .goalDeadline k ≡ noDeadline))
+goal-in : (m : Model) (k : ℕ) → goalOk m k ≡ true → (m .goalFact k < m .facts) × (m .goalValue k ≤ 1) × ((m .goalDeadline k ≤ lastDeadline) ⊎ (m .goalDeadline k ≡ noDeadline))
 unfolding goalOk
 goal-in m k e =
     let b = and-both _ _ e in
@@ -245,13 +242,13 @@ header s e =
     )
 
 -- so the records can be linked
-pub few-records : (s : List ℕ) (job : Job) → job ≡ jobOf s → number (headerCheck s) ≡ 0 → (job .count .conditions ≤ 512) × (job .count .effects ≤ 512) × (job .count .uses ≤ 512)
+pub few-records : (s : List ℕ) (job : Job) → job ≡ jobOf s → number (headerCheck s) ≡ 0 → Linkable (job .count)
 unfolding jobOf
 few-records s job e z =
     let n = counts (countsOf s) (header s z .1) in
-    let u : countsOf s .uses ≤ 256 = n 5 (lit< tt) in
-    subst (λ (j : Job). (j .count .conditions ≤ 512) × (j .count .effects ≤ 512) × (j .count .uses ≤ 512)) (sym e)
-    (n 3 (lit< tt), n 4 (lit< tt), omega arith)
+    let u : countsOf s .uses ≤ mostUses = n 5 (lit< tt) in
+    subst (λ (j : Job). Linkable (j .count)) (sym e)
+    (record { conditions = n 3 (lit< tt); effects = n 4 (lit< tt); uses = omega arith })
 
 pub well-formed : (s : List ℕ) → number (formCheck s) ≡ 0 → WellFormed (modelOf s)
 unfolding formCheck jobOf

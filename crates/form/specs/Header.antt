@@ -1,21 +1,15 @@
--- Refusals 1 to 5: the header and the layout.
+-- For callers: refusals 1 to 5, the header and the layout.
 use Prim.Native.Nat.{ℕ}
 use mathlib.Core.Bool.{Bool, _&&_, _||_, not}
 use mathlib.Core.List.{List}
-use lib.ListN.{length, getD}
+use lib.ListN.{length}
 use lib.Dec.{ltb, eqb}
-use Rattle.laws.specs.Search.{any}
 use Rattle.little_endian.specs.Bytes.{u16At, u32At}
 use Rattle.verdict.specs.declared.Verdict.{Verdict}
 use Rattle.verdict.specs.declared.Verdict.the-variants.{FileTooShort, UnknownEdition, MarkOutOfRange, CountTooHigh, LayoutDisagrees}
 use Rattle.verdict.specs.Verdict.{_then_, refuseIf}
-use Rattle.job.specs.declared.layout.Counts.{Counts}
 use Rattle.job.specs.declared.layout.Positions.{Positions}
-use Rattle.job.specs.Layout.{edition, headerWidth, highest, countList, countsOf, positionsOf}
-
--- refusal 4: a count exceeds its highest
-unfoldable pub countTooHigh : Counts → Bool
-countTooHigh c = any 7 (λ t. ltb (getD highest t 0) (getD (countList c) t 0))
+use Rattle.job.specs.Layout.{edition, headerWidth, countsOf, positionsOf, countTooHigh}
 
 -- refusal 5, the other way round: every offset and the file's length agree with the tables
 unfoldable pub layoutAgrees : List ℕ → Positions → Bool

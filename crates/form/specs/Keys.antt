@@ -1,10 +1,14 @@
--- The keys of a step's effects, conditions and uses, by which refusal 7 looks for those of one fact or level.
-use Prim.Native.Nat.{ℕ, _+_, _*_, _%_}
+-- Inner: what the search of refusal 7 presumes of its keys and its indexes. No caller of the form check has to believe it.
+use Prim.Native.Nat.{ℕ, _+_, _*_, _%_, _≤_, _<_}
+use mathlib.Core.Path.{_≡_}
+use mathlib.Core.List.{List}
+use Rattle.timeline.specs.Indexed.{keyCount, capacity, Growing}
+use Rattle.job.specs.declared.layout.Counts.{Counts}
 use Rattle.job.specs.Model.{Model}
 
--- the key of a step with a fact or level, of a fact with a value, of a level
+-- the key of a step with a fact or level
 unfoldable pub stepKey : ℕ → ℕ → ℕ
-stepKey step what = (8 * step + what) % 512
+stepKey step what = (8 * step + what) % keyCount
 
 -- the key of effect, condition or use k by its step
 abbrev pub effectKey : Model → ℕ → ℕ
@@ -15,3 +19,16 @@ conditionKey m k = stepKey (m .conditionStep k) (m .conditionFact k)
 
 abbrev pub useKey : Model → ℕ → ℕ
 useKey m k = stepKey (m .useStep k) (m .useLevel k)
+
+-- counts for which an index has room
+pub record Linkable (n : Counts) : Type 0 where
+  pub conditions : n .conditions ≤ capacity
+  pub effects : n .effects ≤ capacity
+  pub uses : n .uses ≤ capacity
+
+-- a search back along the records of key f in an index that holds the first n; key is f as the code has it
+pub record SearchBack (keyOf : ℕ → ℕ) (n f key : ℕ) (index : List ℕ) : Type 0 where
+  pub growing : Growing keyOf n index
+  pub few : n ≤ capacity
+  pub same : key ≡ f
+  pub low : key < keyCount

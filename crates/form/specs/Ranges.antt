@@ -1,14 +1,14 @@
--- The ranges of "The job file", record by record, in table order.
+-- For callers: the ranges of "The job file", record by record, in table order.
 use Prim.Native.Nat.{ℕ}
 use mathlib.Core.Bool.{Bool, _&&_, _||_, not}
 use lib.Dec.{ltb, leb, eqb}
 use Rattle.job.specs.declared.layout.Table.{Table}
 use Rattle.job.specs.declared.layout.Table.the-variants.{Facts, Levels, Steps, Conditions, Effects, Uses, Goals}
-use Rattle.job.specs.Model.{Model, noDeadline}
+use Rattle.job.specs.Model.{Model, lastStart, longest, lastDeadline, noDeadline, signBias, lowestLevel, highestLevel, lowestAmount, highestAmount}
 
--- a number plus 2147483648 is within ±1,000,000,000
+-- a number plus signBias is within ±1,000,000,000
 abbrev pub levelInRange : ℕ → Bool
-levelInRange n = leb 1147483648 n && leb n 3147483648
+levelInRange n = leb lowestLevel n && leb n highestLevel
 
 -- Fact: 0 or 1
 unfoldable pub factOk : Model → ℕ → Bool
@@ -23,7 +23,7 @@ levelOk m k =
 
 -- Step: start to 1,000,000, length to 100,000, fixed mark 0 or 1
 unfoldable pub stepOk : Model → ℕ → Bool
-stepOk m k = leb (m .start k) 1000000 && leb (m .stepLength k) 100000 && leb (m .fixed k) 1
+stepOk m k = leb (m .start k) lastStart && leb (m .stepLength k) longest && leb (m .fixed k) 1
 
 -- Condition: a step and a fact that are counted, from ≤ to ≤ the step's length, value 0 or 1
 unfoldable pub conditionOk : Model → ℕ → Bool
@@ -45,15 +45,15 @@ unfoldable pub useOk : Model → ℕ → Bool
 useOk m k =
     ltb (m .useStep k) (m .steps) && ltb (m .useLevel k) (m .levels)
     && leb (m .useAt k) (m .stepLength (m .useStep k))
-    && leb 2146483648 (m .useAmount k)
-    && leb (m .useAmount k) 2148483648
-    && not (eqb (m .useAmount k) 2147483648)
+    && leb lowestAmount (m .useAmount k)
+    && leb (m .useAmount k) highestAmount
+    && not (eqb (m .useAmount k) signBias)
 
 -- Goal: a fact that is counted, value 0 or 1, a deadline to 1,100,000 or none
 unfoldable pub goalOk : Model → ℕ → Bool
 goalOk m k =
     ltb (m .goalFact k) (m .facts) && leb (m .goalValue k) 1
-    && (leb (m .goalDeadline k) 1100000 || eqb (m .goalDeadline k) noDeadline)
+    && (leb (m .goalDeadline k) lastDeadline || eqb (m .goalDeadline k) noDeadline)
 
 -- how many records a table has
 abbrev pub countIn : Model → Table → ℕ

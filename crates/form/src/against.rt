@@ -6,12 +6,13 @@ ghost use mathlib.Core.Bool.{_&&_, cond};
 ghost use Prim.Native.Nat.{ℕ, min, _≤_, _<_};
 ghost use lib.Dec.{ltb};
 ghost use Rattle.job.specs.Model.{view, effectOf};
-ghost use Rattle.form.specs.Keys.{stepKey, effectKey, conditionKey, useKey};
-ghost use Rattle.timeline.specs.Indexed.{Growing};
+ghost use Rattle.form.specs.Keys.{stepKey, effectKey, conditionKey, useKey, Linkable, SearchBack};
+ghost use Rattle.timeline.specs.Indexed.{keyCount, capacity, Growing};
 ghost use Rattle.form.specs.Against.{bothWays, usesTwice, opposesOwn, setBefore, usedBefore, opposesAny, bothWaysStep, usesTwiceStep, opposesOwnStep};
 ghost use Rattle.form.specs.Refusals.{stepCheck};
 use job::layout::Job;
 use job::records::*;
+use timeline::index::INDEX_SIZE;
 use timeline::index::KEYS;
 use timeline::index::UNLINKED;
 use timeline::index::first_of;
@@ -22,7 +23,7 @@ use verdict::refuse_if;
 
 // The key of a step with a fact or level.
 pub fn step_key(step: u16, what: u16) -> usize
-    ensures { λ r. ⌜ (r ≡ stepKey step what) × (r < 512) ⌝ }
+    ensures { λ r. ⌜ (r ≡ stepKey step what) × (r < keyCount) ⌝ }
 {
     (8 * step as usize + what as usize) % KEYS
 }
@@ -65,7 +66,7 @@ fn opposes_own(s: &[u8], job: Job, e: Effect, c: u16) -> bool
 
 // Whether an effect before k, which is e, sets e's fact the other way, in e's step at e's tick.
 fn set_before(s: &[u8], job: Job, index: &[u16], key: usize, k: u16, e: Effect) -> bool
-    requires { ⌜ Growing (effectKey (view job (now s))) k (now index) × (k ≤ 512) × (key ≡ effectKey (view job (now s)) k) × (key < 512) × (e ≡ effectOf (view job (now s)) k) ⌝ }
+    requires { ⌜ SearchBack (effectKey (view job (now s))) k (effectKey (view job (now s)) k) key (now index) × (e ≡ effectOf (view job (now s)) k) ⌝ }
     ensures { λ r. ⌜ r ≡ setBefore (view job (now (s .entry))) k ⌝ }
 {
     let mut f = first_of(index, key);
@@ -80,7 +81,7 @@ fn set_before(s: &[u8], job: Job, index: &[u16], key: usize, k: u16, e: Effect) 
 
 // Whether a use before u uses u's level in u's step at u's tick.
 fn used_before(s: &[u8], job: Job, index: &[u16], key: usize, u: u16) -> bool
-    requires { ⌜ Growing (useKey (view job (now s))) u (now index) × (u ≤ 512) × (key ≡ useKey (view job (now s)) u) × (key < 512) ⌝ }
+    requires { ⌜ SearchBack (useKey (view job (now s))) u (useKey (view job (now s)) u) key (now index) ⌝ }
     ensures { λ r. ⌜ r ≡ usedBefore (view job (now (s .entry))) u ⌝ }
 {
     let mut v = first_of(index, key);
@@ -95,7 +96,7 @@ fn used_before(s: &[u8], job: Job, index: &[u16], key: usize, u: u16) -> bool
 
 // Whether e, if it is effect k, opposes a condition of its own step before that condition's last tick.
 fn opposes_any(s: &[u8], job: Job, index: &[u16], key: usize, e: Effect) -> bool
-    requires { ⌜ Growing (conditionKey (view job (now s))) (job .count .conditions) (now index) × (job .count .conditions ≤ 512) × (key ≡ stepKey (e .step) (e .fact)) × (key < 512) ⌝ }
+    requires { ⌜ SearchBack (conditionKey (view job (now s))) (job .count .conditions) (stepKey (e .step) (e .fact)) key (now index) ⌝ }
     ensures { λ r. ⌜ ((k : ℕ) → e ≡ effectOf (view job (now (s .entry))) k → r ≡ opposesAny (view job (now (s .entry))) k) ⌝ }
 {
     let n = job.count.conditions;
@@ -122,15 +123,15 @@ fn lower(a: u16, b: u16) -> u16
 }
 
 // Links the conditions by their step and fact.
-fn link_conditions(s: &[u8], job: Job, index: &mut [u16; 1024])
-    requires { ⌜ Growing (conditionKey (view job (now s))) 0 (now index) × (job .count .conditions ≤ 512) ⌝ }
+fn link_conditions(s: &[u8], job: Job, index: &mut [u16; INDEX_SIZE])
+    requires { ⌜ Growing (conditionKey (view job (now s))) 0 (now index) × (job .count .conditions ≤ capacity) ⌝ }
     ensures { λ _. ⌜ Growing (conditionKey (view job (now (s .entry)))) (job .count .conditions) (now (index .exit)) ⌝ }
 {
     let n = job.count.conditions;
     let mut c = 0;
     while c < n {
         let key = step_key(condition_step(s, job, c), condition_fact(s, job, c));
-        link(index, key, c);
+        link(key, c, index);
         c += 1;
     }
 }
@@ -138,12 +139,12 @@ fn link_conditions(s: &[u8], job: Job, index: &mut [u16; 1024])
 // The lowest step that sets a fact both ways at one tick or opposes its own condition before its last tick, or the count of steps.
 // The effects before each are linked, and it is held against these.
 fn effects_against(s: &[u8], job: Job) -> u16
-    requires { ⌜ (job .count .conditions ≤ 512) × (job .count .effects ≤ 512) ⌝ }
+    requires { ⌜ Linkable (job .count) ⌝ }
     ensures { λ r. ⌜ r ≡ min (bothWaysStep (view job (now (s .entry)))) (opposesOwnStep (view job (now (s .entry)))) ⌝ }
 {
-    let mut conditions = [UNLINKED; 1024];
+    let mut conditions = [UNLINKED; INDEX_SIZE];
     link_conditions(s, job, &mut conditions);
-    let mut effects = [UNLINKED; 1024];
+    let mut effects = [UNLINKED; INDEX_SIZE];
     let mut sets = job.count.steps;
     let mut opposes = job.count.steps;
     let n = job.count.effects;
@@ -155,7 +156,7 @@ fn effects_against(s: &[u8], job: Job) -> u16
         sets = lower_if(set, e.step, sets);
         let opposed = opposes_any(s, job, &conditions, key, e);
         opposes = lower_if(opposed, e.step, opposes);
-        link(&mut effects, key, k);
+        link(key, k, &mut effects);
         k += 1;
     }
     lower(sets, opposes)
@@ -163,14 +164,14 @@ fn effects_against(s: &[u8], job: Job) -> u16
 
 // The lowest step that uses a level twice at one tick, or the count of steps. Without uses no index is made.
 fn uses_against(s: &[u8], job: Job) -> u16
-    requires { ⌜ job .count .uses ≤ 512 ⌝ }
+    requires { ⌜ Linkable (job .count) ⌝ }
     ensures { λ r. ⌜ r ≡ usesTwiceStep (view job (now (s .entry))) ⌝ }
 {
     let n = job.count.uses;
     if n == 0 {
         return job.count.steps;
     }
-    let mut index = [UNLINKED; 1024];
+    let mut index = [UNLINKED; INDEX_SIZE];
     let mut best = job.count.steps;
     let mut u = 0;
     while u < n {
@@ -178,7 +179,7 @@ fn uses_against(s: &[u8], job: Job) -> u16
         let key = step_key(step, use_level(s, job, u));
         let found = used_before(s, job, &index, key, u);
         best = lower_if(found, step, best);
-        link(&mut index, key, u);
+        link(key, u, &mut index);
         u += 1;
     }
     best
@@ -186,7 +187,7 @@ fn uses_against(s: &[u8], job: Job) -> u16
 
 // Refusal 7.
 pub fn check_steps(s: &[u8], job: Job) -> Verdict
-    requires { ⌜ (job .count .conditions ≤ 512) × (job .count .effects ≤ 512) × (job .count .uses ≤ 512) ⌝ }
+    requires { ⌜ Linkable (job .count) ⌝ }
     ensures { λ r. ⌜ r ≡ stepCheck (view job (now (s .entry))) ⌝ }
 {
     let effects = effects_against(s, job);

@@ -1,26 +1,14 @@
 // Refusals 1 to 5: the header and the layout.
 ghost use mathlib.Core.Path.{_≡_};
 ghost use Rattle.job.specs.Layout.{jobOf};
-ghost use Rattle.form.specs.Header.{countTooHigh, layoutAgrees, headerCheck};
-use job::layout::Counts;
+ghost use Rattle.form.specs.Header.{layoutAgrees, headerCheck};
 use job::layout::EDITION;
 use job::layout::HEADER;
 use job::layout::Job;
 use job::layout::Positions;
+use job::layout::count_too_high;
 use verdict::Verdict;
 use verdict::refuse_if;
-
-fn count_too_high(count: Counts) -> bool
-    ensures { λ r. ⌜ r ≡ countTooHigh count ⌝ }
-{
-    (Job::FACTS < count.facts)
-        | (Job::LEVELS < count.levels)
-        | (Job::STEPS < count.steps)
-        | (Job::CONDITIONS < count.conditions)
-        | (Job::EFFECTS < count.effects)
-        | (Job::USES < count.uses)
-        | (Job::GOALS < count.goals)
-}
 
 fn layout_agrees(s: &[u8], at: Positions) -> bool
     ensures { λ r. ⌜ r ≡ layoutAgrees (now (s .entry)) at ⌝ }

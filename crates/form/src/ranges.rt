@@ -5,7 +5,15 @@ ghost use Rattle.job.specs.Model.{view};
 ghost use Rattle.form.specs.Ranges.{factOk, levelInRange, levelOk, stepOk, conditionOk, effectOk, useOk, goalOk, recordOk, recordBroken, countIn};
 ghost use Rattle.form.specs.Refusals.{tableCheck, recordCheck};
 ghost use Rattle.verdict.specs.Verdict.{_then_};
+use job::layout::HIGHEST_AMOUNT;
+use job::layout::HIGHEST_LEVEL;
 use job::layout::Job;
+use job::layout::LAST_DEADLINE;
+use job::layout::LAST_START;
+use job::layout::LONGEST;
+use job::layout::LOWEST_AMOUNT;
+use job::layout::LOWEST_LEVEL;
+use job::layout::SIGN_BIAS;
 use job::layout::Table;
 use job::reader::level_at;
 use job::records::*;
@@ -21,7 +29,7 @@ fn fact_ok(s: &[u8], job: Job, k: u16) -> bool
 fn level_in_range(n: usize) -> bool
     ensures { λ r. ⌜ r ≡ levelInRange n ⌝ }
 {
-    (1147483648 <= n) & (n <= 3147483648)
+    (LOWEST_LEVEL <= n) & (n <= HIGHEST_LEVEL)
 }
 
 fn level_ok(s: &[u8], job: Job, k: u16) -> bool
@@ -38,8 +46,8 @@ fn level_ok(s: &[u8], job: Job, k: u16) -> bool
 fn step_ok(s: &[u8], job: Job, k: u16) -> bool
     ensures { λ r. ⌜ r ≡ stepOk (view job (now (s .entry))) k ⌝ }
 {
-    (step_start(s, job, k) <= 1000000)
-        & (step_length(s, job, k) <= 100000)
+    (step_start(s, job, k) <= LAST_START)
+        & (step_length(s, job, k) <= LONGEST)
         & (step_fixed(s, job, k) <= 1)
 }
 
@@ -71,9 +79,9 @@ fn use_ok(s: &[u8], job: Job, k: u16) -> bool
     (u.step < job.count.steps)
         & (u.level < job.count.levels)
         & (u.at <= step_length(s, job, u.step))
-        & (2146483648 <= u.amount)
-        & (u.amount <= 2148483648)
-        & (u.amount != 2147483648)
+        & (LOWEST_AMOUNT <= u.amount)
+        & (u.amount <= HIGHEST_AMOUNT)
+        & (u.amount != SIGN_BIAS)
 }
 
 fn goal_ok(s: &[u8], job: Job, k: u16) -> bool
@@ -82,7 +90,7 @@ fn goal_ok(s: &[u8], job: Job, k: u16) -> bool
     let deadline = goal_deadline(s, job, k);
     (goal_fact(s, job, k) < job.count.facts)
         & (goal_value(s, job, k) <= 1)
-        & ((deadline <= 1100000) | (deadline == 4294967295))
+        & ((deadline <= LAST_DEADLINE) | (deadline == NO_DEADLINE))
 }
 
 fn record_ok(s: &[u8], job: Job, table: Table, k: u16) -> bool

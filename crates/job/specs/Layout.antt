@@ -1,11 +1,11 @@
--- "The job file": the header, the record widths, where each table starts, the highest counts.
+-- For callers: "The job file", its header, the record widths, where each table starts, the highest counts.
 use Prim.Native.Nat.{ℕ, zero, suc, _+_, _*_}
-use mathlib.Core.Bool.{Bool, _&&_}
+use mathlib.Core.Bool.{Bool}
 use mathlib.Core.List.{List, [], _∷_}
-use lib.ListN.{length, getD}
-use lib.Dec.{ltb, eqb}
+use lib.ListN.{getD}
+use lib.Dec.{ltb}
 use Rattle.laws.specs.Search.{any}
-use Rattle.little_endian.specs.Bytes.{u16At, u32At}
+use Rattle.little_endian.specs.Bytes.{u16At}
 use Rattle.job.specs.declared.layout.Counts.{Counts}
 use Rattle.job.specs.declared.layout.Positions.{Positions}
 use Rattle.job.specs.declared.layout.Job.{Job}
@@ -17,13 +17,56 @@ edition = 1
 abbrev pub headerWidth : ℕ
 headerWidth = 48
 
--- "Widths in bytes", in the tables' order: facts, levels, steps, conditions, effects, uses, goals
+-- "Widths in bytes": a record's, table by table
+abbrev pub factWidth : ℕ
+factWidth = 1
+
+abbrev pub levelWidth : ℕ
+levelWidth = 12
+
+abbrev pub stepWidth : ℕ
+stepWidth = 10
+
+abbrev pub conditionWidth : ℕ
+conditionWidth = 14
+
+abbrev pub effectWidth : ℕ
+effectWidth = 10
+
+abbrev pub useWidth : ℕ
+useWidth = 12
+
+abbrev pub goalWidth : ℕ
+goalWidth = 8
+
+-- in the tables' order
 abbrev pub widths : List ℕ
-widths = 1 ∷ 12 ∷ 10 ∷ 14 ∷ 10 ∷ 12 ∷ 8 ∷ []
+widths = factWidth ∷ levelWidth ∷ stepWidth ∷ conditionWidth ∷ effectWidth ∷ useWidth ∷ goalWidth ∷ []
 
 -- "Highest counts in that order"
+abbrev pub mostFacts : ℕ
+mostFacts = 256
+
+abbrev pub mostLevels : ℕ
+mostLevels = 16
+
+abbrev pub mostSteps : ℕ
+mostSteps = 64
+
+abbrev pub mostConditions : ℕ
+mostConditions = 512
+
+abbrev pub mostEffects : ℕ
+mostEffects = 512
+
+abbrev pub mostUses : ℕ
+mostUses = 256
+
+abbrev pub mostGoals : ℕ
+mostGoals = 32
+
 abbrev pub highest : List ℕ
-highest = 256 ∷ 16 ∷ 64 ∷ 512 ∷ 512 ∷ 256 ∷ 32 ∷ []
+highest = mostFacts ∷ mostLevels ∷ mostSteps ∷ mostConditions ∷ mostEffects ∷ mostUses ∷ mostGoals ∷ []
 
 -- the counts of the header, which names goals before conditions
 unfoldable pub countsOf : List ℕ → Counts
@@ -62,3 +105,7 @@ positionsOf c = record {
 -- what the header says, and where it puts the tables
 unfoldable pub jobOf : List ℕ → Job
 jobOf s = record { serial = u16At s 2; count = countsOf s; at = positionsOf (countsOf s) }
+
+-- refusal 4: a count exceeds its highest
+unfoldable pub countTooHigh : Counts → Bool
+countTooHigh c = any 7 (λ t. ltb (getD highest t 0) (getD (countList c) t 0))

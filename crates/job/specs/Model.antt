@@ -1,4 +1,4 @@
--- The job that a file holds: counts, and functions of an index. Its meaning is stated over this record alone.
+-- For callers: the job that a file holds, counts and functions of an index. Its meaning is stated over this record alone.
 use Prim.Native.Nat.{ℕ, _+_, _*_, _-_}
 use mathlib.Core.List.{List}
 use Rattle.little_endian.specs.Bytes.{byteAt, u16At, u32At, biasedAt}
@@ -7,11 +7,38 @@ use Rattle.job.specs.declared.records.Level.{Level}
 use Rattle.job.specs.declared.records.Condition.{Condition}
 use Rattle.job.specs.declared.records.Effect.{Effect}
 use Rattle.job.specs.declared.records.Use.{Use}
-use Rattle.job.specs.Layout.{jobOf}
+use Rattle.job.specs.Layout.{factWidth, levelWidth, stepWidth, conditionWidth, effectWidth, useWidth, goalWidth, jobOf}
 
--- the deadline of a goal that has none
+-- a step's highest start and length
+abbrev pub lastStart : ℕ
+lastStart = 1000000
+
+abbrev pub longest : ℕ
+longest = 100000
+
+-- a goal's highest deadline, and that of a goal that has none
+abbrev pub lastDeadline : ℕ
+lastDeadline = 1100000
+
 abbrev pub noDeadline : ℕ
 noDeadline = 4294967295
+
+-- what is added to a signed number, so that it is never below 0
+abbrev pub signBias : ℕ
+signBias = 2147483648
+
+-- a level's numbers are within ±1,000,000,000, a use's amount within ±1,000,000: so biased
+abbrev pub lowestLevel : ℕ
+lowestLevel = signBias - 1000000000
+
+abbrev pub highestLevel : ℕ
+highestLevel = signBias + 1000000000
+
+abbrev pub lowestAmount : ℕ
+lowestAmount = signBias - 1000000
+
+abbrev pub highestAmount : ℕ
+highestAmount = signBias + 1000000
 
 pub record Model : Type 0 where
   -- the serial mark
@@ -26,7 +53,7 @@ pub record Model : Type 0 where
   pub goals : ℕ
   -- a fact's initial value
   pub initial : ℕ → ℕ
-  -- a level's numbers, each plus 2147483648
+  -- a level's numbers, each plus signBias
   pub levelInitial : ℕ → ℕ
   pub levelLeast : ℕ → ℕ
   pub levelMost : ℕ → ℕ
@@ -43,12 +70,12 @@ pub record Model : Type 0 where
   pub effectFact : ℕ → ℕ
   pub effectAt : ℕ → ℕ
   pub effectValue : ℕ → ℕ
-  -- a use's amount plus 2147483648
+  -- a use's amount plus signBias
   pub useStep : ℕ → ℕ
   pub useLevel : ℕ → ℕ
   pub useAt : ℕ → ℕ
   pub useAmount : ℕ → ℕ
-  -- a goal's deadline, or 4294967295 for none
+  -- a goal's deadline, or noDeadline
   pub goalFact : ℕ → ℕ
   pub goalValue : ℕ → ℕ
   pub goalDeadline : ℕ → ℕ
@@ -64,29 +91,29 @@ view j s = record {
   effects = j .count .effects;
   uses = j .count .uses;
   goals = j .count .goals;
-  initial = λ k. byteAt s (j .at .facts + 1 * k);
-  levelInitial = λ k. biasedAt s (j .at .levels + 12 * k);
-  levelLeast = λ k. biasedAt s (j .at .levels + 12 * k + 4);
-  levelMost = λ k. biasedAt s (j .at .levels + 12 * k + 8);
-  start = λ k. u32At s (j .at .steps + 10 * k);
-  stepLength = λ k. u32At s (j .at .steps + 10 * k + 4);
-  fixed = λ k. u16At s (j .at .steps + 10 * k + 8);
-  conditionStep = λ k. u16At s (j .at .conditions + 14 * k);
-  conditionFact = λ k. u16At s (j .at .conditions + 14 * k + 2);
-  conditionFrom = λ k. u32At s (j .at .conditions + 14 * k + 4);
-  conditionTo = λ k. u32At s (j .at .conditions + 14 * k + 8);
-  conditionValue = λ k. u16At s (j .at .conditions + 14 * k + 12);
-  effectStep = λ k. u16At s (j .at .effects + 10 * k);
-  effectFact = λ k. u16At s (j .at .effects + 10 * k + 2);
-  effectAt = λ k. u32At s (j .at .effects + 10 * k + 4);
-  effectValue = λ k. u16At s (j .at .effects + 10 * k + 8);
-  useStep = λ k. u16At s (j .at .uses + 12 * k);
-  useLevel = λ k. u16At s (j .at .uses + 12 * k + 2);
-  useAt = λ k. u32At s (j .at .uses + 12 * k + 4);
-  useAmount = λ k. biasedAt s (j .at .uses + 12 * k + 8);
-  goalFact = λ k. u16At s (j .at .goals + 8 * k);
-  goalValue = λ k. u16At s (j .at .goals + 8 * k + 2);
-  goalDeadline = λ k. u32At s (j .at .goals + 8 * k + 4);
+  initial = λ k. byteAt s (j .at .facts + factWidth * k);
+  levelInitial = λ k. biasedAt s (j .at .levels + levelWidth * k);
+  levelLeast = λ k. biasedAt s (j .at .levels + levelWidth * k + 4);
+  levelMost = λ k. biasedAt s (j .at .levels + levelWidth * k + 8);
+  start = λ k. u32At s (j .at .steps + stepWidth * k);
+  stepLength = λ k. u32At s (j .at .steps + stepWidth * k + 4);
+  fixed = λ k. u16At s (j .at .steps + stepWidth * k + 8);
+  conditionStep = λ k. u16At s (j .at .conditions + conditionWidth * k);
+  conditionFact = λ k. u16At s (j .at .conditions + conditionWidth * k + 2);
+  conditionFrom = λ k. u32At s (j .at .conditions + conditionWidth * k + 4);
+  conditionTo = λ k. u32At s (j .at .conditions + conditionWidth * k + 8);
+  conditionValue = λ k. u16At s (j .at .conditions + conditionWidth * k + 12);
+  effectStep = λ k. u16At s (j .at .effects + effectWidth * k);
+  effectFact = λ k. u16At s (j .at .effects + effectWidth * k + 2);
+  effectAt = λ k. u32At s (j .at .effects + effectWidth * k + 4);
+  effectValue = λ k. u16At s (j .at .effects + effectWidth * k + 8);
+  useStep = λ k. u16At s (j .at .uses + useWidth * k);
+  useLevel = λ k. u16At s (j .at .uses + useWidth * k + 2);
+  useAt = λ k. u32At s (j .at .uses + useWidth * k + 4);
+  useAmount = λ k. biasedAt s (j .at .uses + useWidth * k + 8);
+  goalFact = λ k. u16At s (j .at .goals + goalWidth * k);
+  goalValue = λ k. u16At s (j .at .goals + goalWidth * k + 2);
+  goalDeadline = λ k. u32At s (j .at .goals + goalWidth * k + 4);
 }
 
 -- the job that a file holds

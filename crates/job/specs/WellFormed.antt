@@ -1,29 +1,29 @@
--- What holds of the job in a file that refusals 1 to 7 pass: plain statements, one a sentence.
+-- For callers: what holds of the job in a file that refusals 1 to 7 pass. Plain statements, one a sentence.
 use Prim.Native.Nat.{ℕ, _≤_, _<_}
 use mathlib.Core.Path.{_≡_}
 use mathlib.Core.Logic.{_⊎_}
-use Rattle.job.specs.Model.{Model}
-use Rattle.job.specs.Model.{noDeadline}
+use Rattle.job.specs.Layout.{mostFacts, mostLevels, mostSteps, mostConditions, mostEffects, mostUses, mostGoals}
+use Rattle.job.specs.Model.{Model, lastStart, longest, lastDeadline, noDeadline, signBias, lowestLevel, highestLevel, lowestAmount, highestAmount}
 
 pub record WellFormed (m : Model) : Type 0 where
   -- marks and counts
   pub serialMark : m .serial ≤ 1
-  pub factCount : m .facts ≤ 256
-  pub levelCount : m .levels ≤ 16
-  pub stepCount : m .steps ≤ 64
-  pub conditionCount : m .conditions ≤ 512
-  pub effectCount : m .effects ≤ 512
-  pub useCount : m .uses ≤ 256
-  pub goalCount : m .goals ≤ 32
+  pub factCount : m .facts ≤ mostFacts
+  pub levelCount : m .levels ≤ mostLevels
+  pub stepCount : m .steps ≤ mostSteps
+  pub conditionCount : m .conditions ≤ mostConditions
+  pub effectCount : m .effects ≤ mostEffects
+  pub useCount : m .uses ≤ mostUses
+  pub goalCount : m .goals ≤ mostGoals
   -- facts and levels
   pub initialValue : (k : ℕ) → k < m .facts → m .initial k ≤ 1
-  pub levelFrom : (k : ℕ) → k < m .levels → 1147483648 ≤ m .levelLeast k
+  pub levelFrom : (k : ℕ) → k < m .levels → lowestLevel ≤ m .levelLeast k
   pub levelLow : (k : ℕ) → k < m .levels → m .levelLeast k ≤ m .levelInitial k
   pub levelHigh : (k : ℕ) → k < m .levels → m .levelInitial k ≤ m .levelMost k
-  pub levelTo : (k : ℕ) → k < m .levels → m .levelMost k ≤ 3147483648
+  pub levelTo : (k : ℕ) → k < m .levels → m .levelMost k ≤ highestLevel
   -- steps
-  pub startRange : (k : ℕ) → k < m .steps → m .start k ≤ 1000000
-  pub lengthRange : (k : ℕ) → k < m .steps → m .stepLength k ≤ 100000
+  pub startRange : (k : ℕ) → k < m .steps → m .start k ≤ lastStart
+  pub lengthRange : (k : ℕ) → k < m .steps → m .stepLength k ≤ longest
   pub fixedMark : (k : ℕ) → k < m .steps → m .fixed k ≤ 1
   -- conditions
   pub conditionStep : (k : ℕ) → k < m .conditions → m .conditionStep k < m .steps
@@ -40,13 +40,13 @@ pub record WellFormed (m : Model) : Type 0 where
   pub useStep : (k : ℕ) → k < m .uses → m .useStep k < m .steps
   pub useLevel : (k : ℕ) → k < m .uses → m .useLevel k < m .levels
   pub useEnd : (k : ℕ) → k < m .uses → m .useAt k ≤ m .stepLength (m .useStep k)
-  pub useFrom : (k : ℕ) → k < m .uses → 2146483648 ≤ m .useAmount k
-  pub useTo : (k : ℕ) → k < m .uses → m .useAmount k ≤ 2148483648
-  pub useNotZero : (k : ℕ) → k < m .uses → m .useAmount k ≡ 2147483648 → ⊥
+  pub useFrom : (k : ℕ) → k < m .uses → lowestAmount ≤ m .useAmount k
+  pub useTo : (k : ℕ) → k < m .uses → m .useAmount k ≤ highestAmount
+  pub useNotZero : (k : ℕ) → k < m .uses → m .useAmount k ≡ signBias → ⊥
   -- goals
   pub goalFact : (k : ℕ) → k < m .goals → m .goalFact k < m .facts
   pub goalValue : (k : ℕ) → k < m .goals → m .goalValue k ≤ 1
-  pub goalDeadline : (k : ℕ) → k < m .goals → (m .goalDeadline k ≤ 1100000) ⊎ (m .goalDeadline k ≡ noDeadline)
+  pub goalDeadline : (k : ℕ) → k < m .goals → (m .goalDeadline k ≤ lastDeadline) ⊎ (m .goalDeadline k ≡ noDeadline)
   -- no step is against itself
   pub oneWay :
       (e f : ℕ) → e < m .effects → f < m .effects → m .effectStep e ≡ m .effectStep f → m .effectFact e ≡ m .effectFact f

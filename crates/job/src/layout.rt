@@ -1,6 +1,6 @@
 // The job file's header: counts, limits, and where the tables lie.
 ghost use mathlib.Core.Path.{_≡_};
-ghost use Rattle.job.specs.Layout.{countsOf, positionsOf, jobOf};
+ghost use Rattle.job.specs.Layout.{countsOf, positionsOf, jobOf, countTooHigh};
 
 // The tables, in their order in the file.
 pub enum Table {
@@ -64,6 +64,24 @@ pub const EFFECT: usize = 4;
 pub const USE: usize = 5;
 
 pub const GOAL: usize = 6;
+
+// A step's highest start and length, and a goal's highest deadline.
+pub const LAST_START: usize = 1000000;
+
+pub const LONGEST: usize = 100000;
+
+pub const LAST_DEADLINE: usize = 1100000;
+
+// What is added to a signed number, so that it is never below 0; and the bounds of a level's numbers and of a use's amount, so biased.
+pub const SIGN_BIAS: usize = 2147483648;
+
+pub const LOWEST_LEVEL: usize = SIGN_BIAS - 1000000000;
+
+pub const HIGHEST_LEVEL: usize = SIGN_BIAS + 1000000000;
+
+pub const LOWEST_AMOUNT: usize = SIGN_BIAS - 1000000;
+
+pub const HIGHEST_AMOUNT: usize = SIGN_BIAS + 1000000;
 
 impl Job {
     // The highest counts.
@@ -132,4 +150,17 @@ impl Positions {
             end: end as u32,
         }
     }
+}
+
+// Refusal 4: a count exceeds its highest.
+pub fn count_too_high(count: Counts) -> bool
+    ensures { λ r. ⌜ r ≡ countTooHigh count ⌝ }
+{
+    (Job::FACTS < count.facts)
+        | (Job::LEVELS < count.levels)
+        | (Job::STEPS < count.steps)
+        | (Job::CONDITIONS < count.conditions)
+        | (Job::EFFECTS < count.effects)
+        | (Job::USES < count.uses)
+        | (Job::GOALS < count.goals)
 }

@@ -37,7 +37,7 @@ pub fn level_most(s: &[u8], job: Job, k: u16) -> usize
     little_endian::biased_at(s, job.at.levels as usize + WIDTHS[LEVEL] * k as usize + 8)
 }
 
-// A level's record: its three numbers, each plus 2147483648.
+// A level's record: its three numbers, each plus SIGN_BIAS.
 pub struct Level {
     pub initial: usize,
     pub least: usize,
@@ -180,6 +180,9 @@ pub fn goal_value(s: &[u8], job: Job, k: u16) -> u16
     little_endian::u16_at(s, job.at.goals as usize + WIDTHS[GOAL] * k as usize + 2) as u16
 }
 
+// The deadline of a goal that has none.
+pub const NO_DEADLINE: usize = 4294967295;
+
 pub fn goal_deadline(s: &[u8], job: Job, k: u16) -> usize
     ensures { λ r. ⌜ (r ≡ view job (now (s .entry)) .goalDeadline k) × (r < 4294967296) ⌝ }
 {
@@ -213,7 +216,7 @@ pub fn condition_of(s: &[u8], job: Job, k: u16) -> Condition
     ensures { λ r. ⌜ r ≡ conditionOf (view job (now (s .entry))) k ⌝ }
 {
     let at = job.at.conditions as usize + WIDTHS[CONDITION] * k as usize;
-    if little_endian::has_room(s, at, 14) {
+    if at + WIDTHS[CONDITION] <= s.len() {
         return Condition {
             step: little_endian::u16_within(s, at) as u16,
             fact: little_endian::u16_within(s, at + 2) as u16,
@@ -235,7 +238,7 @@ pub fn effect_of(s: &[u8], job: Job, k: u16) -> Effect
     ensures { λ r. ⌜ r ≡ effectOf (view job (now (s .entry))) k ⌝ }
 {
     let at = job.at.effects as usize + WIDTHS[EFFECT] * k as usize;
-    if little_endian::has_room(s, at, 10) {
+    if at + WIDTHS[EFFECT] <= s.len() {
         return Effect {
             step: little_endian::u16_within(s, at) as u16,
             fact: little_endian::u16_within(s, at + 2) as u16,
@@ -255,7 +258,7 @@ pub fn use_of(s: &[u8], job: Job, k: u16) -> Use
     ensures { λ r. ⌜ r ≡ useOf (view job (now (s .entry))) k ⌝ }
 {
     let at = job.at.uses as usize + WIDTHS[USE] * k as usize;
-    if little_endian::has_room(s, at, 12) {
+    if at + WIDTHS[USE] <= s.len() {
         return Use {
             step: little_endian::u16_within(s, at) as u16,
             level: little_endian::u16_within(s, at + 2) as u16,

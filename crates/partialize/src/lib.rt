@@ -24,6 +24,8 @@ use points::listed::list_uses;
 use points::ticks::effect_ticks;
 use points::ticks::planned_starts;
 use points::ticks::use_ticks;
+use timeline::index::CAPACITY;
+use timeline::index::LIST_SIZE;
 use verdict::number;
 use windows::starts;
 use windows::window;
@@ -93,13 +95,13 @@ fn loosen(s: &[u8], job: Job, starts: &[u32], out: &mut [u8]) -> Answer
     requires { ⌜ Formed (now s) job (now starts) ⌝ }
     ensures { λ r. ⌜ Promise (now (s .entry)) (now (out .entry)) (now (out .exit)) r ⌝ }
 {
-    let mut ticks = [0; 512];
+    let mut ticks = [0; CAPACITY];
     effect_ticks(s, job, starts, &mut ticks);
-    let mut facts = [0; 1025];
+    let mut facts = [0; LIST_SIZE];
     list_effects(s, job, starts, &ticks, &mut facts);
-    let mut uses = [0; 256];
+    let mut uses = [0; Job::USES as usize];
     use_ticks(s, job, starts, &mut uses);
-    let mut levels = [0; 1025];
+    let mut levels = [0; LIST_SIZE];
     list_uses(s, job, starts, &uses, &mut levels);
     let v = schedule::check_planned(s, job, starts, &ticks, &facts, &uses, &levels);
     if number(v) != 0 {

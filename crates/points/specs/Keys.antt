@@ -3,12 +3,13 @@ use Prim.Native.Nat.{ℕ, _+_, _*_, _%_}
 use Rattle.points.specs.declared.index.Linking.{Linking}
 use Rattle.points.specs.declared.index.Linking.the-variants.{EffectsByFact, ConditionsByFact, UsesByLevel}
 use Rattle.job.specs.Model.{Model}
+use Rattle.timeline.specs.Indexed.{keyCount}
 
 unfoldable pub factKey : ℕ → ℕ → ℕ
-factKey fact value = (2 * fact + value) % 512
+factKey fact value = (2 * fact + value) % keyCount
 
 unfoldable pub levelKey : ℕ → ℕ
-levelKey level = level % 512
+levelKey level = level % keyCount
 
 -- the key of record k
 unfoldable pub keyOf : Model → Linking → ℕ → ℕ

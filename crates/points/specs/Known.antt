@@ -7,14 +7,15 @@ use Rattle.points.specs.declared.index.Linking.the-variants.{EffectsByFa
 use Rattle.job.specs.Model.{Model}
 use Rattle.job.specs.WellFormed.{WellFormed}
 use Rattle.points.specs.Keys.{keyOf}
-use Rattle.timeline.specs.Sorted.{recordIn, tickIn, Sorted}
+use Rattle.timeline.specs.Indexed.{keyCount, capacity, listSize}
+use Rattle.timeline.specs.Sorted.{recordIn, tickIn, tickLimit, Sorted}
 use Rattle.validity.specs.Ticks.{effectTick, firstTick, useTick}
 
 -- a list of the ticks of n points: a start and an offset of 32 bits each
 pub record TicksOf (n : ℕ) (tick : ℕ → ℕ) (ticks : List ℕ) : Type 0 where
   pub size : n ≤ length ticks
   pub at : (k : ℕ) → k < n → getD ticks k 0 ≡ tick k
-  pub low : (k : ℕ) → k < n → getD ticks k 0 < 8589934592
+  pub low : (k : ℕ) → k < n → getD ticks k 0 < tickLimit
 
 -- a well-formed job, the ticks of its effects, and its effects by fact and value in the order of their ticks
 pub record EffectsKnown (m : Model) (x : ℕ → ℕ) (ticks sorted : List ℕ) : Type 0 where
@@ -36,7 +37,7 @@ pub record UsesKnown (m : Model) (x : ℕ → ℕ) (ticks sorted : List ℕ) : T
 
 -- a place of a key: what stands before it, if anything does, has a tick that is known
 pub record PlaceKnown (ticks sorted : List ℕ) (key p : ℕ) : Type 0 where
-  pub size : length sorted ≡ 1025
-  pub low : key < 512
-  pub within : p ≤ 512
-  pub known : getD sorted key 0 < p → (recordIn sorted (p - 1) < length ticks) × (tickIn ticks sorted (p - 1) < 8589934592)
+  pub size : length sorted ≡ listSize
+  pub low : key < keyCount
+  pub within : p ≤ capacity
+  pub known : getD sorted key 0 < p → (recordIn sorted (p - 1) < length ticks) × (tickIn ticks sorted (p - 1) < tickLimit)

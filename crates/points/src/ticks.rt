@@ -4,9 +4,11 @@ ghost use mathlib.Core.Path.{_≡_};
 ghost use Prim.Native.Nat.{_≤_, _<_};
 ghost use lib.ListN.{length, take};
 ghost use Rattle.laws.specs.Listed.{tabulate};
+ghost use Rattle.job.specs.Layout.{mostSteps};
 ghost use Rattle.job.specs.Model.{view};
 ghost use Rattle.validity.specs.Ticks.{scheduleOf, effectTick, firstTick, lastTick, useTick};
 ghost use Rattle.validity.specs.Ticks as spec;
+ghost use Rattle.timeline.specs.Sorted.{tickLimit};
 ghost use Rattle.points.specs.Known.{TicksOf};
 use job::layout::Job;
 use job::records::*;
@@ -25,25 +27,25 @@ pub fn start_of(starts: &[u32], step: u16) -> usize
 }
 
 pub fn effect_tick(s: &[u8], job: Job, starts: &[u32], e: u16) -> usize
-    ensures { λ r. ⌜ (r ≡ effectTick (view job (now (s .entry))) (scheduleOf (now (starts .entry))) e) × (r < 8589934592) ⌝ }
+    ensures { λ r. ⌜ (r ≡ effectTick (view job (now (s .entry))) (scheduleOf (now (starts .entry))) e) × (r < tickLimit) ⌝ }
 {
     start_of(starts, effect_step(s, job, e)) + effect_at(s, job, e)
 }
 
 pub fn first_tick(s: &[u8], job: Job, starts: &[u32], c: u16) -> usize
-    ensures { λ r. ⌜ (r ≡ firstTick (view job (now (s .entry))) (scheduleOf (now (starts .entry))) c) × (r < 8589934592) ⌝ }
+    ensures { λ r. ⌜ (r ≡ firstTick (view job (now (s .entry))) (scheduleOf (now (starts .entry))) c) × (r < tickLimit) ⌝ }
 {
     start_of(starts, condition_step(s, job, c)) + condition_from(s, job, c)
 }
 
 pub fn last_tick(s: &[u8], job: Job, starts: &[u32], c: u16) -> usize
-    ensures { λ r. ⌜ (r ≡ lastTick (view job (now (s .entry))) (scheduleOf (now (starts .entry))) c) × (r < 8589934592) ⌝ }
+    ensures { λ r. ⌜ (r ≡ lastTick (view job (now (s .entry))) (scheduleOf (now (starts .entry))) c) × (r < tickLimit) ⌝ }
 {
     start_of(starts, condition_step(s, job, c)) + condition_to(s, job, c)
 }
 
 pub fn use_tick(s: &[u8], job: Job, starts: &[u32], u: u16) -> usize
-    ensures { λ r. ⌜ (r ≡ useTick (view job (now (s .entry))) (scheduleOf (now (starts .entry))) u) × (r < 8589934592) ⌝ }
+    ensures { λ r. ⌜ (r ≡ useTick (view job (now (s .entry))) (scheduleOf (now (starts .entry))) u) × (r < tickLimit) ⌝ }
 {
     start_of(starts, use_step(s, job, u)) + use_at(s, job, u)
 }
@@ -88,7 +90,7 @@ pub fn use_ticks(s: &[u8], job: Job, starts: &[u32], ticks: &mut [usize])
 }
 
 pub fn finish(s: &[u8], job: Job, starts: &[u32], k: u16) -> usize
-    ensures { λ r. ⌜ (r ≡ spec.finish (view job (now (s .entry))) (scheduleOf (now (starts .entry))) k) × (r < 8589934592) ⌝ }
+    ensures { λ r. ⌜ (r ≡ spec.finish (view job (now (s .entry))) (scheduleOf (now (starts .entry))) k) × (r < tickLimit) ⌝ }
 {
     start_of(starts, k) + step_length(s, job, k)
 }
@@ -99,12 +101,12 @@ pub fn opposes(s: &[u8], job: Job, e: u16, fact: u16, value: u16) -> bool
     (effect_fact(s, job, e) == fact) & (effect_value(s, job, e) != value)
 }
 
-// The written starts of the first n steps, of at most 64.
-pub fn planned_starts(s: &[u8], job: Job, n: usize) -> [u32; 64]
-    requires { ⌜ n ≤ 64 ⌝ }
-    ensures { λ r. ⌜ (length r ≡ 64) × (take n r ≡ tabulate n (view job (now (s .entry)) .start)) ⌝ }
+// The written starts of the first n steps.
+pub fn planned_starts(s: &[u8], job: Job, n: usize) -> [u32; Job::STEPS as usize]
+    requires { ⌜ n ≤ mostSteps ⌝ }
+    ensures { λ r. ⌜ (length r ≡ mostSteps) × (take n r ≡ tabulate n (view job (now (s .entry)) .start)) ⌝ }
 {
-    let mut starts = [0u32; 64];
+    let mut starts = [0u32; Job::STEPS as usize];
     let mut k = 0;
     while k < n {
         starts[k] = step_start(s, job, k as u16) as u32;

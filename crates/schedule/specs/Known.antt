@@ -6,7 +6,7 @@ use mathlib.Core.List.{List}
 use lib.ListN.{getD}
 use lib.Dec.{leb}
 use Rattle.laws.specs.Fold.{sum}
-use Rattle.job.specs.Model.{Model}
+use Rattle.job.specs.Model.{Model, signBias}
 use Rattle.timeline.specs.Sorted.{tickIn, placed, Parts}
 use Rattle.validity.specs.Ticks.{firstTick}
 use Rattle.validity.specs.Seen.{afterAll}
@@ -15,13 +15,17 @@ use Rattle.points.specs.Keys.{factKey}
 use Rattle.points.specs.Known.{EffectsKnown, UsesKnown}
 use Rattle.schedule.specs.declared.bounds.Changes.{Changes}
 
+-- no sum of rises or of falls exceeds this: 512 uses of 2^31 each
+abbrev pub sumLimit : ℕ
+sumLimit = 1099511627776
+
 -- sums of what the uses of level l before a place add to it and take from it
 pub record Summed (m : Model) (sorted : List ℕ) (l : ℕ) (sums : Changes) : Type 0 where
   pub begins : getD sorted l 0 ≤ sums .place
   pub ends : sums .place ≤ getD sorted (l + 1) 0
   pub rising : sums .rises ≡ sum (sums .place) (placed (getD sorted l 0) (rise m) sorted)
   pub falling : sums .falls ≡ sum (sums .place) (placed (getD sorted l 0) (fall m) sorted)
-  pub few : (sums .rises ≤ 2147483648 * sums .place) × (sums .falls ≤ 2147483648 * sums .place)
+  pub few : (sums .rises ≤ signBias * sums .place) × (sums .falls ≤ signBias * sums .place)
 
 -- effects and uses, and a tick after all effects
 pub record Known (m : Model) (x : ℕ → ℕ) (ticks facts useTicks levels : List ℕ) (end : ℕ) : Type 0 where

@@ -2,29 +2,31 @@
 ghost use mathlib.Core.Path.{_≡_};
 ghost use mathlib.Core.Bool.{cond};
 ghost use Prim.Native.Nat.{_+_, _≤_, _<_};
-ghost use Rattle.job.specs.Model.{view};
+ghost use Rattle.job.specs.Model.{signBias, view};
+ghost use Rattle.timeline.specs.Indexed.{capacity};
 ghost use Rattle.validity.specs.Ticks.{scheduleOf};
 ghost use Rattle.validity.specs.Levels.{rise, fall};
-ghost use Rattle.schedule.specs.Known.{inBounds, Sweep, SweptTick};
+ghost use Rattle.schedule.specs.Known.{sumLimit, inBounds, Sweep, SweptTick};
 use job::layout::Job;
+use job::layout::SIGN_BIAS;
 use job::records::*;
 use timeline::begin_of;
 use timeline::record_at;
 
 // What a use adds to its level, or takes from it; 0 for a use of the other kind.
 fn change(s: &[u8], job: Job, rising: bool, u: u16) -> usize
-    ensures { λ r. ⌜ (r ≡ cond rising (rise (view job (now (s .entry))) u) (fall (view job (now (s .entry))) u)) × (r ≤ 2147483648) ⌝ }
+    ensures { λ r. ⌜ (r ≡ cond rising (rise (view job (now (s .entry))) u) (fall (view job (now (s .entry))) u)) × (r ≤ signBias) ⌝ }
 {
     let amount = use_amount(s, job, u);
     if rising {
-        if 2147483648 < amount {
-            amount - 2147483648
+        if SIGN_BIAS < amount {
+            amount - SIGN_BIAS
         } else {
             0
         }
     } else {
-        if amount < 2147483648 {
-            2147483648 - amount
+        if amount < SIGN_BIAS {
+            SIGN_BIAS - amount
         } else {
             0
         }
@@ -40,7 +42,7 @@ pub struct Changes {
 
 // The changes with those of use u at the place.
 fn with_use(s: &[u8], job: Job, sums: Changes, u: u16) -> Changes
-    requires { ⌜ (sums .place < 512) × (sums .rises ≤ 1099511627776) × (sums .falls ≤ 1099511627776) ⌝ }
+    requires { ⌜ (sums .place < capacity) × (sums .rises ≤ sumLimit) × (sums .falls ≤ sumLimit) ⌝ }
     ensures { λ r. ⌜ (r .place ≡ sums .place + 1) × (r .rises ≡ sums .rises + rise (view job (now (s .entry))) u) × (r .falls ≡ sums .falls + fall (view job (now (s .entry))) u) ⌝ }
 {
     Changes {
@@ -77,7 +79,7 @@ pub fn changes_at(
 
 // At a tick the level from earlier ticks bears all of that tick's falls, and all of its rises: those before it, and those with it.
 pub fn in_bounds(s: &[u8], job: Job, l: u16, before: Changes, after: Changes) -> bool
-    requires { ⌜ (before .rises ≤ 1099511627776) × (before .falls ≤ 1099511627776) × (after .rises ≤ 1099511627776) × (after .falls ≤ 1099511627776) ⌝ }
+    requires { ⌜ (before .rises ≤ sumLimit) × (before .falls ≤ sumLimit) × (after .rises ≤ sumLimit) × (after .falls ≤ sumLimit) ⌝ }
     ensures { λ r. ⌜ r ≡ inBounds (view job (now (s .entry))) l before after ⌝ }
 {
     let initial = level_initial(s, job, l);

@@ -180,7 +180,7 @@ fn late(s: &[u8], job: Job, starts: &[u32], ticks: &[usize], sorted: &[u16], g: 
     ensures { λ r. ⌜ r ≡ spec.late (view job (now (s .entry))) (scheduleOf (now (starts .entry))) g ⌝ }
 {
     let deadline = goal_deadline(s, job, g);
-    if deadline == 4294967295 {
+    if deadline == NO_DEADLINE {
         return false;
     }
     let fact = goal_fact(s, job, g);

@@ -20,6 +20,8 @@ use job::layout::Job;
 use points::listed;
 use points::ticks;
 use points::values;
+use timeline::index::CAPACITY;
+use timeline::index::LIST_SIZE;
 use validity::Rule;
 use verdict::Verdict;
 use verdict::number;
@@ -135,13 +137,13 @@ fn check_starts(s: &[u8], job: Job, starts: &[u32]) -> Verdict
     requires { ⌜ WellFormed (view job (now s)) ⌝ }
     ensures { λ r. ⌜ r ≡ startsCheck (view job (now (s .entry))) (now (starts .entry)) ⌝ }
 {
-    let mut ticks = [0; 512];
+    let mut ticks = [0; CAPACITY];
     ticks::effect_ticks(s, job, starts, &mut ticks);
-    let mut facts = [0; 1025];
+    let mut facts = [0; LIST_SIZE];
     listed::list_effects(s, job, starts, &ticks, &mut facts);
-    let mut uses = [0; 256];
+    let mut uses = [0; Job::USES as usize];
     ticks::use_ticks(s, job, starts, &mut uses);
-    let mut levels = [0; 1025];
+    let mut levels = [0; LIST_SIZE];
     listed::list_uses(s, job, starts, &uses, &mut levels);
     check_listed(s, job, starts, &ticks, &facts, &uses, &levels)
 }

@@ -12,13 +12,13 @@ use lib.Seq.{getD-set-same, getD-set-other}
 use Rattle.laws.specs.Linked.{NextAt, LastBefore}
 use Rattle.laws.proofs.Linked.{last-none, last-here, last-other}
 use Rattle.laws.proofs.Search.{by-order}
-use Rattle.timeline.specs.Indexed.{Indexed, Growing}
+use Rattle.timeline.specs.Indexed.{Indexed, Growing, keyCount, capacity, indexSize, unlinked}
 
 -- an index of the records from k on
 pub record Begun (n : ℕ) (key : ℕ → ℕ) (k : ℕ) (index : List ℕ) : Type 0 where
-  pub size : length index ≡ 1024
-  pub firsts : (f : ℕ) → f < 512 → NextAt n key f k (getD index f 0)
-  pub nexts : (j : ℕ) → k ≤ j → j < n → NextAt n key (key j) (suc j) (getD index (512 + j) 0)
+  pub size : length index ≡ indexSize
+  pub firsts : (f : ℕ) → f < keyCount → NextAt n key f k (getD index f 0)
+  pub nexts : (j : ℕ) → k ≤ j → j < n → NextAt n key (key j) (suc j) (getD index (keyCount + j) 0)
 
 module _ (n : ℕ) (key : ℕ → ℕ) where
   last : (f : ℕ) → NextAt n key f n n
@@ -30,11 +30,11 @@ module _ (n : ℕ) (key : ℕ → ℕ) where
         there = λ h. absurd (let z : n < n = h in omega arith);
       }
 
-  pub begun-start : Begun n key n (replicate 1024 n)
+  pub begun-start : Begun n key n (replicate indexSize n)
   begun-start =
       record {
-        size = length-replicate {A = ℕ} 1024 n;
-        firsts = λ f h. subst (NextAt n key f n) (sym (getD-replicate {A = ℕ} 1024 f n 0 (omega arith))) (last f);
+        size = length-replicate {A = ℕ} indexSize n;
+        firsts = λ f h. subst (NextAt n key f n) (sym (getD-replicate {A = ℕ} indexSize f n 0 (omega arith))) (last f);
         nexts = λ j l h. absurd (omega arith);
       }
 
@@ -63,23 +63,23 @@ module _ (n : ℕ) (key : ℕ → ℕ) where
         there = next .there;
       }
 
-  module _ (k : ℕ) (counted : suc k ≤ n) (few : n ≤ 512) (low : key k < 512) (index : List ℕ) (begun : Begun n key (suc k) index) where
+  module _ (k : ℕ) (counted : suc k ≤ n) (few : n ≤ capacity) (low : key k < keyCount) (index : List ℕ) (begun : Begun n key (suc k) index) where
     abbrev linked : List ℕ
-    linked = set index (512 + k) (getD index (key k) 0)
+    linked = set index (keyCount + k) (getD index (key k) 0)
 
     abbrev grown : List ℕ
-    grown = set (set index (512 + k) (getD index (key k) 0)) (key k) k
+    grown = set (set index (keyCount + k) (getD index (key k) 0)) (key k) k
 
-    size-linked : length linked ≡ 1024
-    size-linked = length-set index (512 + k) (getD index (key k) 0) ∙ begun .size
+    size-linked : length linked ≡ indexSize
+    size-linked = length-set index (keyCount + k) (getD index (key k) 0) ∙ begun .size
 
-    first-other : (f : ℕ) → f < 512 → (key k ≡ f → ⊥) → (f ≡ key k → ⊥) → NextAt n key f k (getD grown f 0)
+    first-other : (f : ℕ) → f < keyCount → (key k ≡ f → ⊥) → (f ≡ key k → ⊥) → NextAt n key f k (getD grown f 0)
     first-other f h q r =
         subst (NextAt n key f k)
-        (sym (getD-set-other linked (key k) f k 0 r ∙ getD-set-other index (512 + k) f (getD index (key k) 0) 0 (omega arith)))
+        (sym (getD-set-other linked (key k) f k 0 r ∙ getD-set-other index (keyCount + k) f (getD index (key k) 0) 0 (omega arith)))
         (still f k (getD index f 0) q (begun .firsts f h))
 
-    first-of : (f : ℕ) → f < 512 → NextAt n key f k (getD grown f 0)
+    first-of : (f : ℕ) → f < keyCount → NextAt n key f k (getD grown f 0)
     first-of f h =
         by-order (key k) f
         (λ l. first-other f h (omega arith) (omega arith))
@@ -88,21 +88,21 @@ module _ (n : ℕ) (key : ℕ → ℕ) where
         subst (λ g. NextAt n key g k (getD grown g 0)) q
         (subst (NextAt n key (key k) k) (sym (getD-set-same linked (key k) k 0 (omega (arith, size-linked)))) (here k counted)))
 
-    next-of : (j : ℕ) → k ≤ j → j < n → NextAt n key (key j) (suc j) (getD grown (512 + j) 0)
+    next-of : (j : ℕ) → k ≤ j → j < n → NextAt n key (key j) (suc j) (getD grown (keyCount + j) 0)
     next-of j l h =
         ⊎-elim
         (λ (q : k ≡ j).
-        subst (λ i. NextAt n key (key i) (suc i) (getD grown (512 + i) 0)) q
+        subst (λ i. NextAt n key (key i) (suc i) (getD grown (keyCount + i) 0)) q
         (subst (NextAt n key (key k) (suc k))
-        (sym (getD-set-other linked (key k) (512 + k) k 0 (omega arith) ∙ getD-set-same index (512 + k) (getD index (key k) 0) 0 (omega (arith, begun .size))))
+        (sym (getD-set-other linked (key k) (keyCount + k) k 0 (omega arith) ∙ getD-set-same index (keyCount + k) (getD index (key k) 0) 0 (omega (arith, begun .size))))
         (begun .firsts (key k) low)))
         (λ (g : k < j).
         subst (NextAt n key (key j) (suc j))
-        (sym (getD-set-other linked (key k) (512 + j) k 0 (omega arith) ∙ getD-set-other index (512 + k) (512 + j) (getD index (key k) 0) 0 (omega arith)))
+        (sym (getD-set-other linked (key k) (keyCount + j) k 0 (omega arith) ∙ getD-set-other index (keyCount + k) (keyCount + j) (getD index (key k) 0) 0 (omega arith)))
         (begun .nexts j g h))
         (eq-or-lt-of-le l)
 
-    begun-more : Begun n key k (set (set index (512 + k) (getD index (key k) 0)) (key k) k)
+    begun-more : Begun n key k (set (set index (keyCount + k) (getD index (key k) 0)) (key k) k)
     begun-more =
         record {
           size = length-set linked (key k) k ∙ size-linked;
@@ -111,10 +111,10 @@ module _ (n : ℕ) (key : ℕ → ℕ) where
         }
 
   -- A loop goes down from record k to the one before it, whose key f the code has read.
-  pub begun-less : (k f : ℕ) (index : List ℕ) → 0 < k → k ≤ n → n ≤ 512 → f ≡ key (k - 1) → f < 512 → Begun n key k index → Begun n key (k - 1) (set (set index (512 + (k - 1)) (getD index f 0)) f (k - 1))
+  pub begun-less : (k f : ℕ) (index : List ℕ) → 0 < k → k ≤ n → n ≤ capacity → f ≡ key (k - 1) → f < keyCount → Begun n key k index → Begun n key (k - 1) (set (set index (keyCount + (k - 1)) (getD index f 0)) f (k - 1))
   begun-less k f index more within few e low begun =
       let q : k ≡ suc (k - 1) = omega arith in
-      subst (λ g. Begun n key (k - 1) (set (set index (512 + (k - 1)) (getD index g 0)) g (k - 1))) (sym e)
+      subst (λ g. Begun n key (k - 1) (set (set index (keyCount + (k - 1)) (getD index g 0)) g (k - 1))) (sym e)
       (begun-more (k - 1) (omega arith) few (omega arith) index (subst (λ j. Begun n key j index) q begun))
 
   pub begun-end : (k : ℕ) (index : List ℕ) → k ≤ 0 → Begun n key k index → Indexed n key index
@@ -130,60 +130,60 @@ module _ (n : ℕ) (key : ℕ → ℕ) where
 
 -- An index that grows from its first record to its last: each becomes the last of its key, after the one that was.
 module _ (key : ℕ → ℕ) where
-  pub growing-start : Growing key 0 (replicate 1024 65535)
+  pub growing-start : Growing key 0 (replicate indexSize unlinked)
   growing-start =
       record {
-        size = length-replicate {A = ℕ} 1024 65535;
+        size = length-replicate {A = ℕ} indexSize unlinked;
         linked =
             record {
               lasts =
                   λ f h.
-                  subst (LastBefore 512 key f 0) (sym (getD-replicate {A = ℕ} 1024 f 65535 0 (omega arith)))
-                  (last-none 512 key f 65535 (omega arith));
+                  subst (LastBefore capacity key f 0) (sym (getD-replicate {A = ℕ} indexSize f unlinked 0 (omega arith)))
+                  (last-none capacity key f unlinked (omega arith));
               befores = λ k h. absurd (omega arith);
             };
       }
 
-  module _ (k : ℕ) (few : k < 512) (low : key k < 512) (index : List ℕ) (growing : Growing key k index) where
+  module _ (k : ℕ) (few : k < capacity) (low : key k < keyCount) (index : List ℕ) (growing : Growing key k index) where
     abbrev put : List ℕ
-    put = set index (512 + k) (getD index (key k) 0)
+    put = set index (keyCount + k) (getD index (key k) 0)
 
     abbrev next : List ℕ
-    next = set (set index (512 + k) (getD index (key k) 0)) (key k) k
+    next = set (set index (keyCount + k) (getD index (key k) 0)) (key k) k
 
-    size-put : length put ≡ 1024
-    size-put = length-set index (512 + k) (getD index (key k) 0) ∙ growing .size
+    size-put : length put ≡ indexSize
+    size-put = length-set index (keyCount + k) (getD index (key k) 0) ∙ growing .size
 
-    last-else : (f : ℕ) → f < 512 → (key k ≡ f → ⊥) → (f ≡ key k → ⊥) → LastBefore 512 key f (k + 1) (getD next f 0)
+    last-else : (f : ℕ) → f < keyCount → (key k ≡ f → ⊥) → (f ≡ key k → ⊥) → LastBefore capacity key f (k + 1) (getD next f 0)
     last-else f h q r =
-        subst (LastBefore 512 key f (k + 1))
-        (sym (getD-set-other put (key k) f k 0 r ∙ getD-set-other index (512 + k) f (getD index (key k) 0) 0 (omega arith)))
-        (last-other 512 key f k (getD index f 0) q (growing .linked .lasts f h))
+        subst (LastBefore capacity key f (k + 1))
+        (sym (getD-set-other put (key k) f k 0 r ∙ getD-set-other index (keyCount + k) f (getD index (key k) 0) 0 (omega arith)))
+        (last-other capacity key f k (getD index f 0) q (growing .linked .lasts f h))
 
-    last-of : (f : ℕ) → f < 512 → LastBefore 512 key f (k + 1) (getD next f 0)
+    last-of : (f : ℕ) → f < keyCount → LastBefore capacity key f (k + 1) (getD next f 0)
     last-of f h =
         by-order (key k) f
         (λ l. last-else f h (omega arith) (omega arith))
         (λ l. last-else f h (omega arith) (omega arith))
         (λ q.
-        subst (λ g. LastBefore 512 key g (k + 1) (getD next g 0)) q
-        (subst (LastBefore 512 key (key k) (k + 1)) (sym (getD-set-same put (key k) k 0 (omega (arith, size-put)))) (last-here 512 key k few)))
+        subst (λ g. LastBefore capacity key g (k + 1) (getD next g 0)) q
+        (subst (LastBefore capacity key (key k) (k + 1)) (sym (getD-set-same put (key k) k 0 (omega (arith, size-put)))) (last-here capacity key k few)))
 
-    before-of : (j : ℕ) → j < k + 1 → LastBefore 512 key (key j) j (getD next (512 + j) 0)
+    before-of : (j : ℕ) → j < k + 1 → LastBefore capacity key (key j) j (getD next (keyCount + j) 0)
     before-of j l =
         elim (decLt j k) [
           | yes g ↦
-              subst (LastBefore 512 key (key j) j)
-              (sym (getD-set-other put (key k) (512 + j) k 0 (omega arith) ∙ getD-set-other index (512 + k) (512 + j) (getD index (key k) 0) 0 (omega arith)))
+              subst (LastBefore capacity key (key j) j)
+              (sym (getD-set-other put (key k) (keyCount + j) k 0 (omega arith) ∙ getD-set-other index (keyCount + k) (keyCount + j) (getD index (key k) 0) 0 (omega arith)))
               (growing .linked .befores j g)
           | no g ↦
-              subst (λ i. LastBefore 512 key (key i) i (getD next (512 + i) 0)) (let q : k ≡ j = omega arith in q)
-              (subst (LastBefore 512 key (key k) k)
-              (sym (getD-set-other put (key k) (512 + k) k 0 (omega arith) ∙ getD-set-same index (512 + k) (getD index (key k) 0) 0 (omega (arith, growing .size))))
+              subst (λ i. LastBefore capacity key (key i) i (getD next (keyCount + i) 0)) (let q : k ≡ j = omega arith in q)
+              (subst (LastBefore capacity key (key k) k)
+              (sym (getD-set-other put (key k) (keyCount + k) k 0 (omega arith) ∙ getD-set-same index (keyCount + k) (getD index (key k) 0) 0 (omega (arith, growing .size))))
               (growing .linked .lasts (key k) low))
         ]
 
-    linked-next : Growing key (k + 1) (set (set index (512 + k) (getD index (key k) 0)) (key k) k)
+    linked-next : Growing key (k + 1) (set (set index (keyCount + k) (getD index (key k) 0)) (key k) k)
     linked-next =
         record {
           size = length-set put (key k) k ∙ size-put;
@@ -191,10 +191,10 @@ module _ (key : ℕ → ℕ) where
         }
 
   -- A loop links record k, whose key f the code has read.
-  pub growing-more : (k f : ℕ) (index : List ℕ) {grown : List ℕ} → k < 512 → f ≡ key k → f < 512 → Growing key k index → grown ≡ set (set index (512 + k) (getD index f 0)) f k → Growing key (k + 1) grown
+  pub growing-more : (k f : ℕ) (index : List ℕ) {grown : List ℕ} → k < capacity → f ≡ key k → f < keyCount → Growing key k index → grown ≡ set (set index (keyCount + k) (getD index f 0)) f k → Growing key (k + 1) grown
   growing-more k f index few e low growing q =
       subst (Growing key (k + 1)) (sym q)
-      (subst (λ g. Growing key (k + 1) (set (set index (512 + k) (getD index g 0)) g k)) (sym e)
+      (subst (λ g. Growing key (k + 1) (set (set index (keyCount + k) (getD index g 0)) g k)) (sym e)
       (linked-next k few (omega arith) index growing))
 
   pub growing-end : (m k : ℕ) (index : List ℕ) → k ≤ m → m ≤ k → Growing key k index → Growing key m index

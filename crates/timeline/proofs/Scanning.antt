@@ -1,6 +1,6 @@
 -- What a search through the records of a key finds, once they stand in order.
 use Prim.Native.Nat.{ℕ, suc, _+_, _-_, _≤_, _<_}
-use mathlib.Core.Path.{_≡_, refl, sym, ap, subst, _∙_}
+use mathlib.Core.Path.{_≡_, sym, ap, subst, _∙_}
 use mathlib.Core.Bool.{Bool, true, false, cond}
 use mathlib.Core.List.{List}
 use mathlib.Core.Logic.{⊎-elim}
@@ -14,6 +14,7 @@ use Rattle.laws.specs.Fold.{largest}
 use Rattle.laws.proofs.Search.{either, any-found, any-none}
 use Rattle.laws.proofs.Fold.{largest-ge, largest-le}
 use Rattle.timeline.specs.Sorted.{recordIn, tickIn, TickList, Rising, Parts, Sorted}
+use Rattle.timeline.specs.Indexed.{capacity}
 
 -- Among the records of key f, from place `from` on, where tick t begins, nothing was found up to p.
 pub record Scanned (ticks sorted : List ℕ) (f : ℕ) (pred : ℕ → Bool) (t from p : ℕ) : Type 0 where
@@ -22,7 +23,7 @@ pub record Scanned (ticks sorted : List ℕ) (f : ℕ) (pred : ℕ → Bool) (t 
   pub none : (q : ℕ) → from ≤ q → q < p → pred (recordIn sorted q) ≡ false
 
 module _ {n keys : ℕ} {key : ℕ → ℕ} {ticks sorted : List ℕ} (known : Sorted n keys key ticks sorted) (f : ℕ) (h : f < keys) where
-  pub key-rising : n ≤ 512 → TickList n ticks → Rising ticks sorted (getD sorted f 0) (getD sorted (f + 1) 0)
+  pub key-rising : n ≤ capacity → TickList n ticks → Rising ticks sorted (getD sorted f 0) (getD sorted (f + 1) 0)
   key-rising most timed =
       let ends : getD sorted (f + 1) 0 ≤ n = known .ends f h in
       record {

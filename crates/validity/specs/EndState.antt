@@ -9,7 +9,7 @@ use Rattle.validity.specs.Levels.{risesBefore, fallsBefore, afterUses}
 abbrev pub endValue : Model → (ℕ → ℕ) → ℕ → ℕ
 endValue m x fact = seen m x fact (afterAll m x)
 
--- a level's initial amount plus the amounts of all its uses, plus 2147483648
+-- a level's initial amount plus the amounts of all its uses, plus `signBias`
 abbrev pub endLevel : Model → (ℕ → ℕ) → ℕ → ℕ
 endLevel m x level = m .levelInitial level + risesBefore m x level (afterUses m x) - fallsBefore m x level (afterUses m x)
 

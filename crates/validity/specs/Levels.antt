@@ -3,15 +3,15 @@ use Prim.Native.Nat.{ℕ, suc, _+_, _-_}
 use mathlib.Core.Bool.{Bool, _&&_, cond}
 use lib.Dec.{eqb, leb, ltb}
 use Rattle.laws.specs.Fold.{largest, sum}
-use Rattle.job.specs.Model.{Model}
+use Rattle.job.specs.Model.{Model, signBias}
 use Rattle.validity.specs.Ticks.{useTick}
 
 -- a use raises its level by this much, or lowers it by this much; the other is 0
 abbrev pub rise : Model → ℕ → ℕ
-rise m u = m .useAmount u - 2147483648
+rise m u = m .useAmount u - signBias
 
 abbrev pub fall : Model → ℕ → ℕ
-fall m u = 2147483648 - m .useAmount u
+fall m u = signBias - m .useAmount u
 
 -- whether a use is of the level and before tick t
 abbrev pub usedBy : Model → (ℕ → ℕ) → ℕ → ℕ → ℕ → Bool

@@ -1,4 +1,4 @@
--- The numbers and places of "Refusals", and a chain of checks in checking order.
+-- For callers: the numbers and places of "Refusals", and a chain of checks in checking order.
 use Prim.Native.Nat.{ℕ}
 use mathlib.Core.Bool.{Bool, cond}
 use lib.Dec.{ltb, eqb}

@@ -29,13 +29,11 @@ unfolding formCheck
 check-read-spec =
     tie.close
     (tie.spec
-    (λ c κs. search needs)
-    (λ c κs. search needs)
+    (λ c κs. search needs) (λ c κs. search needs)
     (λ c.
     let v = c .before .before .check-header in
     v .ensures ∙ first-refused _ _ _ (λ z. c .if1 .taken (c .before .number .ensures ∙ ap number (v .ensures) ∙ z)))
-    (λ c κs. search needs)
-    (λ c κs. search needs)
+    (λ c κs. search needs) (λ c κs. search needs)
     (λ c.
     let d = c .before .before in
     recorded d ∙ second-refused _ _ _ (passed d) (λ y. c .if2 .taken (c .before .number2 .ensures ∙ ap number (recorded d) ∙ y)))

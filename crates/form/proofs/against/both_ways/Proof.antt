@@ -12,9 +12,7 @@ both-ways-spec =
     (tie.spec
     (λ c κs. search needs)
     (λ c. λ k q. both-ways-not _ _ _ (ap (λ (x : Effect). x .at) q) (c .before .before .effect-at .ensures .0) (c .if1 .taken))
-    (λ c κs. search needs)
-    (λ c κs. search needs)
-    (λ c κs. search needs)
+    (λ c κs. search needs) (λ c κs. search needs) (λ c κs. search needs)
     (λ c. λ k q.
     let d = c .before .before .before .before .before .before in
     rw (c .before .effect-value .ensures, c .before .before .before .effect-fact .ensures, c .before .before .before .before .before .effect-step .ensures, q)

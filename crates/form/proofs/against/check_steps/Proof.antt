@@ -17,10 +17,7 @@ unfolding stepCheck againstStep
 check-steps-spec =
     tie.close
     (tie.spec
-    (λ c κs. search needs)
-    (λ c κs. search needs)
-    (λ c κs. search needs)
-    (λ c κs. search needs)
+    (λ c κs. search needs) (λ c κs. search needs) (λ c κs. search needs) (λ c κs. search needs)
     (λ c.
     let d = c .before in
     c .refuse-if .ensures ∙ accepted-then _ ∙ rw (d .lower .ensures, d .before .uses-against .ensures, d .before .before .effects-against .ensures, lowest-of)))

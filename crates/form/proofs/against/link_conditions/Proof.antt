@@ -17,12 +17,9 @@ link-conditions-spec =
     (λ s job index₀ n c₀ index c. (c ≤ n) × Growing (conditionKey (view job s)) c index)
     (λ s job index₀ n c₀ index c. n - c)
     (λ c. (search needs, c .before .pre .0))
-    (λ c κs. search needs)
-    (λ c κs. search needs)
-    (λ c κs. search needs)
+    (λ c κs. search needs) (λ c κs. search needs) (λ c κs. search needs)
     (λ c κs. let l = c .before .before .before .before in (c .before .step-key .ensures .1, omega (arith, l .before .before .before .pre .1, l .loop-test .taken)))
-    (λ c. search needs)
-    (λ c. search needs)
+    (λ c. search needs) (λ c. search needs)
     (λ c.
     let l = c .before .before .before .before .before in
     let k = c .before .before .step-key .ensures in (

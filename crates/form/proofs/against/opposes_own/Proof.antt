@@ -14,9 +14,7 @@ opposes-own-spec =
     (λ c. λ k q. opposes-else _ _ _ (ap (λ (x : Effect). x .fact) q) (c .before .before .condition-fact .ensures) (c .if1 .taken))
     (λ c κs. search needs)
     (λ c. λ k q. opposes-not _ _ _ (ap (λ (x : Effect). x .value) q) (c .before .before .condition-value .ensures) (c .if2 .taken))
-    (λ c κs. search needs)
-    (λ c κs. search needs)
-    (λ c κs. search needs)
+    (λ c κs. search needs) (λ c κs. search needs) (λ c κs. search needs)
     (λ c. λ k q.
     let d = c .before .before .before .before .before .before in
     let f = d .before .before .before in

@@ -1,4 +1,4 @@
--- A remainder of 512 is below it.
+-- A remainder is below what divides.
 use mathlib.Core.Path.{refl}
 use native.Mathlib.Omega.{arith}
 use Rattle.form.specs.Keys.{stepKey}
@@ -11,6 +11,5 @@ unfolding stepKey
 step-key-spec =
     tie.close
     (tie.spec
-    (λ c. search needs)
-    (λ c. search needs)
+    (λ c. search needs) (λ c. search needs)
     (λ c. (refl, omega arith)))

@@ -23,27 +23,24 @@ uses-against-spec =
     (λ s job n index₀ best₀ u₀ index best u. n - u)
     (λ c. owner-end _ _ _ _ 0 (sym (owner-start _ _ _)) (omega arith) (omega (arith, c .if1 .taken)))
     (λ c. (search needs, growing-start _, sym (owner-start _ _ _)))
-    (λ c κs. search needs)
-    (λ c κs. search needs)
-    (λ c κs. search needs)
+    (λ c κs. search needs) (λ c κs. search needs) (λ c κs. search needs)
     (λ c. sym (c .before .before .before .before .before .loop .inv .1 .size))
     (λ c κs.
     let l = c .before .before .before .before in
-    let k = c .before .step-key .ensures in (
-      l .before .loop .inv .1,
-      omega (arith, l .loop-test .taken, l .before .before .before .before .pre),
-      k .0 ∙ ap₂ stepKey (c .before .before .before .use-step .ensures) (c .before .before .use-level .ensures),
-      k .1,
-    ))
+    let k = c .before .step-key .ensures in record {
+      growing = l .before .loop .inv .1;
+      few = omega (arith, l .loop-test .taken, l .before .before .before .before .pre .uses);
+      same = k .0 ∙ ap₂ stepKey (c .before .before .before .use-step .ensures) (c .before .before .use-level .ensures);
+      low = k .1;
+    })
     (λ c κs. search needs)
-    (λ c κs. let l = c .before .before .before .before .before .before .before in (c .before .before .before .before .step-key .ensures .1, omega (arith, l .loop-test .taken, l .before .before .before .before .pre)))
-    (λ c. search needs)
-    (λ c. search needs)
+    (λ c κs. let l = c .before .before .before .before .before .before .before in (c .before .before .before .before .step-key .ensures .1, omega (arith, l .loop-test .taken, l .before .before .before .before .pre .uses)))
+    (λ c. search needs) (λ c. search needs)
     (λ c.
     let l = c .before .before .before .before .before .before .before .before in
     let k = c .before .before .before .before .before .step-key .ensures in (
       search needs,
-      growing-more _ _ _ _ (omega (arith, l .loop-test .taken, l .before .before .before .before .pre)) (k .0 ∙ ap₂ stepKey (c .before .before .before .before .before .before .before .use-step .ensures) (c .before .before .before .before .before .before .use-level .ensures)) (k .1) (l .before .loop .inv .1) (c .link .ensures),
+      growing-more _ _ _ _ (omega (arith, l .loop-test .taken, l .before .before .before .before .pre .uses)) (k .0 ∙ ap₂ stepKey (c .before .before .before .before .before .before .before .use-step .ensures) (c .before .before .before .before .before .before .use-level .ensures)) (k .1) (l .before .loop .inv .1) (c .link .ensures),
       owner-more _ _ _ _ (l .before .loop .inv .2) (c .before .before .before .used-before .ensures) (c .before .before .before .before .before .before .before .use-step .ensures) (c .before .before .lower-if .ensures),
     ))
     (λ c. owner-end _ _ _ _ _ (c .before .loop .inv .2) (c .before .loop .inv .0) (c .loop-test .left)))

@@ -9,6 +9,5 @@ unfolding conditionOk
 condition-ok-spec =
     tie.close
     (tie.spec
-    (λ c κs. search needs)
-    (λ c κs. search needs)
+    (λ c κs. search needs) (λ c κs. search needs)
     (λ c. rw (c .before .before .step-length .ensures .0, c .before .before .before .before .before .before .before .before .condition-of .ensures)))

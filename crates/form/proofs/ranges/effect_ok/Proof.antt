@@ -9,6 +9,5 @@ unfolding effectOk
 effect-ok-spec =
     tie.close
     (tie.spec
-    (λ c κs. search needs)
-    (λ c κs. search needs)
+    (λ c κs. search needs) (λ c κs. search needs)
     (λ c. rw (c .before .before .step-length .ensures .0, c .before .before .before .before .before .before .before .effect-of .ensures)))

@@ -10,4 +10,4 @@ fact-ok-spec =
     tie.close
     (tie.spec
     (λ c κs. search needs)
-    (λ c. rw (c .fact-initial .ensures)))
+    (λ c. cc))

@@ -19,7 +19,6 @@ first-broken-spec =
     (λ c. (search needs, lowest-start _))
     (λ c κs. search needs)
     (λ c. lowest-found _ _ _ (c .before .before .before .loop .inv .1) (c .before .before .loop-test .taken) (ap not (c .before .record-ok .ensures)) (c .if1 .taken))
-    (λ c. search needs)
-    (λ c. search needs)
+    (λ c. search needs) (λ c. search needs)
     (λ c. (search needs, lowest-more _ _ (c .before .before .before .loop .inv .1) (ap not (c .before .record-ok .ensures)) (c .if1 .left)))
     (λ c. lowest-end _ _ _ (c .before .loop .inv .1) (c .before .loop .inv .0) (c .loop-test .left)))

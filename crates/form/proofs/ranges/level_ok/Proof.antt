@@ -9,8 +9,5 @@ unfolding levelOk
 level-ok-spec =
     tie.close
     (tie.spec
-    (λ c κs. search needs)
-    (λ c κs. search needs)
-    (λ c κs. search needs)
-    (λ c κs. search needs)
+    (λ c κs. search needs) (λ c κs. search needs) (λ c κs. search needs) (λ c κs. search needs)
     (λ c. let d = c .before .before in rw (d .level-in-range3 .ensures, d .before .level-in-range2 .ensures, d .before .before .level-in-range .ensures, d .before .before .before .level-at .ensures)))

@@ -9,7 +9,5 @@ unfolding stepOk
 step-ok-spec =
     tie.close
     (tie.spec
-    (λ c κs. search needs)
-    (λ c κs. search needs)
-    (λ c κs. search needs)
-    (λ c. rw (c .step-fixed .ensures, c .before .step-length .ensures .0, c .before .before .step-start .ensures .0)))
+    (λ c κs. search needs) (λ c κs. search needs) (λ c κs. search needs)
+    (λ c. cc))

@@ -1,9 +1,9 @@
 -- The seven tests are those of `any 7`.
 use mathlib.Core.Path.{refl}
 use Rattle.laws.specs.Search.{any}
-use Rattle.form.specs.Header.{countTooHigh}
-use Rattle.form.proofs.header.count_too_high.Statement.{statement}
-use Rattle.form.proofs.header.count_too_high.Tie as tie
+use Rattle.job.specs.Layout.{countTooHigh}
+use Rattle.job.proofs.layout.count_too_high.Statement.{statement}
+use Rattle.job.proofs.layout.count_too_high.Tie as tie
 
 pub count-too-high-spec : {M : Type 1} → statement M
 unfolding countTooHigh any
