@@ -15,7 +15,7 @@ use Rattle.laws.proofs.Listed.{concatenate-more}
 use Rattle.laws.proofs.Nth.{count-more, count-same, nth-is}
 use Rattle.little_endian.proofs.Sets.{sets-behind}
 use Rattle.order_file.specs.Encode.{headerWith, windowWith}
-use Rattle.order_file.specs.Layout.{edition, windowsAt, ordersAt, linksAt}
+use Rattle.order_file.specs.Layout.{fileEdition, windowsAt, ordersAt, linksAt}
 use Rattle.order_file.proofs.Stands.{length-parts}
 use Rattle.order_file.specs.Table.{rowWidth, tableSize, startIn}
 use Rattle.order_file.specs.Held.{entered, windowIn, entryBytes, orderIn, linkIn, NoneFrom}
@@ -33,7 +33,7 @@ put-three l a b c at next last e f =
 pub put-header :
     (l : List ℕ) {a b c d e f g h : List ℕ} (steps orders links rounds : ℕ) {second third : ℕ}
     → second ≡ ordersAt steps → third ≡ linksAt steps orders
-    → a ≡ sets l 0 (u16Bytes edition)
+    → a ≡ sets l 0 (u16Bytes fileEdition)
     → b ≡ sets a 2 (u16Bytes steps)
     → c ≡ sets b 4 (u16Bytes orders)
     → d ≡ sets c 6 (u16Bytes links)

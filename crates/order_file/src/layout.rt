@@ -4,13 +4,13 @@ ghost use Prim.Native.Nat.{_<_};
 ghost use Rattle.order_file.specs.Layout.{windowAt, orderAt, linkAt, gapRead, contentsOf};
 
 // The edition of every order file.
-pub const EDITION: usize = 1;
+pub const FILE_EDITION: usize = 1;
 
 // Where the windows begin.
 pub const WINDOWS_AT: usize = 24;
 
 // Record widths in bytes, in the tables' order.
-pub const WIDTHS: [usize; 3] = [12, 8, 2];
+pub const FILE_WIDTHS: [usize; 3] = [12, 8, 2];
 
 pub const WINDOW: usize = 0;
 
@@ -48,7 +48,7 @@ pub fn window_at(k: usize) -> usize
     requires { ⌜ k < 65536 ⌝ }
     ensures { λ r. ⌜ (r ≡ windowAt k) × (r < 1000000) ⌝ }
 {
-    WINDOWS_AT + WIDTHS[WINDOW] * k
+    WINDOWS_AT + FILE_WIDTHS[WINDOW] * k
 }
 
 // Where an order begins; that of the number past the last is where the links begin.
@@ -56,7 +56,7 @@ pub fn order_at(steps: usize, k: usize) -> usize
     requires { ⌜ (steps < 65536) × (k < 65536) ⌝ }
     ensures { λ r. ⌜ (r ≡ orderAt steps k) × (r < 2000000) ⌝ }
 {
-    window_at(steps) + WIDTHS[ORDER] * k
+    window_at(steps) + FILE_WIDTHS[ORDER] * k
 }
 
 // Where a link begins; that of the number past the last is where the file ends.
@@ -64,7 +64,7 @@ pub fn link_at(steps: usize, orders: usize, k: usize) -> usize
     requires { ⌜ (steps < 65536) × (orders < 65536) × (k < 65536) ⌝ }
     ensures { λ r. ⌜ (r ≡ linkAt steps orders k) × (r < 3000000) ⌝ }
 {
-    order_at(steps, orders) + WIDTHS[LINK] * k
+    order_at(steps, orders) + FILE_WIDTHS[LINK] * k
 }
 
 // How many steps, orders and links the file counts.

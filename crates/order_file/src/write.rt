@@ -11,9 +11,9 @@ ghost use Rattle.order_file.specs.Table.{tableSize};
 ghost use Rattle.order_file.specs.Encode.{headerWith, windowWith, encode};
 ghost use Rattle.order_file.specs.Held.{entered, heldIn, windowIn, entryBytes, orderIn, linkIn, over, NoneFrom, Roomy};
 use crate::layout;
+use crate::layout::FILE_WIDTHS;
 use crate::layout::LINK;
 use crate::layout::ORDER;
-use crate::layout::WIDTHS;
 use crate::table::NO_ORDER;
 use crate::table::WIDTH;
 use little_endian::put_u16;
@@ -57,7 +57,7 @@ fn write_header(header: Header, out: &mut [u8])
 {
     let steps = header.steps;
     let orders = header.orders;
-    put_u16(0, layout::EDITION, out);
+    put_u16(0, layout::FILE_EDITION, out);
     put_u16(2, steps, out);
     put_u16(4, orders, out);
     put_u16(6, header.links, out);
@@ -118,7 +118,7 @@ fn write_orders(from: usize, gaps: &[u32], steps: usize, out: &mut [u8])
     while q < end {
         if gaps[q] != NO_ORDER {
             write_order(at, q, gaps[q] as usize, out);
-            at += WIDTHS[ORDER];
+            at += FILE_WIDTHS[ORDER];
         }
         q += 1;
     }
@@ -131,7 +131,7 @@ fn write_links(from: usize, links: usize, linked: &[u16], out: &mut [u8])
 {
     let mut j = 0;
     while j < links {
-        put_u16(from + WIDTHS[LINK] * j, linked[j] as usize, out);
+        put_u16(from + FILE_WIDTHS[LINK] * j, linked[j] as usize, out);
         j += 1;
     }
 }

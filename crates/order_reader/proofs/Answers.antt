@@ -12,7 +12,7 @@ use Rattle.order_file.specs.Contents.{Contents, signedGap}
 use Rattle.order_file.specs.Layout.{contentsOf}
 use Rattle.order_reader.specs.WellFormed.{wellFormed}
 use Rattle.order_reader.specs.Alike.{alikeContents}
-use Rattle.order_reader.specs.Answers.{broken, headerOf, headerRead, headerNumber, headerPlace, headerValues, HeaderPromise}
+use Rattle.order_reader.specs.Answers.{noOrderFile, headerOf, headerRead, headerNumber, headerPlace, headerValues, HeaderPromise}
 use Rattle.order_reader.specs.Answers.{recordOf, recordThere, recordRead, recordNumber, recordPlace, recordValues, RecordPromise}
 use Rattle.order_reader.specs.Answers.{alikeAnswer, alikeNumber, alikePlace, alikeYes, AlikePromise}
 use Rattle.order_reader.specs.declared.HeaderRead.{HeaderRead}
@@ -68,7 +68,7 @@ record-promise b table k r e =
     (either (recordThere b table k))
 
 alike-cases : (a b same : Bool) → let r = cond a (cond b (cond same Alike Different) SecondBroken) FirstBroken in
-    (alikeNumber r ≡ cond (a && b) 0 broken) × (alikePlace r ≡ cond a (cond b nowhere 1) 0) × (alikeYes r ≡ (a && b && same))
+    (alikeNumber r ≡ cond (a && b) 0 noOrderFile) × (alikePlace r ≡ cond a (cond b nowhere 1) 0) × (alikeYes r ≡ (a && b && same))
 alike-cases true true true = (refl, refl, refl)
 alike-cases true true false = (refl, refl, refl)
 alike-cases true false same = (refl, refl, refl)

@@ -6,7 +6,7 @@ use mathlib.Core.List.{List}
 use native.Mathlib.Omega.{arith}
 use borrow.Author.Tests.{lt-ltb, le-ltb}
 use Rattle.order_file.specs.Contents.{Contents, signedGap}
-use Rattle.order_file.specs.Layout.{edition, windowsAt, ordersAt, linksAt, contentsOf}
+use Rattle.order_file.specs.Layout.{fileEdition, windowsAt, ordersAt, linksAt, contentsOf}
 use Rattle.order_file.specs.Encode.{encode}
 use Rattle.order_reader.specs.WellFormed.{wellFormed}
 use Rattle.order_file.specs.Within.{Within}
@@ -32,7 +32,7 @@ record-found b table k e h = simp (e, lt-ltb k (recordCount (contentsOf b) table
 module _ (c : Contents) (w : Within c) where
   pub header-back :
       headerRead (encode c)
-      ≡ Header edition (c .steps) (c .orders) (c .links) (c .rounds) windowsAt (ordersAt (c .steps)) (linksAt (c .steps) (c .orders))
+      ≡ Header fileEdition (c .steps) (c .orders) (c .links) (c .rounds) windowsAt (ordersAt (c .steps)) (linksAt (c .steps) (c .orders))
   unfolding headerRead headerOf
   header-back =
       simp (encode-well-formed c w)

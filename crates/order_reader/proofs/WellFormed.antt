@@ -12,7 +12,7 @@ use Rattle.laws.specs.Search.{all}
 use Rattle.little_endian.specs.Bytes.{u16At, u32At}
 use Rattle.laws.proofs.Search.{all-intro, all-elim, and-l, and-r, or-out}
 use Rattle.order_file.specs.Contents.{Contents, mostSteps, mostOrders, mostLinks, leastGap, mostGap, lastEffect, initialState}
-use Rattle.order_file.specs.Layout.{edition, windowsAt, windowAt, ordersAt, linksAt, fileLength, contentsOf}
+use Rattle.order_file.specs.Layout.{fileEdition, windowsAt, windowAt, ordersAt, linksAt, fileLength, contentsOf}
 use Rattle.order_file.specs.Encode.{encode}
 use Rattle.order_reader.specs.WellFormed.{layoutHolds, lengthHolds, countsHold, orderHolds, ascends}
 use Rattle.order_reader.specs.WellFormed.{linkHolds, roundsHold, windowHolds, wellFormed}
@@ -118,7 +118,7 @@ module _ (c : Contents) (w : Within c) where
   layout-encoded =
       let a = round-trip c w in
       simp (
-        eq-eqb (u16At (encode c) 0) edition (edition-back c w),
+        eq-eqb (u16At (encode c) 0) fileEdition (edition-back c w),
         eq-eqb (u32At (encode c) 12) windowsAt (windows-at-back c w),
         eq-eqb (u32At (encode c) 16) (ordersAt (contentsOf (encode c) .steps)) (orders-at-back c w ∙ ap ordersAt (sym (a .steps))),
         eq-eqb (u32At (encode c) 20) (linksAt (contentsOf (encode c) .steps) (contentsOf (encode c) .orders))

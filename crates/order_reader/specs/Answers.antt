@@ -19,8 +19,8 @@ use Rattle.order_reader.specs.declared.AlikeAnswer.{AlikeAnswer}
 use Rattle.order_reader.specs.declared.AlikeAnswer.the-variants.{Alike, Different, FirstBroken, SecondBroken}
 
 -- the refusal of a file that is no order file, or of a record that is not there
-abbrev pub broken : ℕ
-broken = 16
+abbrev pub noOrderFile : ℕ
+noOrderFile = 16
 
 -- the header's numbers as they stand in the file
 unfoldable pub headerOf : List ℕ → HeaderRead
@@ -34,7 +34,7 @@ headerRead b = cond (wellFormed b) (headerOf b) header.Broken
 -- refusal 16, place 0, of a broken file; every other number is then 0
 abbrev pub headerNumber : HeaderRead → ℕ
 headerNumber (header.Header edition steps orders links rounds windows ordersFrom linksFrom) = 0
-headerNumber header.Broken = broken
+headerNumber header.Broken = noOrderFile
 
 abbrev pub headerPlace : HeaderRead → ℕ
 headerPlace (header.Header edition steps orders links rounds windows ordersFrom linksFrom) = nowhere
@@ -69,7 +69,7 @@ abbrev pub recordNumber : RecordRead → ℕ
 recordNumber (recorded.Window limit latest earliest) = 0
 recordNumber (recorded.Order first second gap) = 0
 recordNumber (recorded.Link link) = 0
-recordNumber recorded.Broken = broken
+recordNumber recorded.Broken = noOrderFile
 
 abbrev pub recordPlace : RecordRead → ℕ
 recordPlace (recorded.Window limit latest earliest) = nowhere
@@ -94,8 +94,8 @@ alikeAnswer a b =
 abbrev pub alikeNumber : AlikeAnswer → ℕ
 alikeNumber Alike = 0
 alikeNumber Different = 0
-alikeNumber FirstBroken = broken
-alikeNumber SecondBroken = broken
+alikeNumber FirstBroken = noOrderFile
+alikeNumber SecondBroken = noOrderFile
 
 abbrev pub alikePlace : AlikeAnswer → ℕ
 alikePlace Alike = nowhere
@@ -112,18 +112,18 @@ alikeYes SecondBroken = false
 -- What each entry point promises: its answer, and the paper's number, place and values of that.
 pub record HeaderPromise (b : List ℕ) (r : HeaderRead) : Type 0 where
   pub answer : r ≡ headerRead b
-  pub number : headerNumber r ≡ cond (wellFormed b) 0 broken
+  pub number : headerNumber r ≡ cond (wellFormed b) 0 noOrderFile
   pub place : headerPlace r ≡ cond (wellFormed b) nowhere 0
   pub values : headerValues r ≡ cond (wellFormed b) (headerValues (headerOf b)) (headerValues header.Broken)
 
 pub record RecordPromise (b : List ℕ) (table k : ℕ) (r : RecordRead) : Type 0 where
   pub answer : r ≡ recordRead b table k
-  pub number : recordNumber r ≡ cond (recordThere b table k) 0 broken
+  pub number : recordNumber r ≡ cond (recordThere b table k) 0 noOrderFile
   pub place : recordPlace r ≡ cond (recordThere b table k) nowhere 0
   pub values : recordValues r ≡ cond (recordThere b table k) (recordValues (recordOf (contentsOf b) table k)) (recordValues recorded.Broken)
 
 pub record AlikePromise (a b : List ℕ) (r : AlikeAnswer) : Type 0 where
   pub answer : r ≡ alikeAnswer a b
-  pub number : alikeNumber r ≡ cond (wellFormed a && wellFormed b) 0 broken
+  pub number : alikeNumber r ≡ cond (wellFormed a && wellFormed b) 0 noOrderFile
   pub place : alikePlace r ≡ cond (wellFormed a) (cond (wellFormed b) nowhere 1) 0
   pub yes : alikeYes r ≡ (wellFormed a && wellFormed b && alikeContents (contentsOf a) (contentsOf b))

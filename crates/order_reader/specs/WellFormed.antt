@@ -7,13 +7,13 @@ use lib.Dec.{ltb, leb, eqb}
 use Rattle.laws.specs.Search.{all}
 use Rattle.little_endian.specs.Bytes.{u16At, u32At}
 use Rattle.order_file.specs.Contents.{Contents, mostSteps, mostOrders, mostLinks, leastGap, mostGap, lastEffect, initialState}
-use Rattle.order_file.specs.Layout.{edition, windowsAt, ordersAt, linksAt, fileLength, contentsOf}
+use Rattle.order_file.specs.Layout.{fileEdition, windowsAt, ordersAt, linksAt, fileLength, contentsOf}
 
 -- its layout: the edition, and the offsets of tables without gaps
 unfoldable pub layoutHolds : List ℕ → Bool
 layoutHolds b =
     let c = contentsOf b in
-    eqb (u16At b 0) edition
+    eqb (u16At b 0) fileEdition
     && eqb (u32At b 12) windowsAt
     && eqb (u32At b 16) (ordersAt (c .steps))
     && eqb (u32At b 20) (linksAt (c .steps) (c .orders))

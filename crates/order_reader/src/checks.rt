@@ -13,7 +13,7 @@ fn layout_holds(file: &[u8]) -> bool
 {
     let steps = layout::steps(file);
     let orders = layout::orders(file);
-    (little_endian::u16_at(file, 0) == layout::EDITION)
+    (little_endian::u16_at(file, 0) == layout::FILE_EDITION)
         & (little_endian::u32_at(file, 12) == layout::WINDOWS_AT)
         & (little_endian::u32_at(file, 16) == layout::window_at(steps))
         & (little_endian::u32_at(file, 20) == layout::order_at(steps, orders))

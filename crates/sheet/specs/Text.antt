@@ -47,8 +47,8 @@ placeWord = 32 ∷ 112 ∷ 108 ∷ 97 ∷ 99 ∷ 101 ∷ 32 ∷ []
 abbrev pub space : List ℕ
 space = 32 ∷ []
 
-abbrev pub minus : List ℕ
-minus = 45 ∷ []
+abbrev pub minusSign : List ℕ
+minusSign = 45 ∷ []
 
 abbrev pub newline : List ℕ
 newline = 10 ∷ []
@@ -66,7 +66,7 @@ decimal n = digits (suc n) n
 -- a number with its sign: a minus sign and the amount where it is negative
 abbrev pub signed : ℤ → List ℕ
 signed (pos n) = decimal n
-signed (negsuc n) = minus ++ decimal (suc n)
+signed (negsuc n) = minusSign ++ decimal (suc n)
 
 -- the gap of an order, of the gap plus 100000
 unfoldable pub gapText : ℕ → List ℕ
