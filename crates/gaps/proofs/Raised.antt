@@ -14,13 +14,18 @@ use lib.Seq.{getD-set-same, getD-set-other}
 use Rattle.laws.specs.Fold.{largest}
 use Rattle.laws.proofs.Fold.{largest-ge, largest-le}
 use Rattle.orders.proofs.Near.{counted-le}
-use Rattle.order_file.specs.Table.{gapIn, Gaps}
-use Rattle.gaps.specs.Table.{single, Raised, TableOf}
+use Rattle.order_file.specs.Table.{gapIn, Gaps, rowWidth, tableSize}
+use Rattle.gaps.specs.Table.{single, TableOf}
+use Rattle.gaps.specs.Raised.{Raised}
 use Rattle.laws.proofs.Chosen.{eqb-same}
+use Rattle.order_file.specs.Contents.{stepLimit, mostGap}
 
 -- what one order says of the entry at a and b
 pub single-at : (i k gap : ℕ) → single i k gap i k ≡ gap
 single-at i k gap = ap (λ t. cond t gap 0) (ap₂ _&&_ (eqb-same i) (eqb-same k))
+
+pub single-is : (i k gap a b : ℕ) → i ≡ a → k ≡ b → single i k gap a b ≡ gap
+single-is i k gap a b p q = rw (← p, ← q) (single-at i k gap)
 
 pub single-off : (i k gap a b : ℕ) → (i ≡ a → k ≡ b → ⊥) → single i k gap a b ≡ 0
 single-off i k gap a b d =
@@ -38,79 +43,80 @@ joins : (a b c d e : ℕ) (t : Bool) → c ≡ max b (cond t 0 d) → a ≡ max 
 joins a b c d e true p q = omega arith
 joins a b c d e false p q = omega arith
 
+-- A table that is high enough stays as it is.
+raised-still : (n : ℕ) (f : ℕ → ℕ → ℕ) (gaps : List ℕ) → ((i k : ℕ) → (i ≡ k → ⊥) → f i k ≤ gapIn gaps i k) → Raised n f gaps gaps
+raised-still n f gaps high =
+    record {
+      whole = λ g. g;
+      below = λ a b h l.
+          elim (ℕ-discrete a b) [
+            | yes q ↦ rw (eq-eqb a b q) (omega arith)
+            | no q ↦ keeps _ _ (eqb a b) (high a b q)
+          ];
+      rest = λ a b h d. refl;
+    }
+
+pub raised-none : (n : ℕ) (f : ℕ → ℕ → ℕ) (gaps : List ℕ) → ((i k : ℕ) → f i k ≡ 0) → Raised n f gaps gaps
+raised-none n f gaps z = raised-still n f gaps (λ i k d. omega (arith, z i k))
+
 -- An order into a table: of one step with itself, no larger than what is there, or larger.
 module _ (gaps : List ℕ) (i k gap : ℕ) where
-  pub raised-own : i ≡ k → Raised 64 (single i k gap) gaps gaps
-  raised-own e =
-      record {
-        whole = λ g. g;
-        below = λ a b h l.
-            elim (ℕ-discrete a b) [
-              | yes q ↦ rw (eq-eqb a b q) (omega arith)
-              | no q ↦ keeps _ _ (eqb a b) (omega (arith, single-off i k gap a b (λ s t. q (sym s ∙ e ∙ t))))
-            ];
-        rest = λ a b h n. refl;
-      }
+  pub raised-own : i ≡ k → Raised rowWidth (single i k gap) gaps gaps
+  raised-own e = raised-still rowWidth (single i k gap) gaps (λ a b d. omega (arith, single-off i k gap a b (λ s t. d (sym s ∙ e ∙ t))))
 
-  pub raised-less : gap ≤ gapIn gaps i k → Raised 64 (single i k gap) gaps gaps
+  pub raised-less : gap ≤ gapIn gaps i k → Raised rowWidth (single i k gap) gaps gaps
   raised-less h =
-      record {
-        whole = λ g. g;
-        below = λ a b l r. keeps _ _ (eqb a b) (under a b);
-        rest = λ a b l n. refl;
-      }
-    where
-      under : (a b : ℕ) → single i k gap a b ≤ gapIn gaps a b
-      under a b =
-          elim (ℕ-discrete (64 * a + b) (64 * i + k)) [
-            | yes q ↦ rw q (omega (arith, counted-le (eqb i a && eqb k b) gap))
-            | no q ↦ omega (arith, single-off i k gap a b (λ s t. q (omega arith)))
-          ]
+      raised-still rowWidth (single i k gap) gaps
+      (λ a b d.
+      elim (ℕ-discrete (rowWidth * a + b) (rowWidth * i + k)) [
+        | yes q ↦ rw q (omega (arith, counted-le (eqb i a && eqb k b) gap))
+        | no q ↦ omega (arith, single-off i k gap a b (λ s t. q (omega arith)))
+      ])
 
   pub raised-set :
-      i < 64 → k < 64 → (i ≡ k → ⊥) → gapIn gaps i k < gap → gap ≤ 200001 → length gaps ≡ 4096
-      → Raised 64 (single i k gap) gaps (set gaps (64 * i + k) gap)
+      i < rowWidth → k < rowWidth → (i ≡ k → ⊥) → gapIn gaps i k < gap → gap ≤ mostGap → length gaps ≡ tableSize
+      → Raised rowWidth (single i k gap) gaps (set gaps (rowWidth * i + k) gap)
   raised-set h small d l m n =
       record {
-        whole = λ g. record { size = length-set gaps (64 * i + k) gap ∙ n; most = most g };
+        whole = λ g. record { size = length-set gaps (rowWidth * i + k) gap ∙ n; most = most g };
         below = below;
-        rest = λ a b r w. getD-set-other gaps (64 * i + k) (64 * a + b) gap 0 (λ q. w (omega arith) (omega arith));
+        rest = λ a b r w. getD-set-other gaps (rowWidth * i + k) (rowWidth * a + b) gap 0 (λ q. w (omega arith) (omega arith));
       }
     where
-      here : getD (set gaps (64 * i + k) gap) (64 * i + k) 0 ≡ gap
-      here = getD-set-same gaps (64 * i + k) gap 0 (omega arith)
+      here : getD (set gaps (rowWidth * i + k) gap) (rowWidth * i + k) 0 ≡ gap
+      here = getD-set-same gaps (rowWidth * i + k) gap 0 (omega arith)
 
-      most : Gaps gaps → (p : ℕ) → getD (set gaps (64 * i + k) gap) p 0 ≤ 200001
+      most : Gaps gaps → (p : ℕ) → getD (set gaps (rowWidth * i + k) gap) p 0 ≤ mostGap
       most g p =
-          elim (ℕ-discrete p (64 * i + k)) [
+          elim (ℕ-discrete p (rowWidth * i + k)) [
             | yes q ↦ rw q (omega (arith, here))
-            | no q ↦ omega (arith, getD-set-other gaps (64 * i + k) p gap 0 q, g .most p)
+            | no q ↦ omega (arith, getD-set-other gaps (rowWidth * i + k) p gap 0 q, g .most p)
           ]
 
       below :
-          (a b : ℕ) → a < 64 → b < 64
-          → gapIn (set gaps (64 * i + k) gap) a b ≡ max (gapIn gaps a b) (cond (eqb a b) 0 (single i k gap a b))
+          (a b : ℕ) → a < rowWidth → b < rowWidth
+          → gapIn (set gaps (rowWidth * i + k) gap) a b ≡ max (gapIn gaps a b) (cond (eqb a b) 0 (single i k gap a b))
       below a b r s =
-          elim (ℕ-discrete (64 * a + b) (64 * i + k)) [
+          elim (ℕ-discrete (rowWidth * a + b) (rowWidth * i + k)) [
             | yes q ↦
                 let u : a ≡ i = omega arith in
                 let v : b ≡ k = omega arith in
                 rw (u, v, ne-eqb i k d, single-at i k gap) (omega (arith, here))
             | no q ↦
-                getD-set-other gaps (64 * i + k) (64 * a + b) gap 0 q
+                getD-set-other gaps (rowWidth * i + k) (rowWidth * a + b) gap 0 q
                 ∙ keeps _ _ (eqb a b) (omega (arith, single-off i k gap a b (λ s t. q (omega arith))))
           ]
 
 -- an order between steps below n
 raised-narrow :
-    (n i k gap : ℕ) (before after : List ℕ) → n ≤ 64 → i < n → k < n → Raised 64 (single i k gap) before after
+    (n i k gap : ℕ) (before after : List ℕ) → n ≤ stepLimit → i < n → k < n → Raised rowWidth (single i k gap) before after
     → Raised n (single i k gap) before after
 raised-narrow n i k gap before after m h l w =
     record {
       whole = w .whole;
       below = λ a b r s. w .below a b (omega arith) (omega arith);
       rest = λ a b r d.
-          elim (decLt a 64) [
+          elim (decLt a rowWidth) [
             | yes s ↦
                 w .below a b s r
                 ∙ sym
@@ -119,16 +125,6 @@ raised-narrow n i k gap before after m h l w =
             | no s ↦ w .rest a b r (λ t _. s t)
           ];
     }
-
-module _ (n : ℕ) (f : ℕ → ℕ → ℕ) (before : List ℕ) where
-  -- by nothing
-  pub raised-none : ((i k : ℕ) → f i k ≡ 0) → Raised n f before before
-  raised-none z =
-      record {
-        whole = λ h. h;
-        below = λ i k h l. keeps (gapIn before i k) (f i k) (eqb i k) (omega (arith, z i k));
-        rest = λ i k h d. refl;
-      }
 
 module _ (n : ℕ) (f g : ℕ → ℕ → ℕ) (before : List ℕ) where
   -- gaps that agree raise alike
@@ -153,7 +149,7 @@ module _ (n : ℕ) (f g : ℕ → ℕ → ℕ) (before : List ℕ) where
 
 -- by one order, which f names
 pub raised-one :
-    (n : ℕ) (f : ℕ → ℕ → ℕ) (a b gap : ℕ) (before after : List ℕ) → n ≤ 64 → a < n → b < n → Raised 64 (single a b gap) before after
+    (n : ℕ) (f : ℕ → ℕ → ℕ) (a b gap : ℕ) (before after : List ℕ) → n ≤ stepLimit → a < n → b < n → Raised rowWidth (single a b gap) before after
     → ((i k : ℕ) → single a b gap i k ≡ f i k)
     → Raised n f before after
 raised-one n f a b gap before after m h l w e =
@@ -172,8 +168,8 @@ module _ (n : ℕ) (order : ℕ → ℕ → ℕ → ℕ) (before : List ℕ) whe
   raised-more j mid after v w = rw add-one (raised-then n (λ i k. largest j (order i k)) (λ i k. order i k j) before mid after v w)
 
   pub raised-order :
-      (j a b gap : ℕ) (mid after : List ℕ) → Raised n (λ i k. largest j (order i k)) before mid → n ≤ 64 → a < n → b < n
-      → Raised 64 (single a b gap) mid after
+      (j a b gap : ℕ) (mid after : List ℕ) → Raised n (λ i k. largest j (order i k)) before mid → n ≤ stepLimit → a < n → b < n
+      → Raised rowWidth (single a b gap) mid after
       → ((i k : ℕ) → single a b gap i k ≡ order i k j)
       → Raised n (λ i k. largest (j + 1) (order i k)) before after
   raised-order j a b gap mid after v m h l w e =
@@ -209,16 +205,16 @@ module _ (n : ℕ) (gap : ℕ → ℕ → ℕ) (a b : ℕ) where
       )
 
 -- an empty table, and what it is when it was raised
-pub empty-gaps : (gaps : List ℕ) → length gaps ≡ 4096 → ((p : ℕ) → getD gaps p 0 ≡ 0) → Gaps gaps
+pub empty-gaps : (gaps : List ℕ) → length gaps ≡ tableSize → ((p : ℕ) → getD gaps p 0 ≡ 0) → Gaps gaps
 empty-gaps gaps l z = record { size = l; most = λ p. omega (arith, z p) }
 
 pub table-of :
-    (n : ℕ) (f : ℕ → ℕ → ℕ) (before after : List ℕ) → Raised n f before after → length before ≡ 4096
+    (n : ℕ) (f : ℕ → ℕ → ℕ) (before after : List ℕ) → Raised n f before after → length before ≡ tableSize
     → ((p : ℕ) → getD before p 0 ≡ 0)
     → TableOf n (λ i k. cond (eqb i k) 0 (f i k)) after
 table-of n f before after w l z =
     record {
       whole = w .whole (empty-gaps before l z);
-      below = λ i k h g. omega (arith, w .below i k h g, z (64 * i + k));
-      rest = λ i k h d. w .rest i k h d ∙ z (64 * i + k);
+      below = λ i k h g. omega (arith, w .below i k h g, z (rowWidth * i + k));
+      rest = λ i k h d. w .rest i k h d ∙ z (rowWidth * i + k);
     }

@@ -8,10 +8,12 @@ use native.Mathlib.Decide.{ℕ-discrete, decLt}
 use native.Mathlib.Omega.{arith}
 use borrow.Author.Tests.{eq-eqb, ne-eqb}
 use lib.Dec.{eqb}
-use Rattle.order_file.specs.Table.{gapIn}
-use Rattle.gaps.specs.Table.{single, Raised}
+use Rattle.order_file.specs.Table.{gapIn, rowWidth}
+use Rattle.gaps.specs.Table.{single}
+use Rattle.gaps.specs.Raised.{Raised}
 use Rattle.gaps.specs.Points.{Apart, Reached, Among}
-use Rattle.gaps.proofs.Raised.{single-at, single-off, raised-one}
+use Rattle.gaps.proofs.Raised.{single-is, single-off, raised-one}
+use Rattle.order_file.specs.Contents.{stepLimit}
 
 -- no orders, and the same orders said otherwise
 pub reached-none :
@@ -40,7 +42,7 @@ reached-is n P Q before after w to from =
     }
 
 -- first the orders P, then the orders Q
-pub reached-then :
+reached-then :
     (n : ℕ) (P Q R : ℕ → ℕ → ℕ → Type 0) (before mid after : List ℕ) → Reached n P before mid → Reached n Q mid after
     → ((i k gap : ℕ) → P i k gap → R i k gap)
     → ((i k gap : ℕ) → Q i k gap → R i k gap)
@@ -66,44 +68,40 @@ pub reached-either :
 reached-either n P Q before mid after v w =
     reached-then n P Q (λ i k gap. P i k gap ⊎ Q i k gap) before mid after v w (λ i k gap o. inl o) (λ i k gap o. inr o) (λ i k gap o. o)
 
--- place by place, up or down
+-- The orders of places: one more place, above or below, and all.
 module _ (n : ℕ) (Order : ℕ → ℕ → ℕ → ℕ → Type 0) (before mid after : List ℕ) where
+  within-more :
+      (low high low' high' q : ℕ) → low' ≤ low → high ≤ high' → low' ≤ q → q < high'
+      → ((p : ℕ) → low' ≤ p → p < high' → (p ≡ q → ⊥) → (low ≤ p) × (p < high))
+      → Reached n (Among low high Order) before mid
+      → Reached n (Order q) mid after
+      → Reached n (Among low' high' Order) before after
+  within-more low high low' high' q a b c d others v w =
+      reached-then n (Among low high Order) (Order q) (Among low' high' Order) before mid after v w
+      (λ i k gap o. (o .0, omega (arith, o .1), omega (arith, o .2), o .3))
+      (λ i k gap o. (q, c, d, o))
+      (λ i k gap o.
+      elim (ℕ-discrete (o .0) q) [
+        | yes e ↦ inr (subst (λ j. Order j i k gap) e (o .3))
+        | no e ↦ let r = others (o .0) (o .1) (o .2) e in inl (o .0, r .0, r .1, o .3)
+      ])
+
   pub within-up :
       (low p : ℕ) → low ≤ p → Reached n (Among low p Order) before mid → Reached n (Order p) mid after
       → Reached n (Among low (p + 1) Order) before after
-  within-up low p h v w =
-      reached-then n (Among low p Order) (Order p) (Among low (p + 1) Order) before mid after v w
-      (λ i k gap o. (o .0, o .1, omega (arith, o .2), o .3))
-      (λ i k gap o. (p, h, omega arith, o))
-      (λ i k gap o.
-      elim (decLt (o .0) p) [
-        | yes l ↦ inl (o .0, o .1, l, o .3)
-        | no l ↦ let q : o .0 ≡ p = omega (arith, o .2) in inr (subst (λ j. Order j i k gap) q (o .3))
-      ])
+  within-up low p h = within-more low p low (p + 1) p (omega arith) (omega arith) h (omega arith) (λ q a b d. (a, omega arith))
 
   pub within-down :
       (p q high : ℕ) → q + 1 ≡ p → p ≤ high → Reached n (Among p high Order) before mid → Reached n (Order q) mid after
       → Reached n (Among q high Order) before after
-  within-down p q high e h v w =
-      reached-then n (Among p high Order) (Order q) (Among q high Order) before mid after v w
-      (λ i k gap o. (o .0, omega (arith, o .1), o .2, o .3))
-      (λ i k gap o. (q, omega arith, omega arith, o))
-      (λ i k gap o.
-      elim (decLt q (o .0)) [
-        | yes l ↦ inl (o .0, omega arith, o .2, o .3)
-        | no l ↦ let s : o .0 ≡ q = omega (arith, o .1) in inr (subst (λ j. Order j i k gap) s (o .3))
-      ])
+  within-down p q high e h = within-more p high q high q (omega arith) (omega arith) (omega arith) (omega arith) (λ r a b d. (omega arith, b))
 
--- all places are done
-pub within-to :
-    (n : ℕ) (Order : ℕ → ℕ → ℕ → ℕ → Type 0) (before after : List ℕ) (low p high : ℕ) → p ≡ high → Reached n (Among low p Order) before after
+pub within-all :
+    (n : ℕ) (Order : ℕ → ℕ → ℕ → ℕ → Type 0) (before after : List ℕ) (low high low' high' : ℕ) → low ≡ low' → high ≡ high'
     → Reached n (Among low high Order) before after
-within-to n Order before after low p high e w = subst (λ q. Reached n (Among low q Order) before after) e w
-
-pub within-from :
-    (n : ℕ) (Order : ℕ → ℕ → ℕ → ℕ → Type 0) (before after : List ℕ) (low p high : ℕ) → p ≡ low → Reached n (Among p high Order) before after
-    → Reached n (Among low high Order) before after
-within-from n Order before after low p high e w = subst (λ q. Reached n (Among q high Order) before after) e w
+    → Reached n (Among low' high' Order) before after
+within-all n Order before after low high low' high' d e w =
+    subst (λ p. Reached n (Among p high' Order) before after) d (subst (λ q. Reached n (Among low q Order) before after) e w)
 
 pub within-empty :
     (n : ℕ) (Order : ℕ → ℕ → ℕ → ℕ → Type 0) (gaps : List ℕ) (low high : ℕ) → high ≤ low → Reached n (Among low high Order) gaps gaps
@@ -111,8 +109,8 @@ within-empty n Order gaps low high h =
     reached-none n (Among low high Order) gaps (λ i k gap o. absurd (omega (arith, o .1, o .2)))
 
 -- a table raised by f is raised to the gaps of f, and to a single order
-pub raised-reached :
-    (n : ℕ) (f : ℕ → ℕ → ℕ) (before after : List ℕ) → n ≤ 64 → Raised n f before after → Reached n (λ i k gap. gap ≡ f i k) before after
+raised-reached :
+    (n : ℕ) (f : ℕ → ℕ → ℕ) (before after : List ℕ) → n ≤ stepLimit → Raised n f before after → Reached n (λ i k gap. gap ≡ f i k) before after
 raised-reached n f before after m w =
     record {
       whole = w .whole;
@@ -125,7 +123,7 @@ raised-reached n f before after m w =
     entry : (i k : ℕ) → Apart n i k → gapIn after i k ≡ max (gapIn before i k) (f i k)
     entry i k a = w .below i k (a .0) (a .1) ∙ ap (λ t. max (gapIn before i k) (cond t 0 (f i k))) (ne-eqb i k (a .2))
 
-    rest : (i k : ℕ) → k < 64 → (Apart n i k → ⊥) → gapIn after i k ≡ gapIn before i k
+    rest : (i k : ℕ) → k < rowWidth → (Apart n i k → ⊥) → gapIn after i k ≡ gapIn before i k
     rest i k h d =
         elim (ℕ-discrete i k) [
           | yes q ↦
@@ -140,7 +138,7 @@ raised-reached n f before after m w =
         ]
 
 pub reached-one :
-    (n a b gap : ℕ) (before after : List ℕ) → n ≤ 64 → a < n → b < n → Raised 64 (single a b gap) before after
+    (n a b gap : ℕ) (before after : List ℕ) → n ≤ stepLimit → a < n → b < n → Raised rowWidth (single a b gap) before after
     → Reached n (λ i k g. (a ≡ i) × (b ≡ k) × (g ≡ gap)) before after
 reached-one n a b gap before after m h l w =
     reached-is n (λ i k g. g ≡ single a b gap i k) (λ i k g. (a ≡ i) × (b ≡ k) × (g ≡ gap)) before after
@@ -149,16 +147,16 @@ reached-one n a b gap before after m h l w =
     elim (ℕ-discrete a i) [
       | yes p ↦
           elim (ℕ-discrete b k) [
-            | yes q ↦ inr (p, q, e ∙ ap (λ t. single a b gap t k) (sym p) ∙ ap (λ t. single a b gap a t) (sym q) ∙ single-at a b gap)
+            | yes q ↦ inr (p, q, e ∙ single-is a b gap i k p q)
             | no q ↦ inl (e ∙ single-off a b gap i k (λ _ t. q t))
           ]
       | no p ↦ inl (e ∙ single-off a b gap i k (λ s _. p s))
     ])
-    (λ i k g o. (gap, omega (arith, o .2), sym (ap (λ t. single a b gap t k) (sym (o .0)) ∙ ap (λ t. single a b gap a t) (sym (o .1)) ∙ single-at a b gap)))
+    (λ i k g o. (gap, omega (arith, o .2), sym (single-is a b gap i k (o .0) (o .1))))
 
 -- a table raised to orders is raised by f, if none is larger than f says and f is no larger than one of them
 pub reached-raised :
-    (n : ℕ) (Order : ℕ → ℕ → ℕ → Type 0) (f : ℕ → ℕ → ℕ) (before after : List ℕ) → n ≤ 64 → Reached n Order before after
+    (n : ℕ) (Order : ℕ → ℕ → ℕ → Type 0) (f : ℕ → ℕ → ℕ) (before after : List ℕ) → n ≤ stepLimit → Reached n Order before after
     → ((i k gap : ℕ) → Apart n i k → Order i k gap → gap ≤ f i k)
     → ((i k bound : ℕ) → Apart n i k → ((gap : ℕ) → Order i k gap → gap ≤ bound) → f i k ≤ bound)
     → Raised n f before after

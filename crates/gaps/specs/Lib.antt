@@ -1,3 +1,4 @@
--- The table of gaps raised, and orders between groups of points.
+-- What callers believe of the table of gaps (Table), and the invariants of this crate: the table raised, groups of points.
 pub mod Table
+pub mod Raised
 pub mod Points

@@ -1,15 +1,16 @@
--- Points of a job in the order of their ticks, the orders between them, and a table raised to what orders say.
+-- Invariants of this crate: points of a job in the order of their ticks, the orders between them, and a table raised to what they say.
 use Prim.Native.Nat.{ℕ, _+_, _-_, _*_, _%_, _≤_, _<_}
 use mathlib.Core.Path.{_≡_}
 use mathlib.Core.List.{List}
 use lib.ListN.{length, getD}
-use Rattle.job.specs.Model.{Model}
-use Rattle.timeline.specs.Sorted.{recordIn, tickIn, Rising}
+use Rattle.job.specs.Model.{Model, longest}
+use Rattle.timeline.specs.Sorted.{recordIn, tickIn, Rising, Parts}
 use Rattle.orders.specs.Gaps.{strictly}
 use Rattle.gaps.specs.declared.rows.Groups.{Groups}
 use Rattle.gaps.specs.declared.rows.Point.{Point}
 use Rattle.gaps.specs.declared.rows.Point.the-variants.{Effect, Use, First, Last}
-use Rattle.order_file.specs.Table.{gapIn, Gaps}
+use Rattle.order_file.specs.Table.{gapIn, Gaps, rowWidth}
+use Rattle.order_file.specs.Contents.{stepLimit, gapBias}
 
 -- the step of a point, and how far into its step it lies
 unfoldable pub pointStep : Model → Point → ℕ → ℕ
@@ -32,12 +33,16 @@ otherKey key = key + 1 - 2 * (key % 2)
 abbrev pub oppositeGroups : Point → ℕ → Point → ℕ → Groups
 oppositeGroups from key to wait = record { from = from; key = key; to = to; other = otherKey key; wait = wait }
 
+-- the uses of a level against each other
+abbrev pub levelGroups : ℕ → Groups
+levelGroups key = record { from = Use; key = key; to = Use; other = key; wait = 1 }
+
 -- a key whose records are points of a job's steps, in the order of their ticks
 pub record Group (m : Model) (point : Point) (ticks sorted : List ℕ) (key : ℕ) : Type 0 where
   pub low : key < 512
   pub rising : Rising ticks sorted (getD sorted key 0) (getD sorted (key + 1) 0)
   pub step : (p : ℕ) → getD sorted key 0 ≤ p → p < getD sorted (key + 1) 0 → pointStep m point (recordIn sorted p) < m .steps
-  pub near : (p : ℕ) → getD sorted key 0 ≤ p → p < getD sorted (key + 1) 0 → pointAt m point (recordIn sorted p) ≤ 100000
+  pub near : (p : ℕ) → getD sorted key 0 ≤ p → p < getD sorted (key + 1) 0 → pointAt m point (recordIn sorted p) ≤ longest
 
 -- two steps that can be ordered, of n
 abbrev pub Apart : ℕ → ℕ → ℕ → Type 0
@@ -46,7 +51,7 @@ Apart n i k = (i < n) × (k < n) × (i ≡ k → ⊥)
 -- a table raised to what orders say, each from i to k by a gap: no entry rises further than one of them asks, and nothing else changes
 pub record Reached (n : ℕ) (Order : ℕ → ℕ → ℕ → Type 0) (before after : List ℕ) : Type 0 where
   pub whole : Gaps before → Gaps after
-  pub rest : (i k : ℕ) → k < 64 → (Apart n i k → ⊥) → gapIn after i k ≡ gapIn before i k
+  pub rest : (i k : ℕ) → k < rowWidth → (Apart n i k → ⊥) → gapIn after i k ≡ gapIn before i k
   pub rises : (i k : ℕ) → Apart n i k → gapIn before i k ≤ gapIn after i k
   pub reaches : (i k gap : ℕ) → Apart n i k → Order i k gap → gap ≤ gapIn after i k
   pub least :
@@ -66,26 +71,50 @@ Later m to ticks sorted first at t p i k gap =
 abbrev pub After : Model → Point → List ℕ → List ℕ → ℕ → ℕ → ℕ → ℕ → ℕ → ℕ → ℕ → Type 0
 After m to ticks sorted key first at t = Among (getD sorted key 0) (getD sorted (key + 1) 0) (Later m to ticks sorted first at t)
 
--- the orders from the point at place p, and from all points of a key, to those points of another that are at least `wait` ticks later
-abbrev pub From : Model → Point → List ℕ → List ℕ → Point → List ℕ → List ℕ → ℕ → ℕ → ℕ → ℕ → ℕ → ℕ → Type 0
-From m from ticks sorted to others against other wait p =
-    After m to others against other (pointStep m from (recordIn sorted p)) (pointAt m from (recordIn sorted p))
-    (tickIn ticks sorted p + wait)
+-- the orders from the point at place p of the first group, and from all its points, to those of the second that are far enough later
+abbrev pub From : Model → Groups → List ℕ → List ℕ → List ℕ → List ℕ → ℕ → ℕ → ℕ → ℕ → Type 0
+From m groups ticks sorted others against p =
+    After m (groups .to) others against (groups .other) (pointStep m (groups .from) (recordIn sorted p))
+    (pointAt m (groups .from) (recordIn sorted p)) (tickIn ticks sorted p + groups .wait)
 
-abbrev pub Between : Model → Point → List ℕ → List ℕ → ℕ → Point → List ℕ → List ℕ → ℕ → ℕ → ℕ → ℕ → ℕ → Type 0
-Between m from ticks sorted key to others against other wait =
-    Among (getD sorted key 0) (getD sorted (key + 1) 0) (From m from ticks sorted to others against other wait)
+abbrev pub Between : Model → Groups → List ℕ → List ℕ → List ℕ → List ℕ → ℕ → ℕ → ℕ → Type 0
+Between m groups ticks sorted others against =
+    Among (getD sorted (groups .key) 0) (getD sorted (groups .key + 1) 0) (From m groups ticks sorted others against)
 
--- the leads of the steps: the largest of 100,001 less how far in, over the points of a step from place `noted` to high; 0 for none
+-- two groups that can be ordered
+pub record GroupsKnown (m : Model) (groups : Groups) (ticks sorted others against : List ℕ) : Type 0 where
+  pub first : Group m (groups .from) ticks sorted (groups .key)
+  pub second : Group m (groups .to) others against (groups .other)
+  pub few : m .steps ≤ stepLimit
+  pub short : groups .wait ≤ 1
+
+abbrev pub GroupsRaised : Model → Groups → List ℕ → List ℕ → List ℕ → List ℕ → List ℕ → List ℕ → Type 0
+GroupsRaised m groups ticks sorted others against = Reached (m .steps) (Between m groups ticks sorted others against)
+
+-- the leads of the steps: the largest gap from a start, `gapBias` + 1 less how far in, over the points of a step from place `noted` to high; 0 for none
 pub record Leads (m : Model) (to : Point) (sorted : List ℕ) (noted high : ℕ) (leads : List ℕ) : Type 0 where
-  pub size : length leads ≡ 64
+  pub size : length leads ≡ rowWidth
   pub reaches :
       (p : ℕ) → noted ≤ p → p < high
-      → 100001 - pointAt m to (recordIn sorted p) ≤ getD leads (pointStep m to (recordIn sorted p)) 0
+      → gapBias + 1 - pointAt m to (recordIn sorted p) ≤ getD leads (pointStep m to (recordIn sorted p)) 0
   pub found :
       (k : ℕ) → 0 < getD leads k 0
       → (p : ℕ) × (noted ≤ p) × (p < high) × (pointStep m to (recordIn sorted p) ≡ k)
-      × (getD leads k 0 ≡ 100001 - pointAt m to (recordIn sorted p))
+      × (getD leads k 0 ≡ gapBias + 1 - pointAt m to (recordIn sorted p))
+
+-- points of a key, those from place `noted` on noted, none of which is before tick t
+pub record Noting (m : Model) (to : Point) (ticks sorted : List ℕ) (key noted t : ℕ) (leads : List ℕ) : Type 0 where
+  pub group : Group m to ticks sorted key
+  pub few : m .steps ≤ stepLimit
+  pub from : getD sorted key 0 ≤ noted
+  pub upto : noted ≤ getD sorted (key + 1) 0
+  pub after : (p : ℕ) → noted ≤ p → p < getD sorted (key + 1) 0 → t ≤ tickIn ticks sorted p
+  pub ahead : Leads m to sorted noted (getD sorted (key + 1) 0) leads
+
+-- the same, and all others are before tick t
+pub record Noted (m : Model) (to : Point) (ticks sorted : List ℕ) (key t noted : ℕ) (leads : List ℕ) : Type 0 where
+  pub parts : Parts ticks sorted (getD sorted key 0) (getD sorted (key + 1) 0) t noted
+  pub ahead : Leads m to sorted noted (getD sorted (key + 1) 0) leads
 
 -- the order from what lies `at` into step `first` by the lead of a step
 abbrev pub Ahead : ℕ → ℕ → List ℕ → ℕ → ℕ → ℕ → Type 0

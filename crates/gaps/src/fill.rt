@@ -1,21 +1,16 @@
 // The table of gaps, filled rule by rule (orders, rules 1 to 5). Of several gaps for one entry the largest stays.
 ghost use mathlib.Core.Path.{_≡_};
-ghost use mathlib.Core.Bool.{_&&_, _||_, not};
-ghost use Prim.Native.Nat.{ℕ, _+_, _≤_, _<_};
-ghost use lib.Dec.{eqb, leb, ltb};
-ghost use lib.ListN.{length, getD};
-ghost use Rattle.laws.specs.Fold.{largest};
+ghost use Prim.Native.Nat.{_≤_, _<_};
 ghost use Rattle.job.specs.Model.{view};
 ghost use Rattle.job.specs.WellFormed.{WellFormed};
-ghost use Rattle.validity.specs.Ticks as ticks;
 ghost use Rattle.validity.specs.Ticks.{scheduleOf};
-ghost use Rattle.points.specs.Known.{EffectsKnown, ConditionsKnown, UsesKnown};
-ghost use Rattle.validity.specs.Valid.{Valid};
-ghost use Rattle.orders.specs.Gaps.{supportOrder, supportGap, opposingGap, conditionGap, levelGap, serialGap, gapOf};
+ghost use Rattle.points.specs.Known.{EffectsKnown, UsesKnown};
+ghost use Rattle.orders.specs.Gaps.{supportOrder, supportGap, opposingGap, conditionGap, levelGap, serialFirst, serialGap, gapOf};
 ghost use Rattle.order_file.specs.Table.{Gaps};
-ghost use Rattle.gaps.specs.Table.{single, Raised, TableOf};
-ghost use Rattle.links.specs.LinkList.{LinksOf, Named};
+ghost use Rattle.gaps.specs.Table.{Fillable, TableOf};
+ghost use Rattle.gaps.specs.Raised.{Raised, SupportKnown, RaisedByLinks, OpposersKnown, serialRow};
 ghost use Rattle.gaps.specs.Points.{oppositeGroups};
+ghost use Rattle.order_file.specs.Contents.{mostGap};
 use crate::rows::Groups;
 use crate::rows::Point;
 use crate::rows::raise;
@@ -36,9 +31,9 @@ use points::ticks::first_ticks;
 use points::ticks::start_of;
 
 // Rule 1 for condition c, by its link.
-fn raise_support(s: &[u8], job: Job, links: &[u16], gaps: &mut [u32], c: u16)
-    requires { ⌜ WellFormed (view job (now s)) × Named (view job (now s)) (now links) × Gaps (now gaps) × (job .count .conditions + job .count .goals ≤ length (now links)) × (c < job .count .conditions) ⌝ }
-    ensures { λ _. ⌜ ((x : ℕ → ℕ) → LinksOf (view job (now (s .entry))) x (now (links .entry)) → Raised (job .count .steps) (λ i k. supportOrder (view job (now (s .entry))) x i k c) (now (gaps .entry)) (now (gaps .exit))) ⌝ }
+fn raise_support(s: &[u8], job: Job, links: &[u16], c: u16, gaps: &mut [u32])
+    requires { ⌜ SupportKnown (view job (now s)) (now links) (now gaps) × (c < job .count .conditions) ⌝ }
+    ensures { λ _. ⌜ RaisedByLinks (view job (now (s .entry))) (now (links .entry)) (λ m x i k. supportOrder m x i k c) (now (gaps .entry)) (now (gaps .exit)) ⌝ }
     ensures { λ _. ⌜ Gaps (now (gaps .exit)) ⌝ }
 {
     let link = links[c as usize];
@@ -47,22 +42,22 @@ fn raise_support(s: &[u8], job: Job, links: &[u16], gaps: &mut [u32], c: u16)
     }
     let gap = strictly(effect_at(s, job, link), condition_from(s, job, c));
     raise(
-        gaps,
         effect_step(s, job, link),
         condition_step(s, job, c),
         gap,
+        gaps,
     )
 }
 
 // Rule 1.
 fn fill_support(s: &[u8], job: Job, links: &[u16], gaps: &mut [u32])
-    requires { ⌜ WellFormed (view job (now s)) × Named (view job (now s)) (now links) × Gaps (now gaps) × (job .count .conditions + job .count .goals ≤ length (now links)) ⌝ }
-    ensures { λ _. ⌜ ((x : ℕ → ℕ) → LinksOf (view job (now (s .entry))) x (now (links .entry)) → Raised (job .count .steps) (supportGap (view job (now (s .entry))) x) (now (gaps .entry)) (now (gaps .exit))) ⌝ }
+    requires { ⌜ SupportKnown (view job (now s)) (now links) (now gaps) ⌝ }
+    ensures { λ _. ⌜ RaisedByLinks (view job (now (s .entry))) (now (links .entry)) supportGap (now (gaps .entry)) (now (gaps .exit)) ⌝ }
 {
     let n = job.count.conditions;
     let mut c = 0;
     while c < n {
-        raise_support(s, job, links, gaps, c);
+        raise_support(s, job, links, c, gaps);
         c += 1;
     }
 }
@@ -115,7 +110,7 @@ fn fill_conditions(
     conditions: &[u16],
     gaps: &mut [u32],
 )
-    requires { ⌜ EffectsKnown (view job (now s)) (scheduleOf (now starts)) (now ticks) (now sorted) × ConditionsKnown (view job (now s)) (scheduleOf (now starts)) (now firsts) (now conditions) × Valid (view job (now s)) (scheduleOf (now starts)) × Gaps (now gaps) ⌝ }
+    requires { ⌜ OpposersKnown (view job (now s)) (scheduleOf (now starts)) (now ticks) (now sorted) (now firsts) (now conditions) × Gaps (now gaps) ⌝ }
     ensures { λ _. ⌜ Raised (job .count .steps) (conditionGap (view job (now (s .entry))) (scheduleOf (now (starts .entry)))) (now (gaps .entry)) (now (gaps .exit)) ⌝ }
 {
     let n = 2 * job.count.facts as usize;
@@ -158,7 +153,7 @@ fn fill_levels(
 
 // Whether step i of a serial job is before step k: it finishes no later than k starts; where that holds both ways, the lower step is.
 fn precedes(s: &[u8], job: Job, starts: &[u32], i: u16, k: u16) -> bool
-    ensures { λ r. ⌜ r ≡ (eqb (view job (now (s .entry)) .serial) 1 && leb (ticks.finish (view job (now (s .entry))) (scheduleOf (now (starts .entry))) i) (scheduleOf (now (starts .entry)) k) && (not (leb (ticks.finish (view job (now (s .entry))) (scheduleOf (now (starts .entry))) k) (scheduleOf (now (starts .entry)) i)) || ltb i k)) ⌝ }
+    ensures { λ r. ⌜ r ≡ serialFirst (view job (now (s .entry))) (scheduleOf (now (starts .entry))) i k ⌝ }
 {
     let back = finish(s, job, starts, k) <= start_of(starts, i);
     (job.serial == 1) & (finish(s, job, starts, i) <= start_of(starts, k)) & (!back | (i < k))
@@ -167,7 +162,7 @@ fn precedes(s: &[u8], job: Job, starts: &[u32], i: u16, k: u16) -> bool
 // The gap from step i to step k of a serial job.
 fn serial_gap(s: &[u8], job: Job, starts: &[u32], i: u16, k: u16) -> u32
     requires { ⌜ WellFormed (view job (now s)) × (i < job .count .steps) ⌝ }
-    ensures { λ r. ⌜ (r ≡ serialGap (view job (now (s .entry))) (scheduleOf (now (starts .entry))) i k) × (r ≤ 200001) ⌝ }
+    ensures { λ r. ⌜ (r ≡ serialGap (view job (now (s .entry))) (scheduleOf (now (starts .entry))) i k) × (r ≤ mostGap) ⌝ }
 {
     if precedes(s, job, starts, i, k) {
         step_length(s, job, i) as u32 + BIAS
@@ -177,15 +172,15 @@ fn serial_gap(s: &[u8], job: Job, starts: &[u32], i: u16, k: u16) -> u32
 }
 
 // Rule 5 for the steps after step i.
-fn raise_serial(s: &[u8], job: Job, starts: &[u32], gaps: &mut [u32], i: u16)
+fn raise_serial(s: &[u8], job: Job, starts: &[u32], i: u16, gaps: &mut [u32])
     requires { ⌜ WellFormed (view job (now s)) × Gaps (now gaps) × (i < job .count .steps) ⌝ }
-    ensures { λ _. ⌜ Raised (job .count .steps) (λ a b. largest (job .count .steps) (λ k. single i k (serialGap (view job (now (s .entry))) (scheduleOf (now (starts .entry))) i k) a b)) (now (gaps .entry)) (now (gaps .exit)) ⌝ }
+    ensures { λ _. ⌜ Raised (job .count .steps) (serialRow (view job (now (s .entry))) (scheduleOf (now (starts .entry))) i) (now (gaps .entry)) (now (gaps .exit)) ⌝ }
 {
     let n = job.count.steps;
     let mut k = 0;
     while k < n {
         let gap = serial_gap(s, job, starts, i, k);
-        raise(gaps, i, k, gap);
+        raise(i, k, gap, gaps);
         k += 1;
     }
 }
@@ -201,7 +196,7 @@ fn fill_serial(s: &[u8], job: Job, starts: &[u32], gaps: &mut [u32])
     let n = job.count.steps;
     let mut i = 0;
     while i < n {
-        raise_serial(s, job, starts, gaps, i);
+        raise_serial(s, job, starts, i, gaps);
         i += 1;
     }
 }
@@ -218,7 +213,7 @@ pub fn fill_gaps(
     links: &[u16],
     gaps: &mut [u32],
 )
-    requires { ⌜ EffectsKnown (view job (now s)) (scheduleOf (now starts)) (now ticks) (now facts) × UsesKnown (view job (now s)) (scheduleOf (now starts)) (now uses) (now levels) × Valid (view job (now s)) (scheduleOf (now starts)) × LinksOf (view job (now s)) (scheduleOf (now starts)) (now links) × (job .count .conditions + job .count .goals ≤ length (now links)) × (length (now gaps) ≡ 4096) × ((p : ℕ) → getD (now gaps) p 0 ≡ 0) ⌝ }
+    requires { ⌜ Fillable (view job (now s)) (scheduleOf (now starts)) (now ticks) (now facts) (now uses) (now levels) (now links) (now gaps) ⌝ }
     ensures { λ _. ⌜ TableOf (job .count .steps) (gapOf (view job (now (s .entry))) (scheduleOf (now (starts .entry)))) (now (gaps .exit)) ⌝ }
 {
     fill_support(s, job, links, gaps);

@@ -5,12 +5,13 @@ ghost use mathlib.Core.Bool.{cond};
 ghost use Prim.Native.Nat.{ℕ, _+_, _-_, _≤_, _<_};
 ghost use lib.Dec.{eqb};
 ghost use lib.ListN.{getD};
-ghost use Rattle.job.specs.Model.{view};
-ghost use Rattle.timeline.specs.Sorted.{tickIn, Parts};
+ghost use Rattle.job.specs.Model.{view, longest};
 ghost use Rattle.orders.specs.Gaps as spec;
-ghost use Rattle.order_file.specs.Table.{Gaps};
-ghost use Rattle.gaps.specs.Table.{single, Raised};
-ghost use Rattle.gaps.specs.Points.{pointStep, pointAt, Group, Reached, After, Between, Leads, Ahead};
+ghost use Rattle.order_file.specs.Table.{Gaps, rowWidth};
+ghost use Rattle.gaps.specs.Table.{single};
+ghost use Rattle.gaps.specs.Raised.{Raised};
+ghost use Rattle.gaps.specs.Points.{pointStep, pointAt, Group, GroupsKnown, Reached, After, GroupsRaised, Noting, Noted, Ahead};
+ghost use Rattle.order_file.specs.Contents.{stepLimit, mostGap, gapBias};
 use job::layout::Job;
 use job::records::condition_from;
 use job::records::condition_step;
@@ -19,11 +20,15 @@ use job::records::effect_at;
 use job::records::effect_step;
 use job::records::use_at;
 use job::records::use_step;
+use order_file::layout::GAP_BIAS;
 use order_file::table::WIDTH;
 use order_file::table::higher;
 use timeline::begin_of;
 use timeline::place_from;
 use timeline::record_at;
+
+// The gap of "strictly before" between two points that both lie at their step's start, plus the bias.
+const AT_START: usize = GAP_BIAS + 1;
 
 // From how many points on a row is cheaper than the pairs.
 const MANY: usize = 8;
@@ -69,16 +74,16 @@ fn at_of(s: &[u8], job: Job, point: Point, k: u16) -> usize
 
 // The gap of "p strictly before q", plus the bias.
 pub fn strictly(p: usize, q: usize) -> u32
-    requires { ⌜ (p ≤ 100000) × (q ≤ 100000) ⌝ }
-    ensures { λ r. ⌜ (r ≡ spec.strictly p q) × (r ≤ 200001) ⌝ }
+    requires { ⌜ (p ≤ longest) × (q ≤ longest) ⌝ }
+    ensures { λ r. ⌜ (r ≡ spec.strictly p q) × (r ≤ mostGap) ⌝ }
 {
-    (p + 100001 - q) as u32
+    (p + AT_START - q) as u32
 }
 
 // Keeps the larger of a gap and the one in the table; only different steps are ordered.
-pub fn raise(gaps: &mut [u32], i: u16, k: u16, gap: u32)
-    requires { ⌜ Gaps (now gaps) × (i < 64) × (k < 64) × (gap ≤ 200001) ⌝ }
-    ensures { λ _. ⌜ Raised 64 (single i k gap) (now (gaps .entry)) (now (gaps .exit)) ⌝ }
+pub fn raise(i: u16, k: u16, gap: u32, gaps: &mut [u32])
+    requires { ⌜ Gaps (now gaps) × (i < rowWidth) × (k < rowWidth) × (gap ≤ mostGap) ⌝ }
+    ensures { λ _. ⌜ Raised rowWidth (single i k gap) (now (gaps .entry)) (now (gaps .exit)) ⌝ }
 {
     if i == k {
         return;
@@ -102,14 +107,14 @@ fn raise_after(
     t: usize,
     gaps: &mut [u32],
 )
-    requires { ⌜ Group (view job (now s)) to (now ticks) (now sorted) key × Gaps (now gaps) × (job .count .steps ≤ 64) × (first < job .count .steps) × (at ≤ 100000) ⌝ }
+    requires { ⌜ Group (view job (now s)) to (now ticks) (now sorted) key × Gaps (now gaps) × (job .count .steps ≤ stepLimit) × (first < job .count .steps) × (at ≤ longest) ⌝ }
     ensures { λ _. ⌜ Reached (job .count .steps) (After (view job (now (s .entry))) to (now (ticks .entry)) (now (sorted .entry)) key first at t) (now (gaps .entry)) (now (gaps .exit)) ⌝ }
 {
     let mut p = place_from(ticks, sorted, key, t);
     while p < begin_of(sorted, key + 1) {
         let k = record_at(sorted, p);
         let gap = strictly(at, at_of(s, job, to, k));
-        raise(gaps, first, step_of(s, job, to, k), gap);
+        raise(first, step_of(s, job, to, k), gap, gaps);
         p += 1;
     }
 }
@@ -125,8 +130,8 @@ fn raise_pairs(
     against: &[u16],
     gaps: &mut [u32],
 )
-    requires { ⌜ Group (view job (now s)) (groups .from) (now ticks) (now sorted) (groups .key) × Group (view job (now s)) (groups .to) (now others) (now against) (groups .other) × Gaps (now gaps) × (job .count .steps ≤ 64) × (groups .wait ≤ 1) ⌝ }
-    ensures { λ _. ⌜ Reached (job .count .steps) (Between (view job (now (s .entry))) (groups .from) (now (ticks .entry)) (now (sorted .entry)) (groups .key) (groups .to) (now (others .entry)) (now (against .entry)) (groups .other) (groups .wait)) (now (gaps .entry)) (now (gaps .exit)) ⌝ }
+    requires { ⌜ GroupsKnown (view job (now s)) groups (now ticks) (now sorted) (now others) (now against) × Gaps (now gaps) ⌝ }
+    ensures { λ _. ⌜ GroupsRaised (view job (now (s .entry))) groups (now (ticks .entry)) (now (sorted .entry)) (now (others .entry)) (now (against .entry)) (now (gaps .entry)) (now (gaps .exit)) ⌝ }
 {
     let from = groups.from;
     let to = groups.to;
@@ -152,10 +157,10 @@ fn note_from(
     key: usize,
     noted: usize,
     t: usize,
-    leads: &mut [u32; 64],
+    leads: &mut [u32; WIDTH],
 ) -> usize
-    requires { ⌜ Group (view job (now s)) to (now ticks) (now sorted) key × (job .count .steps ≤ 64) × (getD (now sorted) key 0 ≤ noted) × (noted ≤ getD (now sorted) (key + 1) 0) × ((p : ℕ) → noted ≤ p → p < getD (now sorted) (key + 1) 0 → t ≤ tickIn (now ticks) (now sorted) p) × Leads (view job (now s)) to (now sorted) noted (getD (now sorted) (key + 1) 0) (now leads) ⌝ }
-    ensures { λ r. ⌜ Parts (now (ticks .entry)) (now (sorted .entry)) (getD (now (sorted .entry)) key 0) (getD (now (sorted .entry)) (key + 1) 0) t r × Leads (view job (now (s .entry))) to (now (sorted .entry)) r (getD (now (sorted .entry)) (key + 1) 0) (now (leads .exit)) ⌝ }
+    requires { ⌜ Noting (view job (now s)) to (now ticks) (now sorted) key noted t (now leads) ⌝ }
+    ensures { λ r. ⌜ Noted (view job (now (s .entry))) to (now (ticks .entry)) (now (sorted .entry)) key t r (now (leads .exit)) ⌝ }
 {
     let mut p = noted;
     while begin_of(sorted, key) < p {
@@ -164,7 +169,7 @@ fn note_from(
             return p;
         }
         let step = step_of(s, job, to, k) as usize;
-        leads[step] = higher(leads[step], (100001 - at_of(s, job, to, k)) as u32);
+        leads[step] = higher(leads[step], (AT_START - at_of(s, job, to, k)) as u32);
         p -= 1;
     }
     p
@@ -172,15 +177,15 @@ fn note_from(
 
 // The gap by a lead; 0 for none.
 fn due(lead: u32, at: u32) -> u32
-    requires { ⌜ (lead ≤ 100001) × (at ≤ 100000) ⌝ }
+    requires { ⌜ (lead ≤ gapBias + 1) × (at ≤ longest) ⌝ }
     ensures { λ r. ⌜ r ≡ cond (eqb lead 0) 0 (at + lead) ⌝ }
 {
     if lead == 0 { 0 } else { at + lead }
 }
 
 // Raises the row of a step by the leads of all steps; the step's own entry stays.
-fn raise_row(gaps: &mut [u32], n: usize, step: usize, at: u32, leads: &[u32; 64])
-    requires { ⌜ Gaps (now gaps) × (n ≤ 64) × (step < n) × (at ≤ 100000) × ((k : ℕ) → getD (now leads) k 0 ≤ 100001) ⌝ }
+fn raise_row(n: usize, step: usize, at: u32, leads: &[u32; WIDTH], gaps: &mut [u32])
+    requires { ⌜ Gaps (now gaps) × (n ≤ stepLimit) × (step < n) × (at ≤ longest) × ((k : ℕ) → getD (now leads) k 0 ≤ gapBias + 1) ⌝ }
     ensures { λ _. ⌜ Reached n (Ahead step at (now (leads .entry))) (now (gaps .entry)) (now (gaps .exit)) ⌝ }
 {
     let row = WIDTH * step;
@@ -204,13 +209,13 @@ fn raise_rows(
     against: &[u16],
     gaps: &mut [u32],
 )
-    requires { ⌜ Group (view job (now s)) (groups .from) (now ticks) (now sorted) (groups .key) × Group (view job (now s)) (groups .to) (now others) (now against) (groups .other) × Gaps (now gaps) × (job .count .steps ≤ 64) × (groups .wait ≤ 1) ⌝ }
-    ensures { λ _. ⌜ Reached (job .count .steps) (Between (view job (now (s .entry))) (groups .from) (now (ticks .entry)) (now (sorted .entry)) (groups .key) (groups .to) (now (others .entry)) (now (against .entry)) (groups .other) (groups .wait)) (now (gaps .entry)) (now (gaps .exit)) ⌝ }
+    requires { ⌜ GroupsKnown (view job (now s)) groups (now ticks) (now sorted) (now others) (now against) × Gaps (now gaps) ⌝ }
+    ensures { λ _. ⌜ GroupsRaised (view job (now (s .entry))) groups (now (ticks .entry)) (now (sorted .entry)) (now (others .entry)) (now (against .entry)) (now (gaps .entry)) (now (gaps .exit)) ⌝ }
 {
     let from = groups.from;
     let to = groups.to;
     let other = groups.other;
-    let mut leads = [0u32; 64];
+    let mut leads = [0u32; WIDTH];
     let mut noted = begin_of(against, other + 1);
     let mut p = begin_of(sorted, groups.key + 1);
     while begin_of(sorted, groups.key) < p {
@@ -220,7 +225,7 @@ fn raise_rows(
         noted = note_from(s, job, to, others, against, other, noted, t, &mut leads);
         let step = step_of(s, job, from, k) as usize;
         let at = at_of(s, job, from, k) as u32;
-        raise_row(gaps, job.count.steps as usize, step, at, &leads);
+        raise_row(job.count.steps as usize, step, at, &leads, gaps);
     }
 }
 
@@ -235,8 +240,8 @@ pub fn raise_group(
     against: &[u16],
     gaps: &mut [u32],
 )
-    requires { ⌜ Group (view job (now s)) (groups .from) (now ticks) (now sorted) (groups .key) × Group (view job (now s)) (groups .to) (now others) (now against) (groups .other) × Gaps (now gaps) × (job .count .steps ≤ 64) × (groups .wait ≤ 1) ⌝ }
-    ensures { λ _. ⌜ Reached (job .count .steps) (Between (view job (now (s .entry))) (groups .from) (now (ticks .entry)) (now (sorted .entry)) (groups .key) (groups .to) (now (others .entry)) (now (against .entry)) (groups .other) (groups .wait)) (now (gaps .entry)) (now (gaps .exit)) ⌝ }
+    requires { ⌜ GroupsKnown (view job (now s)) groups (now ticks) (now sorted) (now others) (now against) × Gaps (now gaps) ⌝ }
+    ensures { λ _. ⌜ GroupsRaised (view job (now (s .entry))) groups (now (ticks .entry)) (now (sorted .entry)) (now (others .entry)) (now (against .entry)) (now (gaps .entry)) (now (gaps .exit)) ⌝ }
 {
     let begin = begin_of(against, groups.other);
     let end = begin_of(against, groups.other + 1);

@@ -9,7 +9,6 @@ use lib.ListN.{getD}
 use Rattle.job.specs.Model.{Model}
 use Rattle.job.specs.WellFormed.{WellFormed}
 use Rattle.validity.specs.Valid.{Valid}
-use Rattle.order_file.specs.Contents.{initialState}
 use Rattle.orders.specs.Links.{conditionLink, goalLink, nthLink}
 use Rattle.links.specs.LinkList.{LinksOf, Named}
 use Rattle.orders.proofs.Links.{Linked, initially, produced, condition-linked}

@@ -1,15 +1,14 @@
 -- The supporter is the first producer in the order of ticks: of the earliest, the lowest.
 use Prim.Native.Nat.{ℕ, suc, _+_, _*_, _≤_, _<_}
-use mathlib.Core.Path.{_≡_, refl, sym, ap, ap₂, subst, _∙_}
-use mathlib.Core.Bool.{Bool, true, false, _&&_, cond, and-false}
+use mathlib.Core.Path.{_≡_, sym, ap, ap₂, _∙_}
+use mathlib.Core.Bool.{true, false, _&&_, cond}
 use mathlib.Core.List.{List}
 use mathlib.Core.Logic.{⊎-elim}
 use native.Mathlib.Omega.{arith}
 use borrow.Author.Tests.{leb-true, le-leb, eqb-true, eq-eqb}
 use lib.Dec.{leb, eqb}
 use lib.ListN.{getD}
-use Rattle.laws.specs.Search.{any, lowest}
-use Rattle.laws.specs.Fold.{least}
+use Rattle.laws.specs.Search.{lowest}
 use Rattle.laws.proofs.Search.{either, and-both, any-false, lowest-is}
 use Rattle.laws.proofs.Fold.{least-le, least-ge, largest-ge}
 use Rattle.points.specs.declared.index.Linking.the-variants.{EffectsByFact}
@@ -22,11 +21,14 @@ use Rattle.validity.specs.Seen.{afterAll}
 use Rattle.points.specs.Known.{EffectsKnown}
 use Rattle.points.proofs.Known.{gives-key, key-gives}
 use Rattle.points.proofs.Searches.{key-listed}
-use Rattle.links.specs.Producers.{givesFrom}
+use Rattle.links.specs.Producers.{givesFrom, earliestFrom, supporterFrom}
 
 module _ {m : Model} {x : ℕ → ℕ} {ticks sorted : List ℕ} (known : EffectsKnown m x ticks sorted) (fact value from : ℕ) (f : fact < m .facts) (b : value ≤ 1) {v r : ℕ} (key : v ≡ factKey fact value) (parts : Parts ticks sorted (getD sorted v 0) (getD sorted (v + 1) 0) from r) where
   listed : v < 2 * m .facts
   listed = key-listed known fact value f b key
+
+  abbrev produced : ℕ → ℕ
+  produced k = cond (givesFrom m x fact value from k) (effectTick m x k) (afterAll m x)
 
   only : (k : ℕ) → k < m .effects → givesFrom m x fact value from k ≡ true → (keyOf m EffectsByFact k ≡ v) × (from ≤ getD ticks k 0)
   only k l t =
@@ -40,13 +42,13 @@ module _ {m : Model} {x : ℕ → ℕ} {ticks sorted : List ℕ} (known : Effect
   before-end k l = largest-ge (λ e. suc (effectTick m x e)) (m .effects) k l
 
   -- where none stands from there on, there is no producer
-  pub supporter-none : {count : ℕ} → count ≡ m .effects → getD sorted (v + 1) 0 ≤ r → count ≡ lowest (m .effects) (λ e. givesFrom m x fact value from e && eqb (effectTick m x e) (least (m .effects) (afterAll m x) (λ k. cond (givesFrom m x fact value from k) (effectTick m x k) (afterAll m x))))
+  pub supporter-none : {count : ℕ} → count ≡ m .effects → getD sorted (v + 1) 0 ≤ r → count ≡ supporterFrom m x fact value from
   supporter-none e l =
       let none = any-false (givesFrom m x fact value from) (m .effects) (sym (scanned-end (known .ordered) v listed (givesFrom m x fact value from) from only r (scanned-start (known .ordered) v listed (givesFrom m x fact value from) from parts) l)) in
       e
       ∙ sym
       (lowest-is _ (m .effects) (m .effects) (omega arith)
-      (λ j h. ap (λ c. c && eqb (effectTick m x j) (least (m .effects) (afterAll m x) (λ k. cond (givesFrom m x fact value from k) (effectTick m x k) (afterAll m x)))) (none j h))
+      (λ j h. ap (λ c. c && eqb (effectTick m x j) (earliestFrom m x fact value from)) (none j h))
       (λ h. absurd (omega arith)))
 
   -- else the first is the earliest
@@ -70,32 +72,32 @@ module _ {m : Model} {x : ℕ → ℕ} {ticks sorted : List ℕ} (known : Effect
         let same : getD ticks k 0 ≡ effectTick m x k = known .timed .at k h in
         (omega (arith, e .0, at), λ q. e .1 (at ∙ q ∙ sym same))
 
-    earliest : least (m .effects) (afterAll m x) (λ k. cond (givesFrom m x fact value from k) (effectTick m x k) (afterAll m x)) ≡ effectTick m x (recordIn sorted r)
+    earliest : earliestFrom m x fact value from ≡ effectTick m x (recordIn sorted r)
     earliest =
         let here : effectTick m x (recordIn sorted r) < afterAll m x = before-end (recordIn sorted r) (there .0) in
-        let le = least-le (λ k. cond (givesFrom m x fact value from k) (effectTick m x k) (afterAll m x)) (m .effects) (afterAll m x) (recordIn sorted r) (there .0) in
-        let eq : cond (givesFrom m x fact value from (recordIn sorted r)) (effectTick m x (recordIn sorted r)) (afterAll m x) ≡ effectTick m x (recordIn sorted r) = ap (λ c. cond c (effectTick m x (recordIn sorted r)) (afterAll m x)) produces in
-        let ge = least-ge (λ k. cond (givesFrom m x fact value from k) (effectTick m x k) (afterAll m x)) (m .effects) (afterAll m x) (effectTick m x (recordIn sorted r)) (omega arith) (λ k h. no-earlier k h) in
+        let le = least-le produced (m .effects) (afterAll m x) (recordIn sorted r) (there .0) in
+        let eq : produced (recordIn sorted r) ≡ effectTick m x (recordIn sorted r) = ap (λ c. cond c (effectTick m x (recordIn sorted r)) (afterAll m x)) produces in
+        let ge = least-ge produced (m .effects) (afterAll m x) (effectTick m x (recordIn sorted r)) (omega arith) (λ k h. no-earlier k h) in
         omega (arith, le, eq, ge)
       where
-        no-earlier : (k : ℕ) → k < m .effects → effectTick m x (recordIn sorted r) ≤ cond (givesFrom m x fact value from k) (effectTick m x k) (afterAll m x)
+        no-earlier : (k : ℕ) → k < m .effects → effectTick m x (recordIn sorted r) ≤ produced k
         no-earlier k h =
             ⊎-elim
-            (λ (t : givesFrom m x fact value from k ≡ true). let e : cond (givesFrom m x fact value from k) (effectTick m x k) (afterAll m x) ≡ effectTick m x k = ap (λ c. cond c (effectTick m x k) (afterAll m x)) t in omega (arith, first k h t .0))
-            (λ (t : givesFrom m x fact value from k ≡ false). let e : cond (givesFrom m x fact value from k) (effectTick m x k) (afterAll m x) ≡ afterAll m x = ap (λ c. cond c (effectTick m x k) (afterAll m x)) t in omega (arith, before-end (recordIn sorted r) (there .0)))
+            (λ (t : givesFrom m x fact value from k ≡ true). let e : produced k ≡ effectTick m x k = ap (λ c. cond c (effectTick m x k) (afterAll m x)) t in omega (arith, first k h t .0))
+            (λ (t : givesFrom m x fact value from k ≡ false). let e : produced k ≡ afterAll m x = ap (λ c. cond c (effectTick m x k) (afterAll m x)) t in omega (arith, before-end (recordIn sorted r) (there .0)))
             (either (givesFrom m x fact value from k))
 
-    pub supporter-found : {k : ℕ} → k ≡ recordIn sorted r → k ≡ lowest (m .effects) (λ e. givesFrom m x fact value from e && eqb (effectTick m x e) (least (m .effects) (afterAll m x) (λ k. cond (givesFrom m x fact value from k) (effectTick m x k) (afterAll m x))))
+    pub supporter-found : {k : ℕ} → k ≡ recordIn sorted r → k ≡ supporterFrom m x fact value from
     supporter-found e =
         e
         ∙ sym
         (lowest-is _ (m .effects) (recordIn sorted r) (omega (arith, there .0))
         (λ j h.
         ⊎-elim
-        (λ (t : (givesFrom m x fact value from j && eqb (effectTick m x j) (least (m .effects) (afterAll m x) (λ k. cond (givesFrom m x fact value from k) (effectTick m x k) (afterAll m x)))) ≡ true).
-        let both = and-both (givesFrom m x fact value from j) (eqb (effectTick m x j) (least (m .effects) (afterAll m x) (λ k. cond (givesFrom m x fact value from k) (effectTick m x k) (afterAll m x)))) t in
+        (λ (t : (givesFrom m x fact value from j && eqb (effectTick m x j) (earliestFrom m x fact value from)) ≡ true).
+        let both = and-both (givesFrom m x fact value from j) (eqb (effectTick m x j) (earliestFrom m x fact value from)) t in
         let tied : effectTick m x j ≡ effectTick m x (recordIn sorted r) = eqb-true _ _ (both .1) ∙ earliest in
         absurd (let low : recordIn sorted r ≤ j = first j (omega (arith, there .0)) (both .0) .1 (sym tied) in omega arith))
         (λ t. t)
-        (either (givesFrom m x fact value from j && eqb (effectTick m x j) (least (m .effects) (afterAll m x) (λ k. cond (givesFrom m x fact value from k) (effectTick m x k) (afterAll m x))))))
+        (either (givesFrom m x fact value from j && eqb (effectTick m x j) (earliestFrom m x fact value from))))
         (λ h. ap₂ _&&_ produces (eq-eqb _ _ (sym earliest))))

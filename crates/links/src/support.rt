@@ -1,20 +1,13 @@
 // Links: what supports each condition and each goal (orders, rule 1).
 ghost use mathlib.Core.Path.{_≡_};
-ghost use mathlib.Core.Bool.{_&&_, cond};
 ghost use Prim.Native.Nat.{_+_, _≤_, _<_};
-ghost use lib.Dec.{eqb};
 ghost use lib.ListN.{length};
-ghost use Rattle.laws.specs.Search.{lowest};
-ghost use Rattle.laws.specs.Fold.{least};
-ghost use Rattle.job.specs.Model.{view};
-ghost use Rattle.validity.specs.Ticks.{scheduleOf, effectTick};
-ghost use Rattle.validity.specs.Seen.{afterAll};
-ghost use Rattle.points.specs.Known.{EffectsKnown};
-ghost use Rattle.orders.specs.Links as spec;
-ghost use Rattle.orders.specs.Links.{lastOpposing, linkOf, conditionLink, goalLink};
-ghost use Rattle.links.specs.Producers.{givesFrom};
-ghost use Rattle.orders.specs.Links.{nthLink};
 ghost use Rattle.laws.specs.Listed.{Filled};
+ghost use Rattle.job.specs.Model.{view};
+ghost use Rattle.validity.specs.Ticks.{scheduleOf};
+ghost use Rattle.points.specs.Known.{EffectsKnown};
+ghost use Rattle.orders.specs.Links.{lastOpposing, linkOf, conditionLink, goalLink, nthLink};
+ghost use Rattle.links.specs.Producers.{supporterFrom, EndKnown};
 use job::layout::Job;
 use job::records::condition_fact;
 use job::records::condition_value;
@@ -65,7 +58,7 @@ fn supporter(
     want: Wanted,
 ) -> u16
     requires { ⌜ EffectsKnown (view job (now s)) (scheduleOf (now starts)) (now ticks) (now sorted) × (want .fact < job .count .facts) × (want .value ≤ 1) ⌝ }
-    ensures { λ r. ⌜ r ≡ lowest (job .count .effects) (λ e. givesFrom (view job (now (s .entry))) (scheduleOf (now (starts .entry))) (want .fact) (want .value) (want .from) e && eqb (effectTick (view job (now (s .entry))) (scheduleOf (now (starts .entry))) e) (least (job .count .effects) (afterAll (view job (now (s .entry))) (scheduleOf (now (starts .entry)))) (λ k. cond (givesFrom (view job (now (s .entry))) (scheduleOf (now (starts .entry))) (want .fact) (want .value) (want .from) k) (effectTick (view job (now (s .entry))) (scheduleOf (now (starts .entry))) k) (afterAll (view job (now (s .entry))) (scheduleOf (now (starts .entry))))))) ⌝ }
+    ensures { λ r. ⌜ r ≡ supporterFrom (view job (now (s .entry))) (scheduleOf (now (starts .entry))) (want .fact) (want .value) (want .from) ⌝ }
 {
     let key = fact_key(want.fact, want.value);
     let p = place_from(ticks, sorted, key, want.from);
@@ -124,7 +117,7 @@ fn goal_link(
     end: usize,
     g: u16,
 ) -> u16
-    requires { ⌜ EffectsKnown (view job (now s)) (scheduleOf (now starts)) (now ticks) (now sorted) × (end ≡ afterAll (view job (now s)) (scheduleOf (now starts))) × (g < job .count .goals) ⌝ }
+    requires { ⌜ EndKnown (view job (now s)) (scheduleOf (now starts)) (now ticks) (now sorted) end × (g < job .count .goals) ⌝ }
     ensures { λ r. ⌜ r ≡ goalLink (view job (now (s .entry))) (scheduleOf (now (starts .entry))) g ⌝ }
 {
     let fact = goal_fact(s, job, g);
@@ -142,7 +135,7 @@ fn link_at(
     end: usize,
     k: u16,
 ) -> u16
-    requires { ⌜ EffectsKnown (view job (now s)) (scheduleOf (now starts)) (now ticks) (now sorted) × (end ≡ afterAll (view job (now s)) (scheduleOf (now starts))) × (k < job .count .conditions + job .count .goals) ⌝ }
+    requires { ⌜ EndKnown (view job (now s)) (scheduleOf (now starts)) (now ticks) (now sorted) end × (k < job .count .conditions + job .count .goals) ⌝ }
     ensures { λ r. ⌜ r ≡ nthLink (view job (now (s .entry))) (scheduleOf (now (starts .entry))) k ⌝ }
 {
     let n = job.count.conditions;

@@ -8,7 +8,7 @@ use lib.Dec.{eqb}
 use Rattle.little_endian.specs.Bytes.{u16Bytes}
 use Rattle.laws.specs.Nth.{count, nth}
 use Rattle.order_file.specs.declared.write.Header.{Header}
-use Rattle.order_file.specs.Contents.{Contents, mostSteps, mostLinks}
+use Rattle.order_file.specs.Contents.{Contents, stepLimit, linkLimit}
 use Rattle.order_file.specs.Layout.{fileLength}
 use Rattle.order_file.specs.Encode.{windowWith, orderWith}
 use Rattle.order_file.specs.Table.{rowWidth, tableSize, noOrder, startIn}
@@ -57,8 +57,8 @@ over file buffer = file ++ drop (length file) buffer
 
 -- lists that are long enough for their contents, and bytes that are long enough for the file
 pub record Roomy (header : Header) (limits latest earliest gaps linked out : List ℕ) : Type 0 where
-  pub stepCount : header .steps ≤ mostSteps
-  pub linkCount : header .links ≤ mostLinks
+  pub stepCount : header .steps ≤ stepLimit
+  pub linkCount : header .links ≤ linkLimit
   pub orderCount : header .orders ≡ count tableSize (entered gaps)
   pub limitCount : header .steps ≤ length limits
   pub latestCount : header .steps ≤ length latest

@@ -4,11 +4,11 @@ use Prim.Native.Nat.{ℕ, _+_, _*_, _≤_}
 use mathlib.Core.Path.{_≡_}
 use mathlib.Core.List.{List}
 use lib.ListN.{length, getD}
-use Rattle.order_file.specs.Contents.{mostSteps, mostGap}
+use Rattle.order_file.specs.Contents.{stepLimit, mostGap}
 
 -- the entries of a row, one for each step, and of the table
 abbrev pub rowWidth : ℕ
-rowWidth = mostSteps
+rowWidth = stepLimit
 
 abbrev pub tableSize : ℕ
 tableSize = rowWidth * rowWidth

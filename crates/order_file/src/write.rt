@@ -5,7 +5,7 @@ ghost use lib.ListN.{length};
 ghost use lib.Seq.{sets};
 ghost use Rattle.laws.specs.Listed.{concatenate};
 ghost use Rattle.laws.specs.Nth.{count};
-ghost use Rattle.order_file.specs.Contents.{mostSteps, mostLinks};
+ghost use Rattle.order_file.specs.Contents.{stepLimit, linkLimit};
 ghost use Rattle.order_file.specs.Layout.{windowsAt};
 ghost use Rattle.order_file.specs.Table.{tableSize};
 ghost use Rattle.order_file.specs.Encode.{headerWith, windowWith, encode};
@@ -35,7 +35,7 @@ pub struct Header {
 
 // How many orders the table of the first steps holds.
 pub fn count_orders(gaps: &[u32], steps: usize) -> usize
-    requires { ⌜ (length (now gaps) ≡ tableSize) × (steps ≤ mostSteps) × NoneFrom steps (now gaps) ⌝ }
+    requires { ⌜ (length (now gaps) ≡ tableSize) × (steps ≤ stepLimit) × NoneFrom steps (now gaps) ⌝ }
     ensures { λ r. ⌜ (r ≡ count tableSize (entered (now (gaps .entry)))) × (r ≤ tableSize) ⌝ }
 {
     let end = WIDTH * steps;
@@ -52,7 +52,7 @@ pub fn count_orders(gaps: &[u32], steps: usize) -> usize
 
 // Puts the counts, the rounds and the tables' offsets.
 fn write_header(header: Header, out: &mut [u8])
-    requires { ⌜ (header .steps ≤ mostSteps) × (header .orders ≤ tableSize) ⌝ }
+    requires { ⌜ (header .steps ≤ stepLimit) × (header .orders ≤ tableSize) ⌝ }
     ensures { λ _. ⌜ now (out .exit) ≡ sets (now (out .entry)) 0 (headerWith (header .steps) (header .orders) (header .links) (header .rounds)) ⌝ }
 {
     let steps = header.steps;
@@ -79,7 +79,7 @@ fn write_window(at: usize, limit: usize, latest: usize, earliest: usize, out: &m
 
 // Puts the windows of the first steps.
 fn write_windows(steps: usize, limits: &[u32], latest: &[u32], earliest: &[u32], out: &mut [u8])
-    requires { ⌜ (steps ≤ mostSteps) × (steps ≤ length (now limits)) × (steps ≤ length (now latest)) × (steps ≤ length (now earliest)) ⌝ }
+    requires { ⌜ (steps ≤ stepLimit) × (steps ≤ length (now limits)) × (steps ≤ length (now latest)) × (steps ≤ length (now earliest)) ⌝ }
     ensures { λ _. ⌜ now (out .exit)
         ≡ sets (now (out .entry)) windowsAt (concatenate steps (windowIn (now (limits .entry)) (now (latest .entry)) (now (earliest .entry)))) ⌝ }
 {
@@ -108,7 +108,7 @@ fn write_order(at: usize, q: usize, gap: usize, out: &mut [u8])
 
 // Puts every order that the table of the first steps holds, ascending.
 fn write_orders(from: usize, gaps: &[u32], steps: usize, out: &mut [u8])
-    requires { ⌜ (from < 1000000) × (length (now gaps) ≡ tableSize) × (steps ≤ mostSteps) × NoneFrom steps (now gaps) ⌝ }
+    requires { ⌜ (from < 1000000) × (length (now gaps) ≡ tableSize) × (steps ≤ stepLimit) × NoneFrom steps (now gaps) ⌝ }
     ensures { λ _. ⌜ now (out .exit)
         ≡ sets (now (out .entry)) from (concatenate (count tableSize (entered (now (gaps .entry)))) (orderIn (now (gaps .entry)))) ⌝ }
 {
@@ -126,7 +126,7 @@ fn write_orders(from: usize, gaps: &[u32], steps: usize, out: &mut [u8])
 
 // Puts the first links.
 fn write_links(from: usize, links: usize, linked: &[u16], out: &mut [u8])
-    requires { ⌜ (from < 2000000) × (links ≤ mostLinks) × (links ≤ length (now linked)) ⌝ }
+    requires { ⌜ (from < 2000000) × (links ≤ linkLimit) × (links ≤ length (now linked)) ⌝ }
     ensures { λ _. ⌜ now (out .exit) ≡ sets (now (out .entry)) from (concatenate links (linkIn (now (linked .entry)))) ⌝ }
 {
     let mut j = 0;

@@ -11,7 +11,7 @@ use lib.Dec.{ltb, leb, eqb}
 use Rattle.laws.specs.Search.{all}
 use Rattle.little_endian.specs.Bytes.{u16At, u32At}
 use Rattle.laws.proofs.Search.{all-intro, all-elim, and-l, and-r, or-out}
-use Rattle.order_file.specs.Contents.{Contents, mostSteps, mostOrders, mostLinks, leastGap, mostGap, lastEffect, initialState}
+use Rattle.order_file.specs.Contents.{Contents, stepLimit, orderLimit, linkLimit, leastGap, mostGap, lastEffect, initialState}
 use Rattle.order_file.specs.Layout.{fileEdition, windowsAt, windowAt, ordersAt, linksAt, fileLength, contentsOf}
 use Rattle.order_file.specs.Encode.{encode}
 use Rattle.order_reader.specs.WellFormed.{layoutHolds, lengthHolds, countsHold, orderHolds, ascends}
@@ -25,7 +25,7 @@ use Rattle.order_file.proofs.RoundTrip.{round-trip, edition-back, windows-at-ba
 module _ (c : Contents) (w : Within c) where
   counts-pass : countsHold c ≡ true
   unfolding countsHold
-  counts-pass = simp (le-leb (c .steps) mostSteps (w .steps), le-leb (c .orders) mostOrders (w .orders), le-leb (c .links) mostLinks (w .links))
+  counts-pass = simp (le-leb (c .steps) stepLimit (w .steps), le-leb (c .orders) orderLimit (w .orders), le-leb (c .links) linkLimit (w .links))
 
   order-passes : (k : ℕ) → k < c .orders → orderHolds c k ≡ true
   unfolding orderHolds
@@ -139,12 +139,12 @@ module _ (c : Contents) (w : Within c) where
 
 -- what each test that passed says
 module _ (c : Contents) where
-  counts-say : countsHold c ≡ true → (c .steps ≤ mostSteps) × (c .orders ≤ mostOrders) × (c .links ≤ mostLinks)
+  counts-say : countsHold c ≡ true → (c .steps ≤ stepLimit) × (c .orders ≤ orderLimit) × (c .links ≤ linkLimit)
   unfolding countsHold
   counts-say e = (
-    leb-true (c .steps) mostSteps (search (and-l, and-r, e)),
-    leb-true (c .orders) mostOrders (search (and-l, and-r, e)),
-    leb-true (c .links) mostLinks (search (and-l, and-r, e)),
+    leb-true (c .steps) stepLimit (search (and-l, and-r, e)),
+    leb-true (c .orders) orderLimit (search (and-l, and-r, e)),
+    leb-true (c .links) linkLimit (search (and-l, and-r, e)),
   )
 
   first-says : (k : ℕ) → orderHolds c k ≡ true → c .first k < c .steps

@@ -6,7 +6,7 @@ use lib.ListN.{length}
 use lib.Dec.{ltb, leb, eqb}
 use Rattle.laws.specs.Search.{all}
 use Rattle.little_endian.specs.Bytes.{u16At, u32At}
-use Rattle.order_file.specs.Contents.{Contents, mostSteps, mostOrders, mostLinks, leastGap, mostGap, lastEffect, initialState}
+use Rattle.order_file.specs.Contents.{Contents, stepLimit, orderLimit, linkLimit, leastGap, mostGap, lastEffect, initialState}
 use Rattle.order_file.specs.Layout.{fileEdition, windowsAt, ordersAt, linksAt, fileLength, contentsOf}
 
 -- its layout: the edition, and the offsets of tables without gaps
@@ -24,7 +24,7 @@ lengthHolds b = let c = contentsOf b in eqb (length b) (fileLength (c .steps) (c
 
 -- no count too high
 unfoldable pub countsHold : Contents → Bool
-countsHold c = leb (c .steps) mostSteps && leb (c .orders) mostOrders && leb (c .links) mostLinks
+countsHold c = leb (c .steps) stepLimit && leb (c .orders) orderLimit && leb (c .links) linkLimit
 
 -- an order: its steps counted, first not equal to second, the gap in its range
 unfoldable pub orderHolds : Contents → ℕ → Bool

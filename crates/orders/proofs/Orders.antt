@@ -10,18 +10,19 @@ use borrow.Author.Tests.{lt-ltb, le-leb, lt-leb, eq-eqb, ne-eqb}
 use lib.Dec.{ltb, leb, eqb}
 use Rattle.laws.specs.Fold.{largest}
 use Rattle.laws.proofs.Fold.{largest-ge}
-use Rattle.job.specs.Model.{Model}
+use Rattle.job.specs.Model.{Model, longest}
 use Rattle.job.specs.WellFormed.{WellFormed}
 use Rattle.validity.specs.Ticks.{effectTick, firstTick, lastTick, useTick, finish, opposes}
-use Rattle.order_file.specs.Contents.{initialState}
+use Rattle.order_file.specs.Contents.{initialState, gapBias}
 use Rattle.orders.specs.Links.{conditionLink}
 use Rattle.orders.specs.Gaps.{strictly, supportOrder, supportGap, opposingOrder, opposingGap, beforeOrder, afterOrder, conditionGap}
 use Rattle.orders.specs.Gaps.{levelOrder, levelGap, serialGap, gapOf}
 use Rattle.orders.specs.Obeys.{Obeys}
+use Rattle.orders.proofs.Near.{effect-near, from-near, use-near}
 
 -- the largest gap from step i to step k that y has room for, 0 for none
 abbrev pub room : (ℕ → ℕ) → ℕ → ℕ → ℕ
-room y i k = y k + 100000 - y i
+room y i k = y k + gapBias - y i
 
 -- effect e is on the fact with another value
 pub record Opposer (m : Model) (fact value e : ℕ) : Type 0 where
@@ -36,9 +37,14 @@ opposer-opposes m fact value e o = ap₂ _&&_ (eq-eqb _ _ (o .ofFact)) (ap not (
 chosen : (b : Bool) (g : ℕ) → b ≡ true → g ≤ cond b g 0
 chosen b g e = rw e (omega arith)
 
--- the test of rules 2, 3 and 4 for the two steps' own pair
-in-order : (i k p q : ℕ) (c : Bool) → c ≡ true → p < q → (eqb i i && eqb k k && c && ltb p q) ≡ true
-in-order i k p q c t l = ap₂ _&&_ (ap₂ _&&_ (ap₂ _&&_ (eq-eqb i i refl) (eq-eqb k k refl)) t) (lt-ltb p q l)
+-- rules 2, 3 and 4 for the two steps' own pair
+pair-under :
+    (i k p q g : ℕ) (c : Bool) {bound : ℕ} → c ≡ true → p < q → cond (eqb i i && eqb k k && c && ltb p q) g 0 ≤ bound → g ≤ bound
+pair-under i k p q g c t l h =
+    omega (arith, chosen _ g (ap₂ _&&_ (ap₂ _&&_ (ap₂ _&&_ (eq-eqb i i refl) (eq-eqb k k refl)) t) (lt-ltb p q l)))
+
+pub pairs-ge : (f : ℕ → ℕ → ℕ) (n m a b : ℕ) → a < n → b < m → f a b ≤ largest n (λ j. largest m (f j))
+pairs-ge f n m a b h l = omega (arith, largest-ge (f a) m b l, largest-ge (λ j. largest m (f j)) n a h)
 
 module _ (m : Model) (x : ℕ → ℕ) where
   -- each rule's gap is at most the largest of the pair
@@ -72,74 +78,48 @@ module _ (m : Model) (x : ℕ → ℕ) where
       → strictly (m .effectAt e) (m .effectAt f) ≤ opposingGap m x (m .effectStep e) (m .effectStep f)
   unfolding opposingGap opposingOrder
   opposing-gap e f h o l =
-      let i = m .effectStep e in
-      let k = m .effectStep f in
-      omega (
-        arith,
-        chosen _ (strictly (m .effectAt e) (m .effectAt f)) (in-order i k _ _ _ (opposer-opposes m _ _ e o) l),
-        largest-ge (opposingOrder m x i k e) (m .effects) f h,
-        largest-ge (λ e. largest (m .effects) (opposingOrder m x i k e)) (m .effects) e (o .known),
+      pair-under (m .effectStep e) (m .effectStep f) _ _ _ _ (opposer-opposes m _ _ e o) l
+      (pairs-ge (opposingOrder m x (m .effectStep e) (m .effectStep f)) (m .effects) (m .effects) e f (o .known) h)
+
+  pub condition-ge :
+      (i k c e : ℕ) → c < m .conditions → e < m .effects
+      → (beforeOrder m x i k c e ≤ conditionGap m x i k) × (afterOrder m x i k c e ≤ conditionGap m x i k)
+  unfolding conditionGap
+  condition-ge i k c e h l =
+      let most =
+      largest-ge (λ j. max (largest (m .effects) (beforeOrder m x i k j)) (largest (m .effects) (afterOrder m x i k j))) (m .conditions) c h
+      in (
+        omega (arith, largest-ge (beforeOrder m x i k c) (m .effects) e l, most),
+        omega (arith, largest-ge (afterOrder m x i k c) (m .effects) e l, most),
       )
 
   before-gap :
       (c e : ℕ) → c < m .conditions → Opposer m (m .conditionFact c) (m .conditionValue c) e → effectTick m x e < firstTick m x c
       → strictly (m .effectAt e) (m .conditionFrom c) ≤ conditionGap m x (m .effectStep e) (m .conditionStep c)
-  unfolding conditionGap beforeOrder
+  unfolding beforeOrder
   before-gap c e h o l =
-      let i = m .effectStep e in
-      let k = m .conditionStep c in
-      omega (
-        arith,
-        chosen _ (strictly (m .effectAt e) (m .conditionFrom c)) (in-order i k _ _ _ (opposer-opposes m _ _ e o) l),
-        largest-ge (beforeOrder m x i k c) (m .effects) e (o .known),
-        largest-ge (λ c. max (largest (m .effects) (beforeOrder m x i k c)) (largest (m .effects) (afterOrder m x i k c))) (m .conditions) c h,
-      )
+      pair-under (m .effectStep e) (m .conditionStep c) _ _ _ _ (opposer-opposes m _ _ e o) l (condition-ge _ _ c e h (o .known) .0)
 
   after-gap :
       (c e : ℕ) → c < m .conditions → Opposer m (m .conditionFact c) (m .conditionValue c) e → lastTick m x c < effectTick m x e
       → strictly (m .conditionTo c) (m .effectAt e) ≤ conditionGap m x (m .conditionStep c) (m .effectStep e)
-  unfolding conditionGap afterOrder
+  unfolding afterOrder
   after-gap c e h o l =
-      let i = m .conditionStep c in
-      let k = m .effectStep e in
-      omega (
-        arith,
-        chosen _ (strictly (m .conditionTo c) (m .effectAt e)) (in-order i k _ _ _ (opposer-opposes m _ _ e o) l),
-        largest-ge (afterOrder m x i k c) (m .effects) e (o .known),
-        largest-ge (λ c. max (largest (m .effects) (beforeOrder m x i k c)) (largest (m .effects) (afterOrder m x i k c))) (m .conditions) c h,
-      )
+      pair-under (m .conditionStep c) (m .effectStep e) _ _ _ _ (opposer-opposes m _ _ e o) l (condition-ge _ _ c e h (o .known) .1)
 
   level-gap :
       (u v : ℕ) → u < m .uses → v < m .uses → m .useLevel u ≡ m .useLevel v → useTick m x u < useTick m x v
       → strictly (m .useAt u) (m .useAt v) ≤ levelGap m x (m .useStep u) (m .useStep v)
   unfolding levelGap levelOrder
   level-gap u v h g a l =
-      let i = m .useStep u in
-      let k = m .useStep v in
-      omega (
-        arith,
-        chosen _ (strictly (m .useAt u) (m .useAt v)) (in-order i k _ _ _ (eq-eqb _ _ a) l),
-        largest-ge (levelOrder m x i k u) (m .uses) v g,
-        largest-ge (λ u. largest (m .uses) (levelOrder m x i k u)) (m .uses) u h,
-      )
+      pair-under (m .useStep u) (m .useStep v) _ _ _ _ (eq-eqb _ _ a) l
+      (pairs-ge (levelOrder m x (m .useStep u) (m .useStep v)) (m .uses) (m .uses) u v h g)
 
   serial-gap :
       (i k : ℕ) → m .serial ≡ 1 → finish m x i ≤ x k → (not (leb (finish m x k) (x i)) || ltb i k) ≡ true
-      → m .stepLength i + 100000 ≤ serialGap m x i k
+      → m .stepLength i + gapBias ≤ serialGap m x i k
   unfolding serialGap
-  serial-gap i k a l b = chosen _ (m .stepLength i + 100000) (ap₂ _&&_ (ap₂ _&&_ (eq-eqb _ _ a) (le-leb _ _ l)) b)
-
--- no point lies further from its start than a gap can tell
-module _ (m : Model) (w : WellFormed m) where
-  effect-near : (e : ℕ) → e < m .effects → m .effectAt e ≤ 100000
-  effect-near e h = omega (arith, w .effectEnd e h, w .lengthRange (m .effectStep e) (w .effectStep e h))
-
-  condition-near : (c : ℕ) → c < m .conditions → m .conditionFrom c ≤ 100000
-  condition-near c h =
-      omega (arith, w .conditionSpan c h, w .conditionEnd c h, w .lengthRange (m .conditionStep c) (w .conditionStep c h))
-
-  use-near : (u : ℕ) → u < m .uses → m .useAt u ≤ 100000
-  use-near u h = omega (arith, w .useEnd u h, w .lengthRange (m .useStep u) (w .useStep u h))
+  serial-gap i k a l b = chosen _ (m .stepLength i + gapBias) (ap₂ _&&_ (ap₂ _&&_ (eq-eqb _ _ a) (le-leb _ _ l)) b)
 
 module _ (m : Model) (x y : ℕ → ℕ) (w : WellFormed m) (o : Obeys m x y) where
   -- what obeys has room for every gap
@@ -149,9 +129,10 @@ module _ (m : Model) (x y : ℕ → ℕ) (w : WellFormed m) (o : Obeys m x y) wh
 
   -- so two points stay in order: by the gap of different steps, or by their places in one step
   keeps-points :
-      (i k p q : ℕ) → i < m .steps → k < m .steps → q ≤ 100000 → ((i ≡ k → ⊥) → strictly p q ≤ gapOf m x i k) → x i + p < x k + q
+      {i k gap : ℕ} (p q : ℕ) → i < m .steps → k < m .steps → q ≤ longest → strictly p q ≤ gap → ((i ≡ k → ⊥) → gap ≤ gapOf m x i k)
+      → x i + p < x k + q
       → y i + p < y k + q
-  keeps-points i k p q h g b c l =
+  keeps-points {i} {k} p q h g b s c l =
       elim (ℕ-discrete i k) [
         | yes e ↦ let a : x i ≡ x k = ap x e in let d : y i ≡ y k = ap y e in omega arith
         | no d ↦ omega (arith, c d, roomy i k h g)
@@ -163,55 +144,39 @@ module _ (m : Model) (x y : ℕ → ℕ) (w : WellFormed m) (o : Obeys m x y) wh
       → effectTick m x (conditionLink m x c) < firstTick m x c
       → effectTick m y (conditionLink m x c) < firstTick m y c
   kept-support c h d g l =
-      let e = conditionLink m x c in
-      let i = m .effectStep e in
-      let k = m .conditionStep c in
-      keeps-points i k (m .effectAt e) (m .conditionFrom c) (w .effectStep e g) (w .conditionStep c h) (condition-near m w c h)
-      (λ s. omega (arith, support-gap m x c h d, gap-rules m x i k s .0))
-      l
+      keeps-points (m .effectAt (conditionLink m x c)) (m .conditionFrom c) (w .effectStep _ g) (w .conditionStep c h) (from-near m w c h)
+      (support-gap m x c h d) (λ s. gap-rules m x _ _ s .0) l
 
   -- rule 2
   pub kept-opposing :
       (e f : ℕ) → f < m .effects → Opposer m (m .effectFact f) (m .effectValue f) e → effectTick m x e < effectTick m x f
       → effectTick m y e < effectTick m y f
   kept-opposing e f h p l =
-      let i = m .effectStep e in
-      let k = m .effectStep f in
-      keeps-points i k (m .effectAt e) (m .effectAt f) (w .effectStep e (p .known)) (w .effectStep f h) (effect-near m w f h)
-      (λ s. omega (arith, opposing-gap m x e f h p l, gap-rules m x i k s .1))
-      l
+      keeps-points (m .effectAt e) (m .effectAt f) (w .effectStep e (p .known)) (w .effectStep f h) (effect-near m w f h)
+      (opposing-gap m x e f h p l) (λ s. gap-rules m x _ _ s .1) l
 
   -- rule 3
   pub kept-before :
       (c e : ℕ) → c < m .conditions → Opposer m (m .conditionFact c) (m .conditionValue c) e → effectTick m x e < firstTick m x c
       → effectTick m y e < firstTick m y c
   kept-before c e h p l =
-      let i = m .effectStep e in
-      let k = m .conditionStep c in
-      keeps-points i k (m .effectAt e) (m .conditionFrom c) (w .effectStep e (p .known)) (w .conditionStep c h) (condition-near m w c h)
-      (λ s. omega (arith, before-gap m x c e h p l, gap-rules m x i k s .2))
-      l
+      keeps-points (m .effectAt e) (m .conditionFrom c) (w .effectStep e (p .known)) (w .conditionStep c h) (from-near m w c h)
+      (before-gap m x c e h p l) (λ s. gap-rules m x _ _ s .2) l
 
   pub kept-after :
       (c e : ℕ) → c < m .conditions → Opposer m (m .conditionFact c) (m .conditionValue c) e → lastTick m x c < effectTick m x e
       → lastTick m y c < effectTick m y e
   kept-after c e h p l =
-      let i = m .conditionStep c in
-      let k = m .effectStep e in
-      keeps-points i k (m .conditionTo c) (m .effectAt e) (w .conditionStep c h) (w .effectStep e (p .known)) (effect-near m w e (p .known))
-      (λ s. omega (arith, after-gap m x c e h p l, gap-rules m x i k s .2))
-      l
+      keeps-points (m .conditionTo c) (m .effectAt e) (w .conditionStep c h) (w .effectStep e (p .known)) (effect-near m w e (p .known))
+      (after-gap m x c e h p l) (λ s. gap-rules m x _ _ s .2) l
 
   -- rule 4
   pub kept-uses :
       (u v : ℕ) → u < m .uses → v < m .uses → m .useLevel u ≡ m .useLevel v → useTick m x u < useTick m x v
       → useTick m y u < useTick m y v
   kept-uses u v h g a l =
-      let i = m .useStep u in
-      let k = m .useStep v in
-      keeps-points i k (m .useAt u) (m .useAt v) (w .useStep u h) (w .useStep v g) (use-near m w v g)
-      (λ s. omega (arith, level-gap m x u v h g a l, gap-rules m x i k s .3))
-      l
+      keeps-points (m .useAt u) (m .useAt v) (w .useStep u h) (w .useStep v g) (use-near m w v g) (level-gap m x u v h g a l)
+      (λ s. gap-rules m x _ _ s .3) l
 
   -- rule 5
   kept-first :

@@ -16,7 +16,7 @@ use Rattle.job.specs.Model.{noDeadline}
 use Rattle.job.specs.WellFormed.{WellFormed}
 use Rattle.validity.specs.Ticks.{effectTick, firstTick, finish, opposes}
 use Rattle.validity.specs.Valid.{Valid}
-use Rattle.order_file.specs.Contents.{initialState, noLatest}
+use Rattle.order_file.specs.Contents.{initialState, noLatest, gapBias}
 use Rattle.orders.specs.Links.{conditionLink, goalLink}
 use Rattle.orders.specs.Gaps.{strictly, supportOrder, supportGap, opposingOrder, opposingGap, beforeOrder, afterOrder, conditionGap}
 use Rattle.orders.specs.Gaps.{levelOrder, levelGap, serialGap, gapOf}
@@ -106,7 +106,7 @@ module _ (m : Model) (x : ℕ → ℕ) (w : WellFormed m) (s : Valid m x) where
   unfolding serialGap
   serial-fits i k =
       chosen-fits (eqb (m .serial) 1) (leb (finish m x i) (x k)) (not (leb (finish m x k) (x i)) || ltb i k)
-      (m .stepLength i + 100000) (room x i k)
+      (m .stepLength i + gapBias) (room x i k)
       (λ _ l _. omega (arith, leb-true (finish m x i) (x k) l))
 
   gap-fits : (i k : ℕ) → gapOf m x i k ≤ room x i k

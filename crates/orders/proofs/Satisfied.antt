@@ -1,5 +1,5 @@
 -- A schedule satisfies the file exactly if it obeys the orders and limits; the earliest starts obey, and no start that does lies below
--- them. A pair of steps i and k stands in the table at 64 * i + k, and every pair there with a gap is filed under its number.
+-- them. A pair of steps i and k stands in the table at rowWidth * i + k, and every pair there with a gap is filed under its number.
 use Prim.Native.Nat.{ℕ, _+_, _*_, _-_, _/_, _%_, _≤_, _<_}
 use mathlib.Core.Path.{_≡_, ap, ap₂, _∙_}
 use mathlib.Core.Bool.{true, _&&_, not}
@@ -21,15 +21,16 @@ use Rattle.order_file.specs.Contents.{gapBias}
 use Rattle.orders.specs.File.{earliestOf, ordered, pairOf, fileOf}
 use Rattle.rounds.proofs.Rounds.{earliest-satisfied, earliest-least}
 use Rattle.orders.proofs.Planned.{planned-obeys}
+use Rattle.order_file.specs.Table.{rowWidth, tableSize}
 
 module _ (m : Model) (x : ℕ → ℕ) where
-  ordered-in : (i k q : ℕ) → q / 64 ≡ i → q % 64 ≡ k → i < m .steps → k < m .steps → (gapOf m x i k ≡ 0 → ⊥) → ordered m x q ≡ true
+  ordered-in : (i k q : ℕ) → q / rowWidth ≡ i → q % rowWidth ≡ k → i < m .steps → k < m .steps → (gapOf m x i k ≡ 0 → ⊥) → ordered m x q ≡ true
   unfolding ordered
   ordered-in i k q a b h g n =
       rw (a, b) (ap₂ _&&_ (ap₂ _&&_ (lt-ltb _ _ h) (lt-ltb _ _ g)) (ap not (ne-eqb _ _ n)))
 
   -- what a pair that is ordered has
-  pub ordered-out : (q : ℕ) → ordered m x q ≡ true → (q / 64 < m .steps) × (q % 64 < m .steps) × (gapOf m x (q / 64) (q % 64) ≡ 0 → ⊥)
+  pub ordered-out : (q : ℕ) → ordered m x q ≡ true → (q / rowWidth < m .steps) × (q % rowWidth < m .steps) × (gapOf m x (q / rowWidth) (q % rowWidth) ≡ 0 → ⊥)
   unfolding ordered
   ordered-out q e =
       let b = and-both _ _ e in
@@ -37,30 +38,30 @@ module _ (m : Model) (x : ℕ → ℕ) where
       (ltb-true _ _ (c .0), ltb-true _ _ (c .1), eqb-false _ _ (not-true _ (b .1)))
 
   -- the pair of an order
-  pub pair-ordered : (o : ℕ) → o < count 4096 (ordered m x) → ordered m x (pairOf m x o) ≡ true
-  pair-ordered o h = nth-facts (ordered m x) 4096 o h .1
+  pub pair-ordered : (o : ℕ) → o < count tableSize (ordered m x) → ordered m x (pairOf m x o) ≡ true
+  pair-ordered o h = nth-facts (ordered m x) tableSize o h .1
 
   -- the place of a pair in the table gives back its steps
-  place-first : (i k : ℕ) → k < 64 → (64 * i + k) / 64 ≡ i
+  place-first : (i k : ℕ) → k < rowWidth → (rowWidth * i + k) / rowWidth ≡ i
   place-first i k h = omega arith
 
-  place-second : (i k : ℕ) → k < 64 → (64 * i + k) % 64 ≡ k
+  place-second : (i k : ℕ) → k < rowWidth → (rowWidth * i + k) % rowWidth ≡ k
   place-second i k h = omega arith
 
   -- every pair with a gap is filed
   pub pair-filed :
       WellFormed m → (i k : ℕ) → i < m .steps → k < m .steps → (gapOf m x i k ≡ 0 → ⊥)
-      → (o : ℕ) × (o < count 4096 (ordered m x)) × (pairOf m x o / 64 ≡ i) × (pairOf m x o % 64 ≡ k)
+      → (o : ℕ) × (o < count tableSize (ordered m x)) × (pairOf m x o / rowWidth ≡ i) × (pairOf m x o % rowWidth ≡ k)
   pair-filed w i k h g n =
-      let q : ℕ = 64 * i + k in
-      let b : k < 64 = omega (arith, w .stepCount) in
+      let q : ℕ = rowWidth * i + k in
+      let b : k < rowWidth = omega (arith, w .stepCount) in
       let t : ordered m x q ≡ true = ordered-in i k q (place-first i k b) (place-second i k b) h g n in
-      let l : q < 4096 = omega (arith, w .stepCount) in
-      let e : pairOf m x (count q (ordered m x)) ≡ q = nth-is (ordered m x) 4096 q l t in (
+      let l : q < tableSize = omega (arith, w .stepCount) in
+      let e : pairOf m x (count q (ordered m x)) ≡ q = nth-is (ordered m x) tableSize q l t in (
         count q (ordered m x),
-        count-below (ordered m x) 4096 q l t,
-        ap (λ p. p / 64) e ∙ place-first i k b,
-        ap (λ p. p % 64) e ∙ place-second i k b,
+        count-below (ordered m x) tableSize q l t,
+        ap (λ p. p / rowWidth) e ∙ place-first i k b,
+        ap (λ p. p % rowWidth) e ∙ place-second i k b,
       )
 
   module _ (w : WellFormed m) (y : ℕ → ℕ) where
@@ -84,7 +85,7 @@ module _ (m : Model) (x : ℕ → ℕ) where
           keeps = λ n h.
               let q : ℕ = pairOf m x n in
               let p = ordered-out q (pair-ordered n h) in
-              o .keeps (q / 64) (q % 64) (p .0) (p .1) (p .2);
+              o .keeps (q / rowWidth) (q % rowWidth) (p .0) (p .1) (p .2);
         }
 
 -- an order that is kept demands no more than is given
@@ -115,7 +116,7 @@ module _ (m : Model) (x : ℕ → ℕ) (w : WellFormed m) (v : Valid m x) where
   pub earliest-planned : (k : ℕ) → k < m .steps → earliestOf m x k ≤ x k
   earliest-planned = earliest-first x (planned-obeys m x w v)
 
-  pub earliest-obeys : Obeys m x (earliestOf m x)
+  earliest-obeys : Obeys m x (earliestOf m x)
   earliest-obeys =
       let s : Satisfied (m .steps) (gapOf m x) gapBias (limitOf m) (earliestOf m x) =
       earliest-satisfied (m .steps) (gapOf m x) gapBias (limitOf m) x (obeys-satisfied m x x (planned-obeys m x w v))

@@ -17,13 +17,12 @@ use Rattle.laws.specs.Search.{any, all, lowest, lowestOwner}
 use Rattle.laws.proofs.Search.{either}
 use Rattle.laws.proofs.Nth.{nth-facts, nth-is}
 use Rattle.verdict.specs.declared.Verdict.{Verdict}
-use Rattle.job.specs.Layout.{countsOf, tableAt, positionsOf, jobOf}
-use Rattle.form.specs.Header.{countTooHigh, layoutAgrees}
+use Rattle.job.specs.Layout.{countsOf, tableAt, positionsOf, jobOf, countTooHigh}
+use Rattle.form.specs.Header.{layoutAgrees, headerCheck}
 use Rattle.job.specs.Model.{Model, modelOf}
 use Rattle.verdict.specs.Verdict.{number, place, _then_, refuseIf, refuseLowest}
 use Rattle.form.specs.Ranges.{factOk, levelOk, stepOk, conditionOk, effectOk, useOk, goalOk}
 use Rattle.form.specs.Against.{bothWays, usesTwice, opposesOwn, setBefore, usedBefore, opposesAny, bothWaysStep, usesTwiceStep, opposesOwnStep}
-use Rattle.form.specs.Header.{headerCheck}
 use Rattle.form.specs.Refusals.{tableCheck, recordCheck, againstStep, stepCheck, formCheck}
 use Rattle.validity.specs.Ticks.{planned}
 use Rattle.validity.specs.Seen.{givenAt, lastGiven, seen, afterAll}
@@ -35,6 +34,7 @@ use Rattle.orders.specs.Windows.{limitOf, allowed, latestOf}
 use Rattle.rounds.specs.Rounds.{demand, raised, after, unchanged, rounds, earliest}
 use Rattle.orders.specs.File.{ordered, fileOf}
 use Rattle.orders.specs.Starred.{fact, level, step, condition, effect, usage, goal, joined, offsets, tablesOf, jobBytes, Order, order, Answer, refused, accepted, listed, windowOf, orderOf, said, answer, answerOf, Case, small, nothing, levelled, serially, starred}
+use Rattle.order_file.specs.Table.{rowWidth, tableSize}
 
 module _ {A : Type 0} where
   listed-cong : (f g : ℕ → A) (n : ℕ) → ((k : ℕ) → k < n → f k ≡ g k) → listed n f ≡ listed n g
@@ -89,22 +89,22 @@ orderedIf-is true m x i k = refl
 orderedIf-is false m x i k = refl
 
 orderedPair : Model → (ℕ → ℕ) → ℕ → Bool
-orderedPair m x q = orderedIf (ltb (q / 64) (m .steps) && ltb (q % 64) (m .steps)) m x (q / 64) (q % 64)
+orderedPair m x q = orderedIf (ltb (q / rowWidth) (m .steps) && ltb (q % rowWidth) (m .steps)) m x (q / rowWidth) (q % rowWidth)
 
 orderAt : Model → (ℕ → ℕ) → ℕ → Order
-orderAt m x q = order (q / 64) (q % 64) (gapOf m x (q / 64) (q % 64))
+orderAt m x q = order (q / rowWidth) (q % rowWidth) (gapOf m x (q / rowWidth) (q % rowWidth))
 
 ordersOf : Model → (ℕ → ℕ) → List Order
-ordersOf m x = passing 4096 (orderedPair m x) (orderAt m x)
+ordersOf m x = passing tableSize (orderedPair m x) (orderAt m x)
 
 orderedPair-is : (m : Model) (x : ℕ → ℕ) (q : ℕ) → ordered m x q ≡ orderedPair m x q
 unfolding ordered orderedPair
-orderedPair-is m x q = orderedIf-is (ltb (q / 64) (m .steps) && ltb (q % 64) (m .steps)) m x (q / 64) (q % 64)
+orderedPair-is m x q = orderedIf-is (ltb (q / rowWidth) (m .steps) && ltb (q % rowWidth) (m .steps)) m x (q / rowWidth) (q % rowWidth)
 
 orders-listed : (m : Model) (x : ℕ → ℕ) → listed (fileOf m x .orders) (orderOf (fileOf m x)) ≡ ordersOf m x
 unfolding fileOf orderOf ordersOf orderAt
 orders-listed m x =
-    listed-nth (ordered m x) (orderAt m x) 4096 ∙ ap (λ p. passing 4096 p (orderAt m x)) (fun-ext (orderedPair-is m x))
+    listed-nth (ordered m x) (orderAt m x) tableSize ∙ ap (λ p. passing tableSize p (orderAt m x)) (fun-ext (orderedPair-is m x))
 
 -- the answer with its orders so listed
 answerBy : Bool → Verdict → Model → Answer

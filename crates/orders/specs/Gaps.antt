@@ -1,17 +1,17 @@
--- Orders from a sound job, rules 1 to 5: each rule's gap from step i to step k by itself, then the largest. A gap is stored plus
--- 100,000, and 0 stands for none; x is the schedule by whose ticks the orders are found.
+-- What callers believe: orders from a sound job, rules 1 to 5, each rule's gap from step i to step k by itself, then the largest. A gap
+-- is stored plus `gapBias`, and 0 stands for none; x is the schedule by whose ticks the orders are found.
 use Prim.Native.Nat.{ℕ, _+_, _-_, max}
 use mathlib.Core.Bool.{Bool, _&&_, _||_, not, cond}
 use lib.Dec.{ltb, leb, eqb}
 use Rattle.laws.specs.Fold.{largest}
 use Rattle.job.specs.Model.{Model}
 use Rattle.validity.specs.Ticks.{effectTick, firstTick, lastTick, useTick, finish, opposes}
-use Rattle.order_file.specs.Contents.{initialState}
+use Rattle.order_file.specs.Contents.{initialState, gapBias}
 use Rattle.orders.specs.Links.{conditionLink}
 
 -- "Point p strictly before point q" gives gap p − q + 1
 abbrev pub strictly : ℕ → ℕ → ℕ
-strictly p q = p + 100001 - q
+strictly p q = p + gapBias + 1 - q
 
 -- rule 1: the link of condition c orders its effect's step i before the condition's step k
 unfoldable pub supportOrder : Model → (ℕ → ℕ) → ℕ → ℕ → ℕ → ℕ
@@ -72,12 +72,11 @@ unfoldable pub levelGap : Model → (ℕ → ℕ) → ℕ → ℕ → ℕ
 levelGap m x i k = largest (m .uses) (λ u. largest (m .uses) (levelOrder m x i k u))
 
 -- rule 5: in a serial job the step that finishes no later than the other starts is first; both ways, the lower step
+abbrev pub serialFirst : Model → (ℕ → ℕ) → ℕ → ℕ → Bool
+serialFirst m x i k = eqb (m .serial) 1 && leb (finish m x i) (x k) && (not (leb (finish m x k) (x i)) || ltb i k)
+
 unfoldable pub serialGap : Model → (ℕ → ℕ) → ℕ → ℕ → ℕ
-serialGap m x i k =
-    cond
-    (eqb (m .serial) 1 && leb (finish m x i) (x k) && (not (leb (finish m x k) (x i)) || ltb i k))
-    (m .stepLength i + 100000)
-    0
+serialGap m x i k = cond (serialFirst m x i k) (m .stepLength i + gapBias) 0
 
 -- "Of several orders from one step to the same other, the largest gap stays"; "Only different steps are ordered"
 unfoldable pub gapOf : Model → (ℕ → ℕ) → ℕ → ℕ → ℕ

@@ -1,4 +1,5 @@
--- Orders from a sound job, rule 1: the link of a condition or goal is its supporter. x is the schedule by whose ticks it is found.
+-- What callers believe: orders from a sound job, rule 1. The link of a condition or goal is its supporter; x is the schedule by whose
+-- ticks it is found.
 use Prim.Native.Nat.{ℕ, _-_}
 use mathlib.Core.Bool.{Bool, _&&_, cond}
 use lib.Dec.{ltb, leb, eqb}
@@ -7,10 +8,7 @@ use Rattle.laws.specs.Fold.{least}
 use Rattle.job.specs.Model.{Model}
 use Rattle.validity.specs.Ticks.{effectTick, firstTick, gives}
 use Rattle.validity.specs.Seen.{lastGiven, afterAll}
-
--- the link that stands for the initial state
-abbrev pub initialState : ℕ
-initialState = 65535
+use Rattle.order_file.specs.Contents.{initialState}
 
 -- the other of the two values
 abbrev pub other : ℕ → ℕ

@@ -1,4 +1,4 @@
--- The starred cases of "A small job, and edges": one table of jobs with their whole answers.
+-- What callers believe: the starred cases of "A small job, and edges": one table of jobs with their whole answers.
 use Prim.Native.Nat.{ℕ, zero, suc, _+_, _-_}
 use mathlib.Core.Bool.{Bool, true, false}
 use mathlib.Core.List.{List, [], _∷_, _++_, foldr}
@@ -79,7 +79,7 @@ jobBytes w =
 pub data Window : Type 0 where
   window : ℕ → ℕ → ℕ → Window
 
--- an order: first, second, and the gap plus 100000
+-- an order: first, second, and the gap plus `gapBias`
 pub data Order : Type 0 where
   order : ℕ → ℕ → ℕ → Order
 

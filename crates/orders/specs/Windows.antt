@@ -1,6 +1,6 @@
--- The earliest limit and the latest start of a step.
+-- What callers believe: the earliest limit and the latest start of a step.
 use Prim.Native.Nat.{ℕ, _-_}
-use mathlib.Core.Bool.{Bool, _&&_, not, cond}
+use mathlib.Core.Bool.{_&&_, not, cond}
 use lib.Dec.{eqb}
 use Rattle.laws.specs.Fold.{least}
 use Rattle.job.specs.Model.{Model}

@@ -7,7 +7,7 @@ use Rattle.job.specs.Model.{Model}
 use Rattle.job.specs.WellFormed.{WellFormed}
 use Rattle.validity.specs.Valid.{Valid}
 use Rattle.points.specs.Known.{EffectsKnown, UsesKnown}
-use Rattle.order_file.specs.Contents.{mostLinks}
+use Rattle.order_file.specs.Contents.{linkLimit}
 use Rattle.order_file.specs.Table.{gapIn, startIn, Gaps}
 use Rattle.order_file.specs.Held.{NoneFrom}
 use Rattle.orders.specs.Links.{conditionLink, goalLink}
@@ -41,7 +41,7 @@ pub record ValidPoints (m : Model) (x : ℕ → ℕ) (ticks facts uses levels : 
 pub record Fileable (m : Model) (links gaps : List ℕ) : Type 0 where
   pub form : WellFormed m
   pub table : Gaps gaps
-  pub linkCount : length links ≡ mostLinks
+  pub linkCount : length links ≡ linkLimit
   pub rows : NoneFrom (m .steps) gaps
 
 -- what is filed of links and gaps, whatever schedule they belong to

@@ -4,7 +4,7 @@ use mathlib.Core.Path.{_≡_, sym, ap, ap₂, _∙_}
 use mathlib.Core.Bool.{Bool, true, false, cond}
 use mathlib.Core.Logic.{⊎-elim}
 use native.Mathlib.Nat.{not-suc-le-zero, mul-suc}
-use native.Mathlib.Decide.{decLt, decLe}
+use native.Mathlib.Decide.{decLt}
 use native.Mathlib.Numerals.{add-one}
 use native.Mathlib.Omega.{arith}
 use borrow.Author.Tests.{eqb-true, eq-eqb}
@@ -22,11 +22,11 @@ later true g bias t u h p = absurd (not-suc-le-zero p)
 later false g bias t u h p = omega arith
 
 module _ (gap : ℕ → ℕ → ℕ) (bias i k t u : ℕ) where
-  pub demand-later : t ≤ u → 0 < demand gap bias i k t → demand gap bias i k u ≡ demand gap bias i k t + (u - t)
+  demand-later : t ≤ u → 0 < demand gap bias i k t → demand gap bias i k u ≡ demand gap bias i k t + (u - t)
   unfolding demand
   demand-later h p = later (eqb (gap i k) 0) (gap i k) bias t u h p
 
-  pub demand-rises : t ≤ u → demand gap bias i k t ≤ demand gap bias i k u
+  demand-rises : t ≤ u → demand gap bias i k t ≤ demand gap bias i k u
   demand-rises h = elim (decLt 0 (demand gap bias i k t)) [ yes p ↦ omega (arith, demand-later h p) | no p ↦ omega arith ]
 
 -- a gap of at most so much demands at most so much more
@@ -62,7 +62,7 @@ module _ (n : ℕ) (gap : ℕ → ℕ → ℕ) (bias : ℕ) (x : ℕ → ℕ) (k
   raised-le b h g = omega (arith, largest-le (λ j. demand gap bias j k (x j)) n b g)
 
   -- a start that is raised is raised by some order
-  pub raised-by : x k < raised n gap bias x k → (i : ℕ) × (i < n) × (demand gap bias i k (x i) ≡ raised n gap bias x k)
+  raised-by : x k < raised n gap bias x k → (i : ℕ) × (i < n) × (demand gap bias i k (x i) ≡ raised n gap bias x k)
   unfolding raised
   raised-by h =
       ⊎-elim
@@ -82,7 +82,7 @@ raised-cong n gap bias x y h k l =
 -- The starts after more rounds are no lower, and never above starts that satisfy the limits and the orders.
 
 module _ (n : ℕ) (gap : ℕ → ℕ → ℕ) (bias : ℕ) (x : ℕ → ℕ) where
-  pub after-next : (r k : ℕ) → after n gap bias x r k ≤ after n gap bias x (suc r) k
+  after-next : (r k : ℕ) → after n gap bias x r k ≤ after n gap bias x (suc r) k
   unfolding after
   after-next r k = raised-ge n gap bias (after n gap bias x r) k
 
@@ -91,17 +91,9 @@ module _ (n : ℕ) (gap : ℕ → ℕ → ℕ) (bias : ℕ) (x : ℕ → ℕ) wh
   after-above zero k = omega arith
   after-above (suc r) k = omega (arith, after-above r k, after-next r k)
 
-  pub after-ascends : (r q k : ℕ) → r ≤ q → after n gap bias x r k ≤ after n gap bias x q k
-  after-ascends r zero k h = let e : r ≡ 0 = omega arith in omega (arith, ap (λ j. after n gap bias x j k) e)
-  after-ascends r (suc q) k h =
-      elim (decLe r q) [
-        | yes l ↦ omega (arith, after-ascends r q k l, after-next q k)
-        | no l ↦ let e : r ≡ suc q = omega arith in omega (arith, ap (λ j. after n gap bias x j k) e)
-      ]
-
   -- no round raises by more than the largest gap
   pub after-most :
-      (limit most : ℕ) → ((k : ℕ) → k < n → x k ≤ limit) → ((i k : ℕ) → gap i k ≤ bias + most) → (r k : ℕ) → k < n
+      (limit most : ℕ) → ((k : ℕ) → k < n → x k ≤ limit) → ((i k : ℕ) → i < n → gap i k ≤ bias + most) → (r k : ℕ) → k < n
       → after n gap bias x r k ≤ limit + most * r
   unfolding after
   after-most limit most h g zero k l = omega (arith, h k l)
@@ -109,7 +101,7 @@ module _ (n : ℕ) (gap : ℕ → ℕ → ℕ) (bias : ℕ) (x : ℕ → ℕ) wh
       let e : most * suc r ≡ most * r + most = mul-suc most r in
       raised-le n gap bias (after n gap bias x r) k (limit + most * suc r) (omega (arith, after-most limit most h g r k l))
       (λ i m.
-      omega (arith, demand-most gap bias most i k (after n gap bias x r i) (g i k), after-most limit most h g r i m))
+      omega (arith, demand-most gap bias most i k (after n gap bias x r i) (g i k m), after-most limit most h g r i m))
 
   -- what a round that changes nothing leaves as it was
   pub unchanged-same : (r : ℕ) → unchanged n gap bias (after n gap bias x r) ≡ true → (k : ℕ) → k < n → after n gap bias x (suc r) k ≡ after n gap bias x r k
@@ -117,7 +109,7 @@ module _ (n : ℕ) (gap : ℕ → ℕ → ℕ) (bias : ℕ) (x : ℕ → ℕ) wh
   unchanged-same r e k h = eqb-true _ _ (all-elim (λ j. eqb (raised n gap bias (after n gap bias x r) j) (after n gap bias x r j)) n e k h)
 
   module _ (s : ℕ → ℕ) (sat : Satisfied n gap bias x s) where
-    pub after-below : (r k : ℕ) → k < n → after n gap bias x r k ≤ s k
+    after-below : (r k : ℕ) → k < n → after n gap bias x r k ≤ s k
     unfolding after
     after-below zero k h = sat .above k h
     after-below (suc r) k h =
@@ -242,7 +234,7 @@ module _ (n : ℕ) (gap : ℕ → ℕ → ℕ) (bias : ℕ) (x : ℕ → ℕ) wh
           | no h ↦ settles n gap bias x s sat r (omega arith)
         ]
 
-    pub earliest-before : (r : ℕ) → suc r ≡ rounds n gap bias x → (k : ℕ) → k < n → earliest n gap bias x k ≡ after n gap bias x r k
+    earliest-before : (r : ℕ) → suc r ≡ rounds n gap bias x → (k : ℕ) → k < n → earliest n gap bias x k ≡ after n gap bias x r k
     unfolding earliest
     earliest-before r e k h = ap (λ q. after n gap bias x q k) (sym e) ∙ unchanged-same n gap bias x r (last-unchanged r e) k h
 

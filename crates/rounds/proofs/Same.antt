@@ -1,10 +1,8 @@
 -- Rounds and earliest starts depend only on the gaps and starts of the steps that are counted.
 use Prim.Native.Nat.{ℕ, zero, suc, _+_, _-_, _<_, max, min}
-use mathlib.Core.Path.{_≡_, refl, sym, ap, ap₂, _∙_}
+use mathlib.Core.Path.{_≡_, ap, ap₂, _∙_}
 use mathlib.Core.Bool.{cond}
-use native.Mathlib.Omega.{arith}
 use lib.Dec.{eqb}
-use Rattle.laws.specs.Search.{lowest}
 use Rattle.laws.proofs.Search.{all-cong, lowest-cong}
 use Rattle.laws.proofs.Fold.{largest-cong}
 use Rattle.rounds.specs.Rounds.{demand, raised, after, unchanged, rounds, earliest}

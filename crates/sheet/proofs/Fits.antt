@@ -6,7 +6,7 @@ use native.Mathlib.Decide.{decLt}
 use native.Mathlib.Omega.{arith}
 use lib.ListN.{length, length-append}
 use Rattle.laws.specs.Listed.{concatenate}
-use Rattle.order_file.specs.Contents.{Contents, mostSteps, mostOrders, noLatest, gapBias}
+use Rattle.order_file.specs.Contents.{Contents, stepLimit, orderLimit, noLatest, gapBias}
 use Rattle.order_file.specs.Within.{Within}
 use Rattle.sheet.specs.Text.{gapText, latestText, headLine, windowLine, orderLine, sheetText, headMost, windowMost, orderMost, sheetMost}
 use Rattle.sheet.proofs.Decimal.{length-decimal}
@@ -69,7 +69,7 @@ module _ (c : Contents) (w : Within c) where
         length-gap (c .gap k) (omega (arith, w .gapMost k h)),
       ))
 
-  pub sheet-fits : length (sheetText c) ≤ sheetMost mostSteps mostOrders
+  pub sheet-fits : length (sheetText c) ≤ sheetMost stepLimit orderLimit
   unfolding sheetText
   sheet-fits =
       simp length-append

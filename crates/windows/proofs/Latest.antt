@@ -1,6 +1,6 @@
 -- The latest starts, goal by goal: one more goal lowers only the step whose effect supports it.
 use Prim.Native.Nat.{ℕ, _+_, _-_, _≤_, _<_, min}
-use mathlib.Core.Path.{_≡_, refl, sym, ap, ap₂, _∙_}
+use mathlib.Core.Path.{_≡_, sym, ap, ap₂, _∙_}
 use mathlib.Core.Bool.{Bool, true, false, _&&_, not, cond}
 use mathlib.Core.List.{List}
 use mathlib.Core.Logic.{⊎-elim}
@@ -18,10 +18,10 @@ use Rattle.job.specs.Model.{Model}
 use Rattle.job.specs.Model.{noDeadline}
 use Rattle.order_file.specs.Contents.{initialState, noLatest}
 use Rattle.orders.specs.Links.{goalLink}
-use Rattle.orders.specs.Windows.{limitOf, allowed, latestOf}
+use Rattle.orders.specs.Windows.{allowed, latestOf}
 use Rattle.orders.proofs.Limits.{allowed-linked}
 use Rattle.order_file.specs.Table.{startIn}
-use Rattle.windows.specs.Starts.{LatestBy}
+use Rattle.windows.specs.Loops.{fixedStart, LatestBy}
 
 module _ (m : Model) (x : ℕ → ℕ) where
   -- a goal that has no deadline, or is supported by no effect of step k, allows k any start
@@ -47,7 +47,7 @@ module _ (m : Model) (x : ℕ → ℕ) where
 
   -- the latest starts before any goal
   pub latest-none :
-      (starts : List ℕ) → ((k : ℕ) → k < m .steps → startIn starts k ≡ cond (eqb (m .fixed k) 1) (m .start k) noLatest) → LatestBy m x 0 starts
+      (starts : List ℕ) → ((k : ℕ) → k < m .steps → startIn starts k ≡ fixedStart m noLatest k) → LatestBy m x 0 starts
   unfolding least
   latest-none starts h = record { each = h }
 
@@ -65,7 +65,7 @@ module _ (m : Model) (x : ℕ → ℕ) where
     -- a step that the goal does not lower keeps its latest start
     kept :
         (k : ℕ) → k < m .steps → ((m .fixed k ≡ 1 → ⊥) → allowed m x k g ≡ noLatest)
-        → startIn before k ≡ cond (eqb (m .fixed k) 1) (m .start k) (least (g + 1) noLatest (allowed m x k))
+        → startIn before k ≡ fixedStart m (least (g + 1) noLatest (allowed m x k)) k
     kept k h a =
         elim (ℕ-discrete (m .fixed k) 1) [
           | yes f ↦ rw (eq-eqb _ _ f) (rw (eq-eqb _ _ f) at (w .each k h))

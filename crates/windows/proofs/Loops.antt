@@ -3,20 +3,18 @@ use Prim.Native.Nat.{ℕ, _+_, _*_, _-_, _≤_, _<_, max}
 use mathlib.Core.Path.{_≡_, refl, sym, ap, ap₂, _∙_}
 use mathlib.Core.Bool.{Bool, true, false}
 use mathlib.Core.List.{List}
-use native.Mathlib.Nat.{not-suc-le-zero}
 use native.Mathlib.Numerals.{add-one}
-use native.Mathlib.Decide.{ℕ-discrete}
 use native.Mathlib.Omega.{arith}
-use lib.ListN.{length, set, replicate, length-set, getD-replicate}
-use lib.Seq.{getD-set-same, getD-set-other}
+use lib.ListN.{replicate, getD-replicate}
 use lib.Dec.{eqb}
 use Rattle.laws.specs.Search.{all, lowest}
 use Rattle.laws.proofs.Search.{all-cong, lowest-start, lowest-more, lowest-found, lowest-end}
-use Rattle.order_file.specs.Contents.{gapBias}
-use Rattle.order_file.specs.Table.{gapIn, startIn, Gaps}
+use Rattle.order_file.specs.Contents.{noLatest, gapBias, mostGap}
+use Rattle.order_file.specs.Table.{rowWidth, gapIn, startIn, Gaps}
 use Rattle.windows.specs.Starts.{Bounded}
 use Rattle.laws.specs.Listed.{Filled}
-use Rattle.rounds.specs.Rounds.{demand, raised, after, unchanged, rounds, earliest, Given}
+use Rattle.rounds.specs.Rounds.{demand, raised, after, unchanged, rounds, earliest}
+use Rattle.windows.specs.Loops.{aboveStarts, Given}
 use Rattle.rounds.proofs.Rounds.{demand-most, raised-zero, raised-more, raised-ge, raised-demand, raised-le, raised-cong, after-most}
 
 -- the higher of a start and a demand, both with the bias, and without it
@@ -64,9 +62,9 @@ module _ (n : ℕ) (gap : ℕ → ℕ → ℕ) (bias : ℕ) (before : List ℕ) 
 
 -- no row raises by more than the largest gap
 pub rows-bounded :
-    (n : ℕ) (gaps before : List ℕ) (i : ℕ) (at : List ℕ) → Gaps gaps → Bounded n 3999999999 before → i ≤ n
+    (n : ℕ) (gaps before : List ℕ) (i : ℕ) (at : List ℕ) → Gaps gaps → Bounded n (aboveStarts - 1) before → i ≤ n
     → Filled n (raised i (gapIn gaps) gapBias (startIn before)) before at
-    → Bounded n 4000100000 at
+    → Bounded n (aboveStarts + gapBias) at
 rows-bounded n gaps before i at g b l w =
     record {
       size = w .size ∙ b .size;
@@ -74,17 +72,17 @@ rows-bounded n gaps before i at g b l w =
           omega (
             arith,
             w .below k h,
-            raised-le i (gapIn gaps) gapBias (startIn before) k 4000100000 (omega (arith, b .most k h)) (λ j m.
-                omega (arith, b .most j (omega arith), demand-most (gapIn gaps) gapBias 100001 j k (startIn before j) (g .most (64 * j + k)))),
+            raised-le i (gapIn gaps) gapBias (startIn before) k (aboveStarts + gapBias) (omega (arith, b .most k h)) (λ j m.
+                omega (arith, b .most j (omega arith), demand-most (gapIn gaps) gapBias (mostGap - gapBias) j k (startIn before j) (g .most (rowWidth * j + k)))),
           );
     }
 
 -- The rows that a round may skip: none in the first, and what a round has given stays.
 pub given-start :
-    (n : ℕ) (gap : ℕ → ℕ → ℕ) (bias : ℕ) (limits : List ℕ) → Bounded n 1000000 limits → n ≤ 64
-    → Given n gap bias (startIn (replicate 64 4294967295)) (startIn limits)
+    (n : ℕ) (gap : ℕ → ℕ → ℕ) (bias : ℕ) (limits : List ℕ) → Bounded n 1000000 limits → n ≤ rowWidth
+    → Given n gap bias (startIn (replicate rowWidth noLatest)) (startIn limits)
 given-start n gap bias limits b m =
-    record { given = λ i k l h e. absurd (omega (arith, b .most i l, getD-replicate {A = ℕ} 64 i 4294967295 0 (omega arith))) }
+    record { given = λ i k l h e. absurd (omega (arith, b .most i l, getD-replicate {A = ℕ} rowWidth i noLatest 0 (omega arith))) }
 
 pub given-more :
     (n : ℕ) (gap : ℕ → ℕ → ℕ) (bias : ℕ) (starts next : List ℕ) → Filled n (raised n gap bias (startIn starts)) starts next
@@ -167,11 +165,11 @@ module _ (n : ℕ) (gap : ℕ → ℕ → ℕ) (bias : ℕ) (before : List ℕ) 
         in
         (e, filled-earliest (r + 1) next e filled-next)
 
--- at most 64 rounds from limits of at most 1,000,000 stay far below what a u32 holds
+-- as many rounds as steps, from limits of at most 1,000,000, stay far below what a u32 holds
 pub reached-bounded :
-    (n : ℕ) (gaps before : List ℕ) (r : ℕ) (starts : List ℕ) → Gaps gaps → Bounded n 1000000 before → n ≤ 64
+    (n : ℕ) (gaps before : List ℕ) (r : ℕ) (starts : List ℕ) → Gaps gaps → Bounded n 1000000 before → n ≤ rowWidth
     → Reached n (gapIn gaps) gapBias before r starts
-    → Bounded n 3999999999 starts
+    → Bounded n (aboveStarts - 1) starts
 reached-bounded n gaps before r starts g b h w =
     record {
       size = w .filled .size ∙ b .size;
@@ -180,6 +178,6 @@ reached-bounded n gaps before r starts g b h w =
             arith,
             w .count,
             w .filled .below k l,
-            after-most n (gapIn gaps) gapBias (startIn before) 1000000 100001 (b .most) (λ i j. g .most (64 * i + j)) r k l,
+            after-most n (gapIn gaps) gapBias (startIn before) 1000000 (mostGap - gapBias) (b .most) (λ i j l. g .most (rowWidth * i + j)) r k l,
           );
     }

@@ -1,2 +1,3 @@
--- Lists of starts.
+-- What callers believe of lists of starts (Starts), and the invariants of this crate (Loops).
 pub mod Starts
+pub mod Loops

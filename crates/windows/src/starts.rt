@@ -1,24 +1,26 @@
 // Earliest starts: rounds over a table of gaps, until the first that changes nothing.
 ghost use mathlib.Core.Path.{_≡_};
-ghost use Prim.Native.Nat.{max, _-_, _≤_, _<_};
+ghost use Prim.Native.Nat.{max, _+_, _-_, _≤_, _<_};
 ghost use lib.Dec.{eqb};
+use order_file::layout::NO_LATEST;
 use order_file::table::BIAS;
 use order_file::table::NO_ORDER;
 use order_file::table::WIDTH;
 use order_file::table::higher;
 ghost use Rattle.laws.specs.Search.{all};
-ghost use Rattle.rounds.specs.Rounds.{demand, raised, rounds, earliest, Given};
+ghost use Rattle.rounds.specs.Rounds.{demand, raised, rounds, earliest};
+ghost use Rattle.windows.specs.Loops.{aboveStarts, Given};
 ghost use Rattle.order_file.specs.Contents.{gapBias};
-ghost use Rattle.order_file.specs.Table.{gapIn, startIn, Gaps};
+ghost use Rattle.order_file.specs.Table.{rowWidth, gapIn, startIn, Gaps};
 ghost use Rattle.windows.specs.Starts.{Bounded};
 ghost use Rattle.laws.specs.Listed.{Filled};
 
 // A start that no step has.
-const NO_START: u32 = 4294967295;
+const NO_START: u32 = NO_LATEST;
 
 // A start for each step.
 pub struct Starts {
-    pub at: [u32; 64],
+    pub at: [u32; WIDTH],
 }
 
 // The earliest starts, and the rounds that it took to find them.
@@ -29,7 +31,7 @@ pub struct Earliest {
 
 // What the order from i, which starts at t, demands of k, plus the bias; 0 for no order.
 fn demanded(gaps: &[u32], i: usize, k: usize, t: u32) -> u32
-    requires { ⌜ Gaps (now gaps) × (i < 64) × (k < 64) × (t < 4000000000) ⌝ }
+    requires { ⌜ Gaps (now gaps) × (i < rowWidth) × (k < rowWidth) × (t < aboveStarts) ⌝ }
     ensures { λ r. ⌜ r - gapBias ≡ demand (gapIn (now (gaps .entry))) gapBias i k t ⌝ }
 {
     let gap = gaps[WIDTH * i + k];
@@ -37,8 +39,8 @@ fn demanded(gaps: &[u32], i: usize, k: usize, t: u32) -> u32
 }
 
 // Raises the first n starts to what the orders from i, which starts at t, demand.
-fn raise_starts(at: &mut [u32; 64], n: usize, gaps: &[u32], i: usize, t: u32)
-    requires { ⌜ Gaps (now gaps) × Bounded n 4000100000 (now at) × (n ≤ 64) × (i < 64) × (t < 4000000000) ⌝ }
+fn raise_starts(n: usize, gaps: &[u32], i: usize, t: u32, at: &mut [u32; WIDTH])
+    requires { ⌜ Gaps (now gaps) × Bounded n (aboveStarts + gapBias) (now at) × (n ≤ rowWidth) × (i < rowWidth) × (t < aboveStarts) ⌝ }
     ensures { λ _. ⌜ Filled n (λ k. max (startIn (now (at .entry)) k) (demand (gapIn (now (gaps .entry))) gapBias i k t)) (now (at .entry)) (now (at .exit)) ⌝ }
 {
     let mut k = 0;
@@ -49,8 +51,8 @@ fn raise_starts(at: &mut [u32; 64], n: usize, gaps: &[u32], i: usize, t: u32)
 }
 
 // Whether the first n starts of two lists are the same.
-fn same_starts(a: &[u32; 64], b: &[u32; 64], n: usize) -> bool
-    requires { ⌜ n ≤ 64 ⌝ }
+fn same_starts(a: &[u32; WIDTH], b: &[u32; WIDTH], n: usize) -> bool
+    requires { ⌜ n ≤ rowWidth ⌝ }
     ensures { λ r. ⌜ r ≡ all n (λ k. eqb (startIn (now (a .entry)) k) (startIn (now (b .entry)) k)) ⌝ }
 {
     let mut k = 0;
@@ -67,7 +69,7 @@ impl Starts {
     // The starts of the first n steps after a round. A step that starts as it did before the last round, in last, demanded the same
     // then, so its row is skipped.
     pub fn round(self, last: Starts, n: usize, gaps: &[u32]) -> Starts
-        requires { ⌜ Gaps (now gaps) × Bounded n 3999999999 (self .at) × (n ≤ 64) × Given n (gapIn (now gaps)) gapBias (startIn (last .at)) (startIn (self .at)) ⌝ }
+        requires { ⌜ Gaps (now gaps) × Bounded n (aboveStarts - 1) (self .at) × (n ≤ rowWidth) × Given n (gapIn (now gaps)) gapBias (startIn (last .at)) (startIn (self .at)) ⌝ }
         ensures { λ r. ⌜ Filled n (raised n (gapIn (now (gaps .entry))) gapBias (startIn (self .at))) (self .at) (r .at) ⌝ }
     {
         let before = self.at;
@@ -76,7 +78,7 @@ impl Starts {
         let mut i = 0;
         while i < n {
             if seen[i] != before[i] {
-                raise_starts(&mut at, n, gaps, i, before[i]);
+                raise_starts(n, gaps, i, before[i], &mut at);
             }
             i += 1;
         }
@@ -86,12 +88,14 @@ impl Starts {
 
 // The earliest starts of the first n steps at or after their limits, with the rounds up to the first that changes nothing, at most n.
 pub fn earliest_starts(limits: Starts, n: usize, gaps: &[u32]) -> Earliest
-    requires { ⌜ Gaps (now gaps) × Bounded n 1000000 (limits .at) × (n ≤ 64) ⌝ }
+    requires { ⌜ Gaps (now gaps) × Bounded n 1000000 (limits .at) × (n ≤ rowWidth) ⌝ }
     ensures { λ r. ⌜ r .rounds ≡ rounds n (gapIn (now (gaps .entry))) gapBias (startIn (limits .at)) ⌝ }
     ensures { λ r. ⌜ Filled n (earliest n (gapIn (now (gaps .entry))) gapBias (startIn (limits .at))) (limits .at) (r .starts .at) ⌝ }
 {
     let mut starts = limits;
-    let mut last = Starts { at: [NO_START; 64] };
+    let mut last = Starts {
+        at: [NO_START; WIDTH],
+    };
     let mut rounds = 0;
     while rounds < n {
         let next = starts.round(last, n, gaps);

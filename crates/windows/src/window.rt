@@ -1,18 +1,16 @@
 // The earliest limit and the latest start of each step.
 ghost use mathlib.Core.Path.{_≡_};
 ghost use Prim.Native.Nat.{ℕ, _+_, _-_, _≤_, _<_, min};
-ghost use mathlib.Core.Bool.{cond};
 ghost use lib.ListN.{length};
-ghost use lib.Dec.{eqb};
 ghost use Rattle.job.specs.Model.{view};
 ghost use Rattle.job.specs.WellFormed.{WellFormed};
-ghost use Rattle.order_file.specs.Contents.{noLatest};
-ghost use Rattle.orders.specs.Windows.{limitOf, latestOf};
-ghost use Rattle.order_file.specs.Table.{startIn};
-ghost use Rattle.links.specs.LinkList.{LinksOf};
-ghost use Rattle.windows.specs.Starts.{Bounded, LatestBy};
+ghost use Rattle.order_file.specs.Table.{rowWidth, startIn};
+ghost use Rattle.orders.specs.Windows.{limitOf};
+ghost use Rattle.windows.specs.Starts.{Bounded, LatestStarts};
+ghost use Rattle.windows.specs.Loops.{fixedStart, FixedStarts, Lowering, Lowered};
 use crate::starts::Starts;
 use job::layout::Job;
+use job::records::NO_DEADLINE;
 use job::records::effect_at;
 use job::records::effect_step;
 use job::records::goal_deadline;
@@ -20,18 +18,31 @@ use job::records::step_fixed;
 use job::records::step_start;
 use order_file::layout::INITIAL_STATE;
 use order_file::layout::NO_LATEST;
+use order_file::table::WIDTH;
 
-// The deadline of a goal that has none.
-const NO_DEADLINE: usize = 4294967295;
-
-fn limit(s: &[u8], job: Job, k: u16) -> u32
-    ensures { λ r. ⌜ r ≡ limitOf (view job (now (s .entry))) k ⌝ }
+// The written start of a fixed step, else `none`.
+fn fixed_start(s: &[u8], job: Job, none: u32, k: u16) -> u32
+    ensures { λ r. ⌜ r ≡ fixedStart (view job (now (s .entry))) none k ⌝ }
 {
     if step_fixed(s, job, k) == 1 {
         step_start(s, job, k) as u32
     } else {
-        0
+        none
     }
+}
+
+fn fixed_starts(s: &[u8], job: Job, none: u32) -> Starts
+    requires { ⌜ WellFormed (view job (now s)) ⌝ }
+    ensures { λ r. ⌜ FixedStarts (view job (now (s .entry))) none (r .at) ⌝ }
+{
+    let n = job.count.steps;
+    let mut at = [0; WIDTH];
+    let mut k = 0;
+    while k < n {
+        at[k as usize] = fixed_start(s, job, none, k);
+        k += 1;
+    }
+    Starts { at }
 }
 
 // The earliest limits of the steps.
@@ -40,14 +51,7 @@ pub fn limits(s: &[u8], job: Job) -> Starts
     ensures { λ r. ⌜ ((k : ℕ) → k < job .count .steps → startIn (r .at) k ≡ limitOf (view job (now (s .entry))) k) ⌝ }
     ensures { λ r. ⌜ Bounded (job .count .steps) 1000000 (r .at) ⌝ }
 {
-    let n = job.count.steps;
-    let mut at = [0; 64];
-    let mut k = 0;
-    while k < n {
-        at[k as usize] = limit(s, job, k);
-        k += 1;
-    }
-    Starts { at }
+    fixed_starts(s, job, 0)
 }
 
 // A difference, 0 where it would lie below 0.
@@ -63,35 +67,10 @@ fn lower(a: u32, b: u32) -> u32
     if b < a { b } else { a }
 }
 
-// The latest start of step k before any goal is looked at.
-fn own_latest(s: &[u8], job: Job, k: u16) -> u32
-    ensures { λ r. ⌜ r ≡ cond (eqb (view job (now (s .entry)) .fixed k) 1) (view job (now (s .entry)) .start k) noLatest ⌝ }
-{
-    if step_fixed(s, job, k) == 1 {
-        step_start(s, job, k) as u32
-    } else {
-        NO_LATEST
-    }
-}
-
-fn own_latest_starts(s: &[u8], job: Job) -> Starts
-    requires { ⌜ WellFormed (view job (now s)) ⌝ }
-    ensures { λ r. ⌜ (length (r .at) ≡ 64) × ((x : ℕ → ℕ) → LatestBy (view job (now (s .entry))) x 0 (r .at)) ⌝ }
-{
-    let n = job.count.steps;
-    let mut at = [0; 64];
-    let mut k = 0;
-    while k < n {
-        at[k as usize] = own_latest(s, job, k);
-        k += 1;
-    }
-    Starts { at }
-}
-
 // Lowers the latest start of the step whose effect supports goal g to what the deadline allows; a fixed step keeps its own.
-fn lower_latest(at: &mut [u32; 64], s: &[u8], job: Job, links: &[u16], g: u16)
-    requires { ⌜ WellFormed (view job (now s)) × (job .count .conditions + job .count .goals ≤ length (now links)) × (g < job .count .goals) × (length (now at) ≡ 64) ⌝ }
-    ensures { λ _. ⌜ (length (now (at .exit)) ≡ 64) × ((x : ℕ → ℕ) → LinksOf (view job (now (s .entry))) x (now (links .entry)) → LatestBy (view job (now (s .entry))) x g (now (at .entry)) → LatestBy (view job (now (s .entry))) x (g + 1) (now (at .exit))) ⌝ }
+fn lower_latest(s: &[u8], job: Job, links: &[u16], g: u16, at: &mut [u32; WIDTH])
+    requires { ⌜ Lowering (view job (now s)) (now links) (now at) × (g < job .count .goals) ⌝ }
+    ensures { λ _. ⌜ Lowered (view job (now (s .entry))) (now (links .entry)) g (now (at .entry)) (now (at .exit)) ⌝ }
 {
     let deadline = goal_deadline(s, job, g);
     let link = links[job.count.conditions as usize + g as usize];
@@ -109,15 +88,15 @@ fn lower_latest(at: &mut [u32; 64], s: &[u8], job: Job, links: &[u16], g: u16)
 // The latest starts of the steps, by the links of a schedule.
 pub fn latest_starts(s: &[u8], job: Job, links: &[u16]) -> Starts
     requires { ⌜ WellFormed (view job (now s)) × (job .count .conditions + job .count .goals ≤ length (now links)) ⌝ }
-    ensures { λ r. ⌜ ((x : ℕ → ℕ) → LinksOf (view job (now (s .entry))) x (now (links .entry)) → (k : ℕ) → k < job .count .steps → startIn (r .at) k ≡ latestOf (view job (now (s .entry))) x k) ⌝ }
-    ensures { λ r. ⌜ length (r .at) ≡ 64 ⌝ }
+    ensures { λ r. ⌜ LatestStarts (view job (now (s .entry))) (now (links .entry)) (r .at) ⌝ }
+    ensures { λ r. ⌜ length (r .at) ≡ rowWidth ⌝ }
 {
     let n = job.count.goals;
-    let own = own_latest_starts(s, job);
+    let own = fixed_starts(s, job, NO_LATEST);
     let mut at = own.at;
     let mut g = 0;
     while g < n {
-        lower_latest(&mut at, s, job, links, g);
+        lower_latest(s, job, links, g, &mut at);
         g += 1;
     }
     Starts { at }

@@ -6,17 +6,19 @@ use native.Mathlib.Omega.{arith}
 use denote.Ref.{now}
 use lib.ListN.{getD, replicate, length-replicate, getD-replicate, List·getD-eq-default}
 use Rattle.validity.specs.Ticks.{scheduleOf}
+use Rattle.order_file.specs.Contents.{linkLimit}
+use Rattle.order_file.specs.Table.{tableSize}
 use Rattle.partialize.proofs.Found.{none-from}
 use borrow.Author.Needs.{needs}
 use Rattle.partialize.proofs.file_schedule.Statement.{statement}
 use Rattle.partialize.proofs.file_schedule.Tie as tie
 
 -- an empty table reads as no order everywhere
-zeros : (p : ℕ) → getD {A = ℕ} (replicate 4096 0) p 0 ≡ 0
+zeros : (p : ℕ) → getD {A = ℕ} (replicate tableSize 0) p 0 ≡ 0
 zeros p =
-    elim (decLt p 4096) [
-      | yes h ↦ getD-replicate {A = ℕ} 4096 p 0 0 h
-      | no h ↦ List·getD-eq-default {A = ℕ} (replicate 4096 0) 0 {n = p} (omega (arith, length-replicate {A = ℕ} 4096 0))
+    elim (decLt p tableSize) [
+      | yes h ↦ getD-replicate {A = ℕ} tableSize p 0 0 h
+      | no h ↦ List·getD-eq-default {A = ℕ} (replicate tableSize 0) 0 {n = p} (omega (arith, length-replicate {A = ℕ} tableSize 0))
     ]
 
 pub file-schedule-spec : {M : Type 1} → statement M
@@ -28,17 +30,17 @@ file-schedule-spec =
     (λ c. search needs)
     (λ c. search needs)
     (λ c κs.
-    let d = c .before .before .before .before .before .before .before .before .before .before .before .before in
-    let f = c .before .before .before .find-links .ensures in (
-      d .pre .effects,
-      d .pre .used,
-      d .pre .valid,
-      record { each = f .below },
-      omega
-          (arith, f .size, length-replicate {A = ℕ} 544 0, d .pre .effects .form .conditionCount, d .pre .effects .form .goalCount),
-      refl,
-      zeros,
-    ))
+    let p = c .before .before .before .before .before .before .before .before .before .before .before .before .pre in
+    let f = c .before .before .before .find-links .ensures in
+    record {
+      effects = p .effects;
+      uses = p .used;
+      valid = p .valid;
+      linked = record { each = f .below };
+      room = omega (arith, f .size, length-replicate {A = ℕ} linkLimit 0, p .effects .form .conditionCount, p .effects .form .goalCount);
+      size = refl;
+      empty = zeros;
+    })
     (λ c. search needs)
     (λ c. search needs)
     (λ c κs. record {

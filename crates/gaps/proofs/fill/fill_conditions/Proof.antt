@@ -1,10 +1,11 @@
 -- Each fact and value in turn.
 use Prim.Native.Nat.{_-_, _≤_}
+use mathlib.Core.Path.{refl}
 use native.Mathlib.Omega.{arith}
 use Rattle.job.specs.Model.{view}
 use Rattle.gaps.specs.Points.{Reached, Among}
-use Rattle.gaps.proofs.Reached.{reached-either, within-up, within-to, within-empty}
-use Rattle.gaps.proofs.Rules.{ConditionOrder, first-group, second-group, wait-short, opposite-reached, effects-group, firsts-group, lasts-group, conditions-raised}
+use Rattle.gaps.proofs.Reached.{reached-either, within-up, within-all, within-empty}
+use Rattle.gaps.proofs.Rules.{ConditionOrder, given-known, given-reached, before-known, after-known, conditions-raised}
 use borrow.Author.Needs.{needs}
 use Rattle.gaps.proofs.fill.fill_conditions.Statement.{statement}
 use Rattle.gaps.proofs.fill.fill_conditions.Tie as tie
@@ -18,12 +19,12 @@ fill-conditions-spec =
     (λ c. search needs)
     (λ c. search needs)
     (λ c. (omega arith, within-empty _ _ _ _ _ (omega arith)))
-    (λ c κs. omega (arith, c .loop-test .taken, c .before .before .before .before .before .before .before .before .before .before .pre .0 .form .factCount))
-    (λ c κs. let d = c .before .before .before .before .before .before .before .before .before .before .before .before in let e = c .before .opposite .ensures in (first-group _ _ _ _ e (effects-group (d .pre .0) _ (c .before .before .loop-test .taken)), second-group _ _ _ _ e (firsts-group (d .pre .0) (d .pre .1) _ (omega (arith, c .before .before .loop-test .taken))), c .before .before .before .loop .inv .1 .whole (d .pre .3), d .pre .0 .form .stepCount, wait-short _ _ _ _ e (omega arith)))
-    (λ c κs. omega (arith, c .before .before .before .before .before .loop-test .taken, c .before .before .before .before .before .before .before .before .before .before .before .before .before .before .before .pre .0 .form .factCount))
-    (λ c κs. let d = c .before .before .before .before .before .before .before .before .before .before .before .before .before .before .before .before .before in let e = c .before .opposite2 .ensures in (first-group _ _ _ _ e (lasts-group (d .pre .0) (d .pre .1) _ (c .before .before .before .before .before .before .before .loop-test .taken)), second-group _ _ _ _ e (effects-group (d .pre .0) _ (omega (arith, c .before .before .before .before .before .before .before .loop-test .taken))), c .before .before .before .before .raise-group .ensures .whole (c .before .before .before .before .before .before .before .before .loop .inv .1 .whole (d .pre .3)), d .pre .0 .form .stepCount, wait-short _ _ _ _ e (omega arith)))
-    (λ c. omega (arith, c .before .before .before .before .before .before .before .before .before .before .loop-test .taken, c .before .before .before .before .before .before .before .before .before .before .before .before .before .before .before .before .before .before .before .before .pre .0 .form .factCount))
+    (λ c κs. omega (arith, c .loop-test .taken, c .before .before .before .before .before .before .before .before .before .before .pre .0 .effects .form .factCount))
+    (λ c κs. let d = c .before .before .before .before .before .before .before .before .before .before .before .before in let e = c .before .opposite .ensures in (given-known e (before-known (d .pre .0 .effects) (d .pre .0 .wanted) _ (c .before .before .loop-test .taken)), c .before .before .before .loop .inv .1 .whole (d .pre .1)))
+    (λ c κs. omega (arith, c .before .before .before .before .before .loop-test .taken, c .before .before .before .before .before .before .before .before .before .before .before .before .before .before .before .pre .0 .effects .form .factCount))
+    (λ c κs. let d = c .before .before .before .before .before .before .before .before .before .before .before .before .before .before .before .before .before in let e = c .before .opposite2 .ensures in (given-known e (after-known (d .pre .0 .effects) (d .pre .0 .wanted) (d .pre .0 .valid) _ (c .before .before .before .before .before .before .before .loop-test .taken)), c .before .before .before .before .raise-group .ensures .whole (c .before .before .before .before .before .before .before .before .loop .inv .1 .whole (d .pre .1))))
+    (λ c. omega (arith, c .before .before .before .before .before .before .before .before .before .before .loop-test .taken, c .before .before .before .before .before .before .before .before .before .before .before .before .before .before .before .before .before .before .before .before .pre .0 .effects .form .factCount))
     (λ c. omega (arith, c .before .before .before .before .before .before .before .before .before .before .loop-test .taken))
-    (λ c. let d = c .before .before .before .before .before .before .before .before .before .before .before .before .before .before .before .before .before .before .before .before in (omega (arith, c .before .before .before .before .before .before .before .before .before .before .loop-test .taken), within-up _ _ _ _ _ _ _ (omega arith) (c .before .before .before .before .before .before .before .before .before .before .before .loop .inv .1) (reached-either _ _ _ _ _ _ (opposite-reached _ _ _ _ (c .before .before .before .before .before .before .before .before .before .opposite .ensures) _ (view (d .args .job) (d .args .s .now)) (d .args .ticks .now) (d .args .sorted .now) (d .args .firsts .now) (d .args .conditions .now) _ _ (c .before .before .before .before .before .before .before .raise-group .ensures)) (opposite-reached _ _ _ _ (c .before .before .before .before .opposite2 .ensures) _ (view (d .args .job) (d .args .s .now)) (d .args .firsts .now) (d .args .conditions .now) (d .args .ticks .now) (d .args .sorted .now) _ _ (c .before .before .raise-group2 .ensures)))))
-    (λ c. let d = c .before .before .before .before .before .before .before .before .before .before in omega (arith, c .before .loop .inv .1 .whole (d .pre .3) .size, d .pre .3 .size))
-    (λ c. let d = c .before .before .before .before .before .before .before .before .before .before in conditions-raised (d .pre .0) (d .pre .1) (d .pre .2) _ _ (within-to _ _ _ _ _ _ _ (omega (arith, c .before .loop .inv .0, c .loop-test .left)) (c .before .loop .inv .1))))
+    (λ c. let d = c .before .before .before .before .before .before .before .before .before .before .before .before .before .before .before .before .before .before .before .before in (omega (arith, c .before .before .before .before .before .before .before .before .before .before .loop-test .taken), within-up _ _ _ _ _ _ _ (omega arith) (c .before .before .before .before .before .before .before .before .before .before .before .loop .inv .1) (reached-either _ _ _ _ _ _ (given-reached (c .before .before .before .before .before .before .before .before .before .opposite .ensures) _ (view (d .args .job) (d .args .s .now)) (d .args .ticks .now) (d .args .sorted .now) (d .args .firsts .now) (d .args .conditions .now) _ _ (c .before .before .before .before .before .before .before .raise-group .ensures)) (given-reached (c .before .before .before .before .opposite2 .ensures) _ (view (d .args .job) (d .args .s .now)) (d .args .firsts .now) (d .args .conditions .now) (d .args .ticks .now) (d .args .sorted .now) _ _ (c .before .before .raise-group2 .ensures)))))
+    (λ c. let d = c .before .before .before .before .before .before .before .before .before .before in omega (arith, c .before .loop .inv .1 .whole (d .pre .1) .size, d .pre .1 .size))
+    (λ c. let d = c .before .before .before .before .before .before .before .before .before .before in conditions-raised (d .pre .0 .effects) (d .pre .0 .wanted) (d .pre .0 .valid) _ _ (within-all _ _ _ _ _ _ _ _ refl (omega (arith, c .before .loop .inv .0, c .loop-test .left)) (c .before .loop .inv .1))))

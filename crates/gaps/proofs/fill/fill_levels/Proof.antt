@@ -1,10 +1,11 @@
 -- Each level in turn.
 use Prim.Native.Nat.{_-_, _≤_}
+use mathlib.Core.Path.{refl}
 use native.Mathlib.Omega.{arith}
 use Rattle.job.specs.Model.{view}
 use Rattle.gaps.specs.Points.{Reached, Among}
-use Rattle.gaps.proofs.Reached.{within-up, within-to, within-empty}
-use Rattle.gaps.proofs.Rules.{LevelOrder, uses-group, levels-raised}
+use Rattle.gaps.proofs.Reached.{within-up, within-all, within-empty}
+use Rattle.gaps.proofs.Rules.{LevelOrder, levels-known, levels-raised}
 use borrow.Author.Needs.{needs}
 use Rattle.gaps.proofs.fill.fill_levels.Statement.{statement}
 use Rattle.gaps.proofs.fill.fill_levels.Tie as tie
@@ -17,9 +18,9 @@ fill-levels-spec =
     (λ s job starts ticks sorted gaps₀ n key₀ gaps key. n - key)
     (λ c. search needs)
     (λ c. (omega arith, within-empty _ _ _ _ _ (omega arith)))
-    (λ c κs. let d = c .before .before .before .before .before .before .before .before .before in let l = c .before .before .loop in (uses-group (d .pre .0) _ (c .before .loop-test .taken), uses-group (d .pre .0) _ (c .before .loop-test .taken), l .inv .1 .whole (d .pre .1), d .pre .0 .form .stepCount, omega arith))
+    (λ c κs. let d = c .before .before .before .before .before .before .before .before .before in let l = c .before .before .loop in let k = levels-known (d .pre .0) _ (c .before .loop-test .taken) in (record { first = k .first; second = k .second; few = k .few; short = omega arith }, l .inv .1 .whole (d .pre .1)))
     (λ c. omega (arith, c .before .before .before .before .loop-test .taken, c .before .before .before .before .before .before .before .before .before .before .before .before .pre .0 .form .levelCount))
     (λ c. omega (arith, c .before .before .before .before .loop-test .taken))
     (λ c. (omega (arith, c .before .before .before .before .loop-test .taken), within-up _ _ _ _ _ _ _ (omega arith) (c .before .before .before .before .before .loop .inv .1) (c .before .before .raise-group .ensures)))
     (λ c. let d = c .before .before .before .before .before .before .before .before in omega (arith, c .before .loop .inv .1 .whole (d .pre .1) .size, d .pre .1 .size))
-    (λ c. let d = c .before .before .before .before .before .before .before .before in levels-raised (d .pre .0) _ _ (within-to _ _ _ _ _ _ _ (omega (arith, c .before .loop .inv .0, c .loop-test .left)) (c .before .loop .inv .1))))
+    (λ c. let d = c .before .before .before .before .before .before .before .before in levels-raised (d .pre .0) _ _ (within-all _ _ _ _ _ _ _ _ refl (omega (arith, c .before .loop .inv .0, c .loop-test .left)) (c .before .loop .inv .1))))

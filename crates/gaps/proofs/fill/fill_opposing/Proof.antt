@@ -1,10 +1,11 @@
 -- Each fact and value in turn.
 use Prim.Native.Nat.{_-_, _≤_}
+use mathlib.Core.Path.{refl}
 use native.Mathlib.Omega.{arith}
 use Rattle.job.specs.Model.{view}
 use Rattle.gaps.specs.Points.{Reached, Among}
-use Rattle.gaps.proofs.Reached.{within-up, within-to, within-empty}
-use Rattle.gaps.proofs.Rules.{OpposingOrder, first-group, second-group, wait-short, opposite-reached, effects-group, opposing-raised}
+use Rattle.gaps.proofs.Reached.{within-up, within-all, within-empty}
+use Rattle.gaps.proofs.Rules.{OpposingOrder, given-known, given-reached, opposing-known, opposing-raised}
 use borrow.Author.Needs.{needs}
 use Rattle.gaps.proofs.fill.fill_opposing.Statement.{statement}
 use Rattle.gaps.proofs.fill.fill_opposing.Tie as tie
@@ -19,9 +20,9 @@ fill-opposing-spec =
     (λ c. search needs)
     (λ c. (omega arith, within-empty _ _ _ _ _ (omega arith)))
     (λ c κs. omega (arith, c .loop-test .taken, c .before .before .before .before .before .before .before .before .pre .0 .form .factCount))
-    (λ c κs. let d = c .before .before .before .before .before .before .before .before .before .before in let e = c .before .opposite .ensures in (first-group _ _ _ _ e (effects-group (d .pre .0) _ (c .before .before .loop-test .taken)), second-group _ _ _ _ e (effects-group (d .pre .0) _ (omega (arith, c .before .before .loop-test .taken))), c .before .before .before .loop .inv .1 .whole (d .pre .1), d .pre .0 .form .stepCount, wait-short _ _ _ _ e (omega arith)))
+    (λ c κs. let d = c .before .before .before .before .before .before .before .before .before .before in let e = c .before .opposite .ensures in (given-known e (opposing-known (d .pre .0) _ (c .before .before .loop-test .taken)), c .before .before .before .loop .inv .1 .whole (d .pre .1)))
     (λ c. omega (arith, c .before .before .before .before .before .loop-test .taken, c .before .before .before .before .before .before .before .before .before .before .before .before .before .pre .0 .form .factCount))
     (λ c. omega (arith, c .before .before .before .before .before .loop-test .taken))
-    (λ c. let d = c .before .before .before .before .before .before .before .before .before .before .before .before .before in (omega (arith, c .before .before .before .before .before .loop-test .taken), within-up _ _ _ _ _ _ _ (omega arith) (c .before .before .before .before .before .before .loop .inv .1) (opposite-reached _ _ _ _ (c .before .before .before .before .opposite .ensures) _ (view (d .args .job) (d .args .s .now)) (d .args .ticks .now) (d .args .sorted .now) (d .args .ticks .now) (d .args .sorted .now) _ _ (c .before .before .raise-group .ensures))))
+    (λ c. let d = c .before .before .before .before .before .before .before .before .before .before .before .before .before in (omega (arith, c .before .before .before .before .before .loop-test .taken), within-up _ _ _ _ _ _ _ (omega arith) (c .before .before .before .before .before .before .loop .inv .1) (given-reached (c .before .before .before .before .opposite .ensures) _ (view (d .args .job) (d .args .s .now)) (d .args .ticks .now) (d .args .sorted .now) (d .args .ticks .now) (d .args .sorted .now) _ _ (c .before .before .raise-group .ensures))))
     (λ c. let d = c .before .before .before .before .before .before .before .before in omega (arith, c .before .loop .inv .1 .whole (d .pre .1) .size, d .pre .1 .size))
-    (λ c. let d = c .before .before .before .before .before .before .before .before in opposing-raised (d .pre .0) _ _ (within-to _ _ _ _ _ _ _ (omega (arith, c .before .loop .inv .0, c .loop-test .left)) (c .before .loop .inv .1))))
+    (λ c. let d = c .before .before .before .before .before .before .before .before in opposing-raised (d .pre .0) _ _ (within-all _ _ _ _ _ _ _ _ refl (omega (arith, c .before .loop .inv .0, c .loop-test .left)) (c .before .loop .inv .1))))

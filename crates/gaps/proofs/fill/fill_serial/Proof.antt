@@ -7,7 +7,7 @@ use Rattle.laws.specs.Fold.{largest}
 use Rattle.job.specs.Model.{view}
 use Rattle.validity.specs.Ticks.{scheduleOf}
 use Rattle.orders.specs.Gaps.{serialGap}
-use Rattle.gaps.specs.Table.{single, Raised}
+use Rattle.gaps.specs.Raised.{Raised, serialRow}
 use Rattle.gaps.proofs.Raised.{raised-none, raised-start, raised-more, raised-end, raised-is, all-pairs}
 use Rattle.gaps.proofs.fill.fill_serial.Statement.{statement}
 use Rattle.gaps.proofs.fill.fill_serial.Tie as tie
@@ -17,7 +17,7 @@ unfolding serialGap
 fill-serial-spec =
     tie.close
     (tie.spec
-    (λ s job starts gaps₀ n i₀ gaps i. (i ≤ n) × Raised (job .count .steps) (λ a b. largest i (λ j. largest (job .count .steps) (λ k. single j k (serialGap (view job s) (scheduleOf starts) j k) a b))) gaps₀ gaps)
+    (λ s job starts gaps₀ n i₀ gaps i. (i ≤ n) × Raised (job .count .steps) (λ a b. largest i (λ j. serialRow (view job s) (scheduleOf starts) j a b)) gaps₀ gaps)
     (λ s job starts gaps₀ n i₀ gaps i. n - i)
     (λ c. raised-none _ _ _ (λ i k. rw (ne-eqb _ _ (c .if1 .taken)) refl))
     (λ c. (omega arith, raised-start _ _ _))

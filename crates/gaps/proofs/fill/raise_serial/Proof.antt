@@ -4,7 +4,8 @@ use Rattle.laws.specs.Fold.{largest}
 use Rattle.job.specs.Model.{view}
 use Rattle.validity.specs.Ticks.{scheduleOf}
 use Rattle.orders.specs.Gaps.{serialGap}
-use Rattle.gaps.specs.Table.{single, Raised}
+use Rattle.gaps.specs.Table.{single}
+use Rattle.gaps.specs.Raised.{Raised}
 use Rattle.gaps.proofs.Raised.{raised-start, raised-order, raised-end}
 use native.Mathlib.Omega.{arith}
 use Rattle.gaps.proofs.fill.raise_serial.Statement.{statement}
@@ -14,8 +15,8 @@ pub raise-serial-spec : {M : Type 1} → statement M
 raise-serial-spec =
     tie.close
     (tie.spec
-    (λ s job starts gaps₀ i n k₀ gaps k. (k ≤ n) × Raised (job .count .steps) (λ a b. largest k (λ j. single i j (serialGap (view job s) (scheduleOf starts) i j) a b)) gaps₀ gaps)
-    (λ s job starts gaps₀ i n k₀ gaps k. n - k)
+    (λ s job starts i gaps₀ n k₀ gaps k. (k ≤ n) × Raised (job .count .steps) (λ a b. largest k (λ j. single i j (serialGap (view job s) (scheduleOf starts) i j) a b)) gaps₀ gaps)
+    (λ s job starts i gaps₀ n k₀ gaps k. n - k)
     (λ c. (omega arith, raised-start _ _ _))
     (λ c κs. let d = c .before .before .before .before .before in (d .pre .0, d .pre .2))
     (λ c κs. let d = c .before .before .before .before .before .before .before in (c .before .before .before .loop .inv .1 .whole (d .pre .1), omega (arith, d .pre .2, d .pre .0 .stepCount), omega (arith, c .before .before .loop-test .taken, d .pre .0 .stepCount), c .before .serial-gap .ensures .1))

@@ -1,5 +1,4 @@
 -- The link of the condition's fact and value.
-use native.Mathlib.Omega.{arith}
 use Rattle.orders.specs.Links.{conditionLink}
 use borrow.Author.Needs.{needs}
 use Rattle.links.proofs.support.condition_link.Statement.{statement}

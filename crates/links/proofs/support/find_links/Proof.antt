@@ -19,7 +19,7 @@ find-links-spec =
     (λ c κs. c .before .before .before .before .before .pre .0 .timed)
     (λ c. let form = c .before .before .before .before .before .before .before .pre .0 .form in omega (arith, form .conditionCount, form .goalCount))
     (λ c. (omega arith, filled-start _ _))
-    (λ c κs. (c .before .before .before .before .before .before .before .before .before .pre .0, c .before .before .before .after-all .ensures, c .loop-test .taken))
+    (λ c κs. (record { effects = c .before .before .before .before .before .before .before .before .before .pre .0; ends = c .before .before .before .after-all .ensures }, c .loop-test .taken))
     (λ c. search needs)
     (λ c. search needs)
     (λ c. omega arith)

@@ -10,7 +10,7 @@ unfolding nthLink
 link-at-spec =
     tie.close
     (tie.spec
-    (λ c κs. let d = c .before .before .before .before .before in (d .pre .0, c .if1 .taken))
-    (λ c κs. let d = c .before .before .before .before .before in (d .pre .0, d .pre .1, omega (arith, d .pre .2, c .if1 .left)))
+    (λ c κs. let d = c .before .before .before .before .before in (d .pre .0 .effects, c .if1 .taken))
+    (λ c κs. let d = c .before .before .before .before .before in (d .pre .0, omega (arith, d .pre .1, c .if1 .left)))
     (λ c. rw (lt-ltb _ _ (c .before .if1 .taken)) (c .condition-link .ensures))
     (λ c. rw (le-ltb _ _ (c .before .if1 .left)) (c .goal-link .ensures)))

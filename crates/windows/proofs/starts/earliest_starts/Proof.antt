@@ -1,7 +1,7 @@
 -- Rounds until the first that changes nothing.
 use Prim.Native.Nat.{_-_}
 use native.Mathlib.Omega.{arith}
-use Rattle.rounds.specs.Rounds.{Given}
+use Rattle.windows.specs.Loops.{Given}
 use Rattle.order_file.specs.Contents.{gapBias}
 use Rattle.order_file.specs.Table.{gapIn, startIn}
 use Rattle.windows.proofs.Loops.{Reached, reached-start, reached-more, reached-last, reached-end, reached-bounded, given-start, given-more}

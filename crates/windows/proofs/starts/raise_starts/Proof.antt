@@ -15,8 +15,8 @@ pub raise-starts-spec : {M : Type 1} → statement M
 raise-starts-spec =
     tie.close
     (tie.spec
-    (λ at₀ n gaps i t k₀ at k. (k ≤ n) × Filled k (λ j. max (startIn at₀ j) (demand (gapIn gaps) gapBias i j t)) at₀ at)
-    (λ at₀ n gaps i t k₀ at k. n - k)
+    (λ n gaps i t at₀ k₀ at k. (k ≤ n) × Filled k (λ j. max (startIn at₀ j) (demand (gapIn gaps) gapBias i j t)) at₀ at)
+    (λ n gaps i t at₀ k₀ at k. n - k)
     (λ c. (omega arith, filled-start _ _))
     (λ c. omega arith)
     (λ c. omega arith)

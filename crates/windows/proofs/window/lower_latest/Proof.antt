@@ -31,7 +31,7 @@ lower-latest-spec =
     let t = c .before .before in
     let e = t .before .before .before in
     let b = e .before .before .before .before .before .before in
-    omega (arith, ltb-true (e .effect-step .result) (b .args .job .count .steps) (search (and-l, and-r, t .if1 .taken)), b .pre .0 .stepCount))
+    omega (arith, ltb-true (e .effect-step .result) (b .args .job .count .steps) (search (and-l, and-r, t .if1 .taken)), b .pre .0 .form .stepCount))
     (λ c κs. search needs)
     (λ c. search needs)
     (λ c. search needs)
@@ -39,28 +39,30 @@ lower-latest-spec =
     let t = c .before .before .before .before in
     let e = t .before .before .before in
     let b = e .before .before .before .before .before .before in
-    omega (arith, ltb-true (e .effect-step .result) (b .args .job .count .steps) (search (and-l, and-r, t .if1 .taken)), b .pre .0 .stepCount))
+    omega (arith, ltb-true (e .effect-step .result) (b .args .job .count .steps) (search (and-l, and-r, t .if1 .taken)), b .pre .0 .form .stepCount))
     (λ c.
     let t = c .before .before .before .before in
     let f = t .before in
     let e = f .before .before in
     let d = e .before .before .before in
     let b = d .before .before .before in
-    let p = b .pre in (
-      simp length-set (p .3),
-      λ x l w.
-          latest-set _ x _ _ w (d .goal-deadline .ensures .0) (goal-link _ _ _ l _ (p .2)) (e .effect-step .ensures) (f .step-fixed .ensures) _
+    let p = b .pre in
+    record {
+      size = simp length-set (p .0 .size);
+      goal = λ x l w.
+          latest-set _ x _ _ w (d .goal-deadline .ensures .0) (goal-link _ _ _ l _ (p .1)) (e .effect-step .ensures) (f .step-fixed .ensures) _
           (t .if1 .taken)
-          (omega (arith, ltb-true (e .effect-step .result) (b .args .job .count .steps) (search (and-l, and-r, t .if1 .taken)), p .0 .stepCount))
-          (c .lower .ensures ∙ ap (min _) (c .before .before .since .ensures ∙ ap (_-_ _) (c .before .before .before .effect-at .ensures .0))),
-    ))
+          (omega (arith, ltb-true (e .effect-step .result) (b .args .job .count .steps) (search (and-l, and-r, t .if1 .taken)), p .0 .form .stepCount))
+          (c .lower .ensures ∙ ap (min _) (c .before .before .since .ensures ∙ ap (_-_ _) (c .before .before .before .effect-at .ensures .0)));
+    })
     (λ c.
     let f = c .before in
     let e = f .before .before in
     let d = e .before .before .before in
-    let p = d .before .before .before .pre in (
-      p .3,
-      λ x l w.
-          latest-same _ x _ _ w (d .goal-deadline .ensures .0) (goal-link _ _ _ l _ (p .2)) (e .effect-step .ensures) (f .step-fixed .ensures)
-          (c .if1 .left),
-    )))
+    let p = d .before .before .before .pre in
+    record {
+      size = p .0 .size;
+      goal = λ x l w.
+          latest-same _ x _ _ w (d .goal-deadline .ensures .0) (goal-link _ _ _ l _ (p .1)) (e .effect-step .ensures) (f .step-fixed .ensures)
+          (c .if1 .left);
+    }))

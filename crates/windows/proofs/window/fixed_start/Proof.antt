@@ -1,14 +1,12 @@
 -- The fixed mark decides.
 use mathlib.Core.Path.{sym, _∙_}
 use borrow.Author.Tests.{eq-eqb, ne-eqb}
-use Rattle.orders.specs.Windows.{limitOf}
 use borrow.Author.Needs.{needs}
-use Rattle.windows.proofs.window.limit.Statement.{statement}
-use Rattle.windows.proofs.window.limit.Tie as tie
+use Rattle.windows.proofs.window.fixed_start.Statement.{statement}
+use Rattle.windows.proofs.window.fixed_start.Tie as tie
 
-pub limit-spec : {M : Type 1} → statement M
-unfolding limitOf
-limit-spec =
+pub fixed-start-spec : {M : Type 1} → statement M
+fixed-start-spec =
     tie.close
     (tie.spec
     (λ c κs. search needs)

@@ -1,0 +1,43 @@
+-- Invariants of this crate: the table of gaps raised, rule by rule.
+use Prim.Native.Nat.{ℕ, _+_, _≤_, _<_, max}
+use mathlib.Core.Path.{_≡_}
+use mathlib.Core.Bool.{cond}
+use mathlib.Core.List.{List}
+use lib.Dec.{eqb}
+use lib.ListN.{length}
+use Rattle.laws.specs.Fold.{largest}
+use Rattle.job.specs.Model.{Model}
+use Rattle.job.specs.WellFormed.{WellFormed}
+use Rattle.points.specs.Known.{EffectsKnown, ConditionsKnown}
+use Rattle.validity.specs.Valid.{Valid}
+use Rattle.links.specs.LinkList.{LinksOf, Named}
+use Rattle.orders.specs.Gaps.{serialGap}
+use Rattle.order_file.specs.Table.{gapIn, Gaps, rowWidth}
+use Rattle.gaps.specs.Table.{single}
+
+-- a table raised by f: between different steps below n the larger of before and f stays, and nothing else changes
+pub record Raised (n : ℕ) (f : ℕ → ℕ → ℕ) (before after : List ℕ) : Type 0 where
+  pub whole : Gaps before → Gaps after
+  pub below : (i k : ℕ) → i < n → k < n → gapIn after i k ≡ max (gapIn before i k) (cond (eqb i k) 0 (f i k))
+  pub rest : (i k : ℕ) → k < rowWidth → (i < n → k < n → ⊥) → gapIn after i k ≡ gapIn before i k
+
+-- rule 1 reads links that name effects of the job, into a whole table
+pub record SupportKnown (m : Model) (links gaps : List ℕ) : Type 0 where
+  pub form : WellFormed m
+  pub named : Named m links
+  pub room : m .conditions + m .goals ≤ length links
+  pub whole : Gaps gaps
+
+-- raised by a rule of every schedule whose links these are
+abbrev pub RaisedByLinks : Model → List ℕ → (Model → (ℕ → ℕ) → ℕ → ℕ → ℕ) → List ℕ → List ℕ → Type 0
+RaisedByLinks m links rule before after = (x : ℕ → ℕ) → LinksOf m x links → Raised (m .steps) (rule m x) before after
+
+-- rule 3 orders the effects and the conditions of a valid schedule
+pub record OpposersKnown (m : Model) (x : ℕ → ℕ) (ticks sorted firsts conditions : List ℕ) : Type 0 where
+  pub effects : EffectsKnown m x ticks sorted
+  pub wanted : ConditionsKnown m x firsts conditions
+  pub valid : Valid m x
+
+-- rule 5 of one step: its gaps to all others
+abbrev pub serialRow : Model → (ℕ → ℕ) → ℕ → ℕ → ℕ → ℕ
+serialRow m x i a b = largest (m .steps) (λ k. single i k (serialGap m x i k) a b)
