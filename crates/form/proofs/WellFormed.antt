@@ -8,16 +8,16 @@ use native.Mathlib.Omega.{arith}
 use borrow.Author.Tests.{ltb-true, ltb-false, leb-true, eqb-true, eqb-false, not-true, not-false, eq-eqb, le-leb, lt-ltb}
 use lib.Dec.{leb, eqb, lit<}
 use lib.ListN.{getD}
-use Rattle.little_endian.specs.Bytes.{u16At}
+use Rattle.little_endian.specs.Bytes.{u16At, signBias}
 use Rattle.laws.proofs.Search.{either, contrary, by-order, and-both, or-both, any-false, owner-none}
 use Rattle.job.specs.declared.layout.Table.the-variants.{Facts, Levels, Steps, Conditions, Effects, Uses, Goals}
 use Rattle.verdict.specs.declared.Verdict.the-variants.{RecordOutOfRange}
 use Rattle.job.specs.declared.layout.Table.{Table}
 use Rattle.job.specs.declared.layout.Counts.{Counts}
 use Rattle.job.specs.declared.layout.Job.{Job}
-use Rattle.verdict.specs.Verdict.{number, _then_}
+use Rattle.verdict.specs.Verdict.{number}
 use Rattle.job.specs.Layout.{mostUses, countsOf, countList, highest, jobOf, countTooHigh}
-use Rattle.job.specs.Model.{Model, modelOf, lastStart, longest, lastDeadline, noDeadline, signBias, lowestLevel, highestLevel, lowestAmount, highestAmount}
+use Rattle.job.specs.Model.{Model, modelOf, lastStart, longest, lastDeadline, noDeadline, lowestLevel, highestLevel, lowestAmount, highestAmount}
 use Rattle.form.specs.Ranges.{levelInRange, factOk, levelOk, stepOk, conditionOk, effectOk, useOk, goalOk, recordOk, recordBroken, countIn}
 use Rattle.form.specs.Against.{bothWays, usesTwice, opposesOwn, setBefore, usedBefore, opposesAny, bothWaysStep, usesTwiceStep, opposesOwnStep}
 use Rattle.form.specs.Header.{headerCheck}
@@ -72,7 +72,9 @@ fact-in : (m : Model) (k : ℕ) → factOk m k ≡ true → m .initial k ≤ 1
 unfolding factOk
 fact-in m k e = leb-true _ _ e
 
-level-in : (m : Model) (k : ℕ) → levelOk m k ≡ true → (lowestLevel ≤ m .levelLeast k) × (m .levelLeast k ≤ m .levelInitial k) × (m .levelInitial k ≤ m .levelMost k) × (m .levelMost k ≤ highestLevel)
+level-in :
+    (m : Model) (k : ℕ) → levelOk m k ≡ true → (lowestLevel ≤ m .levelLeast k) × (m .levelLeast k ≤ m .levelInitial k) × (m .levelInitial
+    k ≤ m .levelMost k) × (m .levelMost k ≤ highestLevel)
 unfolding levelOk
 level-in m k e =
     let d = and-both _ _ e in
@@ -92,7 +94,9 @@ step-in m k e =
     let a = and-both _ _ (b .0) in
     (leb-true _ _ (a .0), leb-true _ _ (a .1), leb-true _ _ (b .1))
 
-condition-in : (m : Model) (k : ℕ) → conditionOk m k ≡ true → (m .conditionStep k < m .steps) × (m .conditionFact k < m .facts) × (m .conditionFrom k ≤ m .conditionTo k) × (m .conditionTo k ≤ m .stepLength (m .conditionStep k)) × (m .conditionValue k ≤ 1)
+condition-in :
+    (m : Model) (k : ℕ) → conditionOk m k ≡ true → (m .conditionStep k < m .steps) × (m .conditionFact k < m .facts) × (m .conditionFrom
+    k ≤ m .conditionTo k) × (m .conditionTo k ≤ m .stepLength (m .conditionStep k)) × (m .conditionValue k ≤ 1)
 unfolding conditionOk
 condition-in m k e =
     let d = and-both _ _ e in
@@ -101,7 +105,9 @@ condition-in m k e =
     let a = and-both _ _ (b .0) in
     (ltb-true _ _ (a .0), ltb-true _ _ (a .1), leb-true _ _ (b .1), leb-true _ _ (c .1), leb-true _ _ (d .1))
 
-effect-in : (m : Model) (k : ℕ) → effectOk m k ≡ true → (m .effectStep k < m .steps) × (m .effectFact k < m .facts) × (m .effectAt k ≤ m .stepLength (m .effectStep k)) × (m .effectValue k ≤ 1)
+effect-in :
+    (m : Model) (k : ℕ) → effectOk m k ≡ true → (m .effectStep k < m .steps) × (m .effectFact k < m .facts) × (m .effectAt k ≤ m .stepLength
+    (m .effectStep k)) × (m .effectValue k ≤ 1)
 unfolding effectOk
 effect-in m k e =
     let c = and-both _ _ e in
@@ -109,7 +115,9 @@ effect-in m k e =
     let a = and-both _ _ (b .0) in
     (ltb-true _ _ (a .0), ltb-true _ _ (a .1), leb-true _ _ (b .1), leb-true _ _ (c .1))
 
-use-in : (m : Model) (k : ℕ) → useOk m k ≡ true → (m .useStep k < m .steps) × (m .useLevel k < m .levels) × (m .useAt k ≤ m .stepLength (m .useStep k)) × (lowestAmount ≤ m .useAmount k) × (m .useAmount k ≤ highestAmount) × (m .useAmount k ≡ signBias → ⊥)
+use-in :
+    (m : Model) (k : ℕ) → useOk m k ≡ true → (m .useStep k < m .steps) × (m .useLevel k < m .levels) × (m .useAt k ≤ m .stepLength
+    (m .useStep k)) × (lowestAmount ≤ m .useAmount k) × (m .useAmount k ≤ highestAmount) × (m .useAmount k ≡ signBias → ⊥)
 unfolding useOk
 use-in m k e =
     let f = and-both _ _ e in
@@ -119,7 +127,9 @@ use-in m k e =
     let a = and-both _ _ (b .0) in
     (ltb-true _ _ (a .0), ltb-true _ _ (a .1), leb-true _ _ (b .1), leb-true _ _ (c .1), leb-true _ _ (d .1), eqb-false _ _ (not-true _ (f .1)))
 
-goal-in : (m : Model) (k : ℕ) → goalOk m k ≡ true → (m .goalFact k < m .facts) × (m .goalValue k ≤ 1) × ((m .goalDeadline k ≤ lastDeadline) ⊎ (m .goalDeadline k ≡ noDeadline))
+goal-in :
+    (m : Model) (k : ℕ) → goalOk m k ≡ true → (m .goalFact k < m .facts) × (m .goalValue k ≤ 1) × ((m .goalDeadline k ≤ lastDeadline) ⊎
+    (m .goalDeadline k ≡ noDeadline))
 unfolding goalOk
 goal-in m k e =
     let b = and-both _ _ e in
@@ -139,7 +149,9 @@ module _ (m : Model) (ok : (t : Table) (k : ℕ) → k < countIn m t → recordO
   unfolding againstStep
   no-opposes-own = omega arith
 
-  later-agrees : (e f : ℕ) → e < m .effects → f < e → m .effectStep e ≡ m .effectStep f → m .effectFact e ≡ m .effectFact f → m .effectAt e ≡ m .effectAt f → m .effectValue e ≡ m .effectValue f
+  later-agrees :
+      (e f : ℕ) → e < m .effects → f < e → m .effectStep e ≡ m .effectStep f → m .effectFact e ≡ m .effectFact f → m .effectAt e ≡ m .effectAt f
+      → m .effectValue e ≡ m .effectValue f
   unfolding bothWaysStep setBefore bothWays
   later-agrees e f h g s t a =
       eqb-true _ _
@@ -149,7 +161,9 @@ module _ (m : Model) (ok : (t : Table) (k : ℕ) → k < countIn m t → recordO
       (eq-eqb _ _ t)
       (eq-eqb _ _ a))
 
-  one-way : (e f : ℕ) → e < m .effects → f < m .effects → m .effectStep e ≡ m .effectStep f → m .effectFact e ≡ m .effectFact f → m .effectAt e ≡ m .effectAt f → m .effectValue e ≡ m .effectValue f
+  one-way :
+      (e f : ℕ) → e < m .effects → f < m .effects → m .effectStep e ≡ m .effectStep f → m .effectFact e ≡ m .effectFact f → m .effectAt
+      e ≡ m .effectAt f → m .effectValue e ≡ m .effectValue f
   one-way e f h g s t a =
       by-order e f
       (λ l. sym (later-agrees f e g l (sym s) (sym t) (sym a)))
@@ -170,10 +184,13 @@ module _ (m : Model) (ok : (t : Table) (k : ℕ) → k < countIn m t → recordO
       (λ l. absurd (no-later-use u v h l s t a))
       (λ q. q)
 
-  keeps-own : (e c : ℕ) → e < m .effects → c < m .conditions → m .effectStep e ≡ m .conditionStep c → m .effectFact e ≡ m .conditionFact c → m .conditionFrom c ≤ m .effectAt e → m .effectAt e < m .conditionTo c → m .effectValue e ≡ m .conditionValue c
+  keeps-own :
+      (e c : ℕ) → e < m .effects → c < m .conditions → m .effectStep e ≡ m .conditionStep c → m .effectFact e ≡ m .conditionFact c → m .conditionFrom
+      c ≤ m .effectAt e → m .effectAt e < m .conditionTo c → m .effectValue e ≡ m .conditionValue c
   unfolding opposesOwnStep opposesAny opposesOwn
   keeps-own e c h g s t a b =
-      let f = any-false (opposesOwn m e) (m .conditions) (owner-none (m .steps) (m .effectStep) (opposesAny m) (m .effects) no-opposes-own e h (effect-in m e (ok Effects e h) .0)) c g in
+      let f = any-false (opposesOwn m e) (m .conditions) (owner-none (m .steps) (m .effectStep) (opposesAny m) (m .effects) no-opposes-own e h
+      (effect-in m e (ok Effects e h) .0)) c g in
       ⊎-elim
       (λ (x : eqb (m .effectValue e) (m .conditionValue c) ≡ true). eqb-true _ _ x)
       (λ (x : eqb (m .effectValue e) (m .conditionValue c) ≡ false).

@@ -4,7 +4,8 @@ use mathlib.Core.Bool.{Bool, _&&_, _||_, not}
 use lib.Dec.{ltb, leb, eqb}
 use Rattle.job.specs.declared.layout.Table.{Table}
 use Rattle.job.specs.declared.layout.Table.the-variants.{Facts, Levels, Steps, Conditions, Effects, Uses, Goals}
-use Rattle.job.specs.Model.{Model, lastStart, longest, lastDeadline, noDeadline, signBias, lowestLevel, highestLevel, lowestAmount, highestAmount}
+use Rattle.little_endian.specs.Bytes.{signBias}
+use Rattle.job.specs.Model.{Model, lastStart, longest, lastDeadline, noDeadline, lowestLevel, highestLevel, lowestAmount, highestAmount}
 
 -- a number plus signBias is within ±1,000,000,000
 abbrev pub levelInRange : ℕ → Bool

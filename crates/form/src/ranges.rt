@@ -13,10 +13,10 @@ use job::layout::LAST_START;
 use job::layout::LONGEST;
 use job::layout::LOWEST_AMOUNT;
 use job::layout::LOWEST_LEVEL;
-use job::layout::SIGN_BIAS;
 use job::layout::Table;
 use job::reader::level_at;
 use job::records::*;
+use little_endian::SIGN_BIAS;
 use verdict::Verdict;
 use verdict::number;
 

@@ -23,7 +23,8 @@ use Rattle.gaps.proofs.Reached.{reached-none, reached-is, reached-one}
 use Rattle.order_file.specs.Contents.{stepLimit, mostGap, gapBias}
 
 -- What is known of the record r at a place of a group.
-module _ {m : Model} {point : Point} {ticks sorted : List ℕ} {key : ℕ} (group : Group m point ticks sorted key) (p : ℕ) (from : getD sorted key 0 ≤ p) (to : p < getD sorted (key + 1) 0) {r : ℕ} (there : r ≡ recordIn sorted p) where
+module _ {m : Model} {point : Point} {ticks sorted : List ℕ} {key : ℕ} (group : Group m point ticks sorted key) (p : ℕ) (from : getD sorted key 0 ≤ p)
+    (to : p < getD sorted (key + 1) 0) {r : ℕ} (there : r ≡ recordIn sorted p) where
   pub place-listed : r < length ticks
   place-listed = subst (λ k. k < length ticks) (sym there) (group .rising .known p from to)
 
@@ -91,7 +92,8 @@ module _ (m : Model) (to : Point) (ticks sorted : List ℕ) where
           ]
 
   -- Going back, what is not before tick t parts from what is.
-  module _ (key t p : ℕ) (group : Group m to ticks sorted key) (from : getD sorted key 0 ≤ p) (end : p ≤ getD sorted (key + 1) 0) (after : (q : ℕ) → p ≤ q → q < getD sorted (key + 1) 0 → t ≤ tickIn ticks sorted q) where
+  module _ (key t p : ℕ) (group : Group m to ticks sorted key) (from : getD sorted key 0 ≤ p) (end : p ≤ getD sorted (key + 1) 0)
+      (after : (q : ℕ) → p ≤ q → q < getD sorted (key + 1) 0 → t ≤ tickIn ticks sorted q) where
     pub parts-found :
         getD sorted key 0 < p → {k : ℕ} → k ≡ recordIn sorted (p - 1) → getD ticks k 0 < t
         → Parts ticks sorted (getD sorted key 0) (getD sorted (key + 1) 0) t p
@@ -223,7 +225,8 @@ module _ (m : Model) (to : Point) (sorted : List ℕ) where
 
       found :
           (k : ℕ) → 0 < getD (set leads step v) k 0
-          → (q : ℕ) × (p - 1 ≤ q) × (q < high) × (pointStep m to (recordIn sorted q) ≡ k) × (getD (set leads step v) k 0 ≡ gapBias + 1 - pointAt m to (recordIn sorted q))
+          → (q : ℕ) × (p - 1 ≤ q) × (q < high) × (pointStep m to (recordIn sorted q) ≡ k) × (getD (set leads step v) k 0 ≡ gapBias + 1 - pointAt m to
+          (recordIn sorted q))
       found k l =
           elim (ℕ-discrete k step) [
             | yes s ↦
@@ -268,7 +271,9 @@ module _ (step at : ℕ) (leads before : List ℕ) where
         rest = λ p d. getD-set-other now (rowWidth * step + k) p v 0 (d k (omega arith)) ∙ w .rest p (λ j h. d j (omega arith));
       }
     where
-      raised : (j : ℕ) → j < k + 1 → gapIn (set now (rowWidth * step + k) v) step j ≡ max (gapIn before step j) (cond (eqb (getD leads j 0) 0) 0 (at + getD leads j 0))
+      raised :
+          (j : ℕ) → j < k + 1 → gapIn (set now (rowWidth * step + k) v) step j ≡ max (gapIn before step j)
+          (cond (eqb (getD leads j 0) 0) 0 (at + getD leads j 0))
       raised j h =
           elim (ℕ-discrete j k) [
             | yes q ↦
@@ -299,11 +304,19 @@ module _ (step at : ℕ) (leads before : List ℕ) where
           | yes s ↦ omega (arith, on i j s a)
           | no s ↦ omega (arith, off i j (omega (arith, a .1)) (λ t _. s t))
         ];
-        reaches = λ i j gap a o. omega (arith, on i j (o .0) a, ap (λ t. cond t 0 (at + getD leads j 0)) (ne-eqb (getD leads j 0) 0 (omega (arith, o .1))), o .2);
+        reaches =
+            λ i j gap a o. omega (
+              arith,
+              on i j (o .0) a,
+              ap (λ t. cond t 0 (at + getD leads j 0)) (ne-eqb (getD leads j 0) 0 (omega (arith, o .1))),
+              o .2,
+            );
         least = least;
       }
     where
-      on : (i j : ℕ) → step ≡ i → Apart n i j → gapIn (set now (rowWidth * step + step) own) i j ≡ max (gapIn before i j) (cond (eqb (getD leads j 0) 0) 0 (at + getD leads j 0))
+      on :
+          (i j : ℕ) → step ≡ i → Apart n i j → gapIn (set now (rowWidth * step + step) own) i j ≡ max (gapIn before i j)
+          (cond (eqb (getD leads j 0) 0) 0 (at + getD leads j 0))
       on i j s a =
           subst (λ r. gapIn (set now (rowWidth * step + step) own) r j ≡ max (gapIn before r j) (cond (eqb (getD leads j 0) 0) 0 (at + getD leads j 0))) s
           (getD-set-other now (rowWidth * step + step) (rowWidth * step + j) own 0 (λ q. a .2 (omega arith)) ∙ w .raised j (omega (arith, a .1)))

@@ -87,7 +87,9 @@ module _ {m : Model} {first second : Listed m} {other : ℕ → ℕ} {wait : ℕ
       cond (eqb (pointStep m (first .point) a) i && eqb (pointStep m (second .point) b) k && fits a b && sooner a b)
       (strictly (pointAt m (first .point) a) (pointAt m (second .point) b)) 0
 
-  pub groups-known : (key : ℕ) → key < first .keys → m .steps ≤ stepLimit → GroupsKnown m (groupsOf key) (first .ticks) (first .sorted) (second .ticks) (second .sorted)
+  pub groups-known :
+      (key : ℕ) → key < first .keys → m .steps ≤ stepLimit → GroupsKnown m (groupsOf key) (first .ticks) (first .sorted) (second .ticks)
+      (second .sorted)
   groups-known key h few =
       record {
         first = group-of first key h;
@@ -140,12 +142,15 @@ module _ {m : Model} {first second : Listed m} {other : ℕ → ℕ} {wait : ℕ
         here .0,
         here .1,
         here .2,
-        subst (λ j. After m (second .point) (second .ticks) (second .sorted) (other key) (pointStep m (first .point) j) (pointAt m (first .point) j) (getD (first .ticks) j 0 + wait) i k gap) (sym (here .3)) (
-          there .0,
-          there .1,
-          there .2,
-          subst (λ j. (getD (first .ticks) a 0 + wait ≤ getD (second .ticks) j 0) × (pointStep m (first .point) a ≡ i) × (pointStep m (second .point) j ≡ k) × (gap ≡ strictly (pointAt m (first .point) a) (pointAt m (second .point) j))) (sym (there .3)) (late, eqb-true _ _ p, eqb-true _ _ q, refl),
-        ),
+        subst (λ j. After m (second .point) (second .ticks) (second .sorted) (other key) (pointStep m (first .point) j) (pointAt m (first .point) j)
+            (getD (first .ticks) j 0 + wait) i k gap) (sym (here .3)) (
+              there .0,
+              there .1,
+              there .2,
+              subst (λ j. (getD (first .ticks) a 0 + wait ≤ getD (second .ticks) j 0) × (pointStep m (first .point) a ≡ i) × (pointStep m (second .point)
+                  j ≡ k) × (gap ≡ strictly (pointAt m (first .point) a) (pointAt m (second .point) j))) (sym (there .3))
+                  (late, eqb-true _ _ p, eqb-true _ _ q, refl),
+            ),
       ))
 
   -- a table raised to the orders of all keys is raised by the largest of each two steps

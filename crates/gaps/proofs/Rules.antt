@@ -57,7 +57,8 @@ record Valued (m : Model) (l : Listed m) (fact value : ℕ → ℕ) : Type 0 whe
   pub low : (k : ℕ) → k < l .count → fact k < m .facts
   pub two : (k : ℕ) → k < l .count → value k ≤ 1
 
-module _ {m : Model} {first second : Listed m} {fact value fact' value' : ℕ → ℕ} (v : Valued m first fact value) (w : Valued m second fact' value') (fits : ℕ → ℕ → Bool) (same : (a b : ℕ) → fits a b ≡ (eqb (fact a) (fact' b) && not (eqb (value a) (value' b)))) where
+module _ {m : Model} {first second : Listed m} {fact value fact' value' : ℕ → ℕ} (v : Valued m first fact value) (w : Valued m second fact' value')
+    (fits : ℕ → ℕ → Bool) (same : (a b : ℕ) → fits a b ≡ (eqb (fact a) (fact' b) && not (eqb (value a) (value' b)))) where
   opposing-rule :
       (wait : ℕ) (sooner : ℕ → ℕ → Bool) → wait ≤ 1
       → ((a b : ℕ) → a < first .count → b < second .count → fits a b ≡ true
@@ -140,7 +141,8 @@ ConditionOrder m ticks sorted firsts conditions key i k gap =
     Between m (oppositeGroups Effect key First 1) ticks sorted firsts conditions i k gap
     ⊎ Between m (oppositeGroups Last key Effect 0) firsts conditions ticks sorted i k gap
 
-module _ {m : Model} {x : ℕ → ℕ} {ticks sorted firsts conditions : List ℕ} (effects : EffectsKnown m x ticks sorted) (wanted : ConditionsKnown m x firsts conditions) where
+module _ {m : Model} {x : ℕ → ℕ} {ticks sorted firsts conditions : List ℕ} (effects : EffectsKnown m x ticks sorted)
+    (wanted : ConditionsKnown m x firsts conditions) where
   abbrev conditionList :
       (point : Point) → ((k : ℕ) → k < m .conditions → pointStep m point k < m .steps)
       → ((k : ℕ) → k < m .conditions → pointAt m point k ≤ longest)

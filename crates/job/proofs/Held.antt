@@ -61,7 +61,8 @@ module _ {M : Type 1} (𝓤 : URA M) (H : Heap 𝓤) (A : Atoms 𝓤) (W : Given
   parted =
       qed W (‵ Own ∷ []) ∵
       use1 W (‵ Own ⊛ ‵ Own) (LL.copy (Shape (κ, tt)) (T′.the-copy (namedLft 1 0 tt (κ, tt))) 𝓤 H A W .twice d (T′.lowered d ∷ [])) $ split ! $
-      use1 W (given (T′.lowered d ∷ [] ≡ T′.lowered d ∷ []) (‵ (all-own (Shape (κ, tt) .parts) (laws (κ, tt)) values))) (own-open 𝓤 H A W (Shape (κ, tt)) (laws (κ, tt)) values (T′.lowered d)) $ learn ! (λ _.
+      use1 W (given (T′.lowered d ∷ [] ≡ T′.lowered d ∷ []) (‵ (all-own (Shape (κ, tt) .parts) (laws (κ, tt)) values)))
+      (own-open 𝓤 H A W (Shape (κ, tt)) (laws (κ, tt)) values (T′.lowered d)) $ learn ! (λ _.
       fsplit ! $ move ! (1 ∷ []) $ fsplit ! $ move ! (1 ∷ []) $ drop ! $ move ! (1 ∷ 0 ∷ []) $ join ! $ frame ! $ done !)
 
   pub joined : ent 𝓤 (sep 𝓤 (sem 𝓤 H A (OwnBytes κ (d .bytes))) (sem 𝓤 H A OwnJob)) (sem 𝓤 H A Own)

@@ -1,7 +1,7 @@
 -- For callers: the job that a file holds, counts and functions of an index. Its meaning is stated over this record alone.
 use Prim.Native.Nat.{ℕ, _+_, _*_, _-_}
 use mathlib.Core.List.{List}
-use Rattle.little_endian.specs.Bytes.{byteAt, u16At, u32At, biasedAt}
+use Rattle.little_endian.specs.Bytes.{signBias, byteAt, u16At, u32At, biasedAt}
 use Rattle.job.specs.declared.layout.Job.{Job}
 use Rattle.job.specs.declared.records.Level.{Level}
 use Rattle.job.specs.declared.records.Condition.{Condition}
@@ -22,10 +22,6 @@ lastDeadline = 1100000
 
 abbrev pub noDeadline : ℕ
 noDeadline = 4294967295
-
--- what is added to a signed number, so that it is never below 0
-abbrev pub signBias : ℕ
-signBias = 2147483648
 
 -- a level's numbers are within ±1,000,000,000, a use's amount within ±1,000,000: so biased
 abbrev pub lowestLevel : ℕ

@@ -3,7 +3,8 @@ use Prim.Native.Nat.{ℕ, _≤_, _<_}
 use mathlib.Core.Path.{_≡_}
 use mathlib.Core.Logic.{_⊎_}
 use Rattle.job.specs.Layout.{mostFacts, mostLevels, mostSteps, mostConditions, mostEffects, mostUses, mostGoals}
-use Rattle.job.specs.Model.{Model, lastStart, longest, lastDeadline, noDeadline, signBias, lowestLevel, highestLevel, lowestAmount, highestAmount}
+use Rattle.little_endian.specs.Bytes.{signBias}
+use Rattle.job.specs.Model.{Model, lastStart, longest, lastDeadline, noDeadline, lowestLevel, highestLevel, lowestAmount, highestAmount}
 
 pub record WellFormed (m : Model) : Type 0 where
   -- marks and counts

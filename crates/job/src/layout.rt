@@ -1,6 +1,7 @@
 // The job file's header: counts, limits, and where the tables lie.
 ghost use mathlib.Core.Path.{_≡_};
 ghost use Rattle.job.specs.Layout.{countsOf, positionsOf, jobOf, countTooHigh};
+use little_endian::SIGN_BIAS;
 
 // The tables, in their order in the file.
 pub enum Table {
@@ -72,9 +73,7 @@ pub const LONGEST: usize = 100000;
 
 pub const LAST_DEADLINE: usize = 1100000;
 
-// What is added to a signed number, so that it is never below 0; and the bounds of a level's numbers and of a use's amount, so biased.
-pub const SIGN_BIAS: usize = 2147483648;
-
+// The bounds of a level's numbers and of a use's amount, each plus the bias of a signed number.
 pub const LOWEST_LEVEL: usize = SIGN_BIAS - 1000000000;
 
 pub const HIGHEST_LEVEL: usize = SIGN_BIAS + 1000000000;

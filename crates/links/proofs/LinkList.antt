@@ -31,6 +31,8 @@ module _ (m : Model) (x : ℕ → ℕ) (links : List ℕ) (w : LinksOf m x links
   pub valid-named : WellFormed m → Valid m x → Named m links
   valid-named f v c h d = named (condition-linked m x f v c h)
     where
-      named : Linked m x (m .conditionFact c) (m .conditionValue c) (x (m .conditionStep c) + m .conditionFrom c) (conditionLink m x c) → getD links c 0 < m .effects
+      named :
+          Linked m x (m .conditionFact c) (m .conditionValue c) (x (m .conditionStep c) + m .conditionFrom c) (conditionLink m x c) → getD links c
+          0 < m .effects
       named (initially e _ _) = absurd (d (condition-link c h ∙ e))
       named (produced g _ _) = rw (condition-link c h) (g .known)

@@ -8,7 +8,6 @@ use native.Mathlib.Omega.{arith}
 use borrow.Author.Tests.{leb-true, le-leb, eqb-true, eq-eqb}
 use lib.Dec.{leb, eqb}
 use lib.ListN.{getD}
-use Rattle.laws.specs.Search.{lowest}
 use Rattle.laws.proofs.Search.{either, and-both, any-false, lowest-is}
 use Rattle.laws.proofs.Fold.{least-le, least-ge, largest-ge}
 use Rattle.points.specs.declared.index.Linking.the-variants.{EffectsByFact}
@@ -23,7 +22,8 @@ use Rattle.points.proofs.Known.{gives-key, key-gives}
 use Rattle.points.proofs.Searches.{key-listed}
 use Rattle.links.specs.Producers.{givesFrom, earliestFrom, supporterFrom}
 
-module _ {m : Model} {x : ℕ → ℕ} {ticks sorted : List ℕ} (known : EffectsKnown m x ticks sorted) (fact value from : ℕ) (f : fact < m .facts) (b : value ≤ 1) {v r : ℕ} (key : v ≡ factKey fact value) (parts : Parts ticks sorted (getD sorted v 0) (getD sorted (v + 1) 0) from r) where
+module _ {m : Model} {x : ℕ → ℕ} {ticks sorted : List ℕ} (known : EffectsKnown m x ticks sorted) (fact value from : ℕ) (f : fact < m .facts)
+    (b : value ≤ 1) {v r : ℕ} (key : v ≡ factKey fact value) (parts : Parts ticks sorted (getD sorted v 0) (getD sorted (v + 1) 0) from r) where
   listed : v < 2 * m .facts
   listed = key-listed known fact value f b key
 
@@ -44,7 +44,9 @@ module _ {m : Model} {x : ℕ → ℕ} {ticks sorted : List ℕ} (known : Effect
   -- where none stands from there on, there is no producer
   pub supporter-none : {count : ℕ} → count ≡ m .effects → getD sorted (v + 1) 0 ≤ r → count ≡ supporterFrom m x fact value from
   supporter-none e l =
-      let none = any-false (givesFrom m x fact value from) (m .effects) (sym (scanned-end (known .ordered) v listed (givesFrom m x fact value from) from only r (scanned-start (known .ordered) v listed (givesFrom m x fact value from) from parts) l)) in
+      let none = any-false (givesFrom m x fact value from) (m .effects)
+      (sym (scanned-end (known .ordered) v listed (givesFrom m x fact value from) from only r
+      (scanned-start (known .ordered) v listed (givesFrom m x fact value from) from parts) l)) in
       e
       ∙ sym
       (lowest-is _ (m .effects) (m .effects) (omega arith)
@@ -66,7 +68,9 @@ module _ {m : Model} {x : ℕ → ℕ} {ticks sorted : List ℕ} (known : Effect
         (key-gives m (known .form) (recordIn sorted r) (there .0) fact value (omega (arith, known .form .factCount)) b (there .1 ∙ key))
         (le-leb from (effectTick m x (recordIn sorted r)) (omega (arith, at)))
 
-    first : (k : ℕ) → k < m .effects → givesFrom m x fact value from k ≡ true → (effectTick m x (recordIn sorted r) ≤ effectTick m x k) × (effectTick m x (recordIn sorted r) ≡ effectTick m x k → recordIn sorted r ≤ k)
+    first :
+        (k : ℕ) → k < m .effects → givesFrom m x fact value from k ≡ true
+        → (effectTick m x (recordIn sorted r) ≤ effectTick m x k) × (effectTick m x (recordIn sorted r) ≡ effectTick m x k → recordIn sorted r ≤ k)
     first k h t =
         let e = earliest-there (known .ordered) v listed (givesFrom m x fact value from) from only parts l k h t in
         let same : getD ticks k 0 ≡ effectTick m x k = known .timed .at k h in
@@ -76,15 +80,19 @@ module _ {m : Model} {x : ℕ → ℕ} {ticks sorted : List ℕ} (known : Effect
     earliest =
         let here : effectTick m x (recordIn sorted r) < afterAll m x = before-end (recordIn sorted r) (there .0) in
         let le = least-le produced (m .effects) (afterAll m x) (recordIn sorted r) (there .0) in
-        let eq : produced (recordIn sorted r) ≡ effectTick m x (recordIn sorted r) = ap (λ c. cond c (effectTick m x (recordIn sorted r)) (afterAll m x)) produces in
+        let eq : produced (recordIn sorted r) ≡ effectTick m x (recordIn sorted r) = ap
+        (λ c. cond c (effectTick m x (recordIn sorted r)) (afterAll m x)) produces in
         let ge = least-ge produced (m .effects) (afterAll m x) (effectTick m x (recordIn sorted r)) (omega arith) (λ k h. no-earlier k h) in
         omega (arith, le, eq, ge)
       where
         no-earlier : (k : ℕ) → k < m .effects → effectTick m x (recordIn sorted r) ≤ produced k
         no-earlier k h =
             ⊎-elim
-            (λ (t : givesFrom m x fact value from k ≡ true). let e : produced k ≡ effectTick m x k = ap (λ c. cond c (effectTick m x k) (afterAll m x)) t in omega (arith, first k h t .0))
-            (λ (t : givesFrom m x fact value from k ≡ false). let e : produced k ≡ afterAll m x = ap (λ c. cond c (effectTick m x k) (afterAll m x)) t in omega (arith, before-end (recordIn sorted r) (there .0)))
+            (λ (t : givesFrom m x fact value from k ≡ true).
+            let e : produced k ≡ effectTick m x k = ap (λ c. cond c (effectTick m x k) (afterAll m x)) t in omega (arith, first k h t .0))
+            (λ (t : givesFrom m x fact value from k ≡ false).
+            let e : produced k ≡ afterAll m x = ap (λ c. cond c (effectTick m x k) (afterAll m x)) t in
+            omega (arith, before-end (recordIn sorted r) (there .0)))
             (either (givesFrom m x fact value from k))
 
     pub supporter-found : {k : ℕ} → k ≡ recordIn sorted r → k ≡ supporterFrom m x fact value from

@@ -126,7 +126,7 @@ fn goal_link(
 }
 
 // The link of condition k, or past the conditions that of the next goal.
-fn link_at(
+fn nth_link(
     s: &[u8],
     job: Job,
     starts: &[u32],
@@ -162,7 +162,7 @@ pub fn find_links(
     let n = job.count.conditions + job.count.goals;
     let mut k = 0;
     while k < n {
-        links[k as usize] = link_at(s, job, starts, ticks, sorted, end, k);
+        links[k as usize] = nth_link(s, job, starts, ticks, sorted, end, k);
         k += 1;
     }
 }

@@ -10,7 +10,7 @@ use lib.Dec.{leb}
 use lib.ListN.{length, set, length-set, List·getD-eq-default}
 use lib.Seq.{sets}
 use Rattle.little_endian.proofs.Sets.{sets-out}
-use Rattle.little_endian.specs.Bytes.{byteAt, u16At, u32At, biasedAt, u16Bytes, u32Bytes}
+use Rattle.little_endian.specs.Bytes.{signBias, byteAt, u16At, u32At, biasedAt, u16Bytes, u32Bytes}
 
 -- What a test for room says: that it passed, and that it failed.
 pub room : (end size : ℕ) {r : Bool} → r ≡ leb end size → r ≡ true → end ≤ size
@@ -19,19 +19,12 @@ room end size e t = leb-true end size (sym e ∙ t)
 pub no-room : (end size : ℕ) {r : Bool} → r ≡ leb end size → r ≡ false → size < end
 no-room end size e f = leb-false end size (sym e ∙ f)
 
--- Where it passed, what begins with the bytes tested, and what lies inside, is within the bytes.
-pub room-start : (at w k size : ℕ) {r : Bool} → r ≡ leb (at + w) size → r ≡ true → k ≤ w → at + k ≤ size
-room-start at w k size e t h = let g : at + w ≤ size = room (at + w) size e t in omega arith
-
-pub room-inside : (at w i k size : ℕ) {r : Bool} → r ≡ leb (at + w) size → r ≡ true → i + k ≤ w → at + i + k ≤ size
-room-inside at w i k size e t h = let g : at + w ≤ size = room (at + w) size e t in omega arith
-
 -- the bits of an i32 read without a sign
 pub biased :
     (s : List ℕ) (at : ℕ) {n : ℕ} → n ≡ u32At s at
-    → ((n + 2147483648) % 4294967296 ≡ biasedAt s at) × ((n + 2147483648) % 4294967296 < 4294967296)
+    → ((n + signBias) % (2 * signBias) ≡ biasedAt s at) × ((n + signBias) % (2 * signBias) < 2 * signBias)
 unfolding biasedAt
-biased s at {n} e = (ap (λ k. (k + 2147483648) % 4294967296) e, omega arith)
+biased s at {n} e = (ap (λ k. (k + signBias) % (2 * signBias)) e, omega arith)
 
 -- past the end every number reads as 0
 pub byte-out : (s : List ℕ) (at : ℕ) → length s ≤ at → byteAt s at ≡ 0

@@ -75,19 +75,25 @@ pub fn u32_at(s: &[u8], at: usize) -> usize
     byte_at(s, at)
 }
 
-// The i32 at a position within the bytes, plus 2147483648.
+// What an i32 has more where it is read without a sign.
+pub const SIGN_BIAS: usize = 2147483648;
+
+// How many values four bytes have.
+pub const VALUES: usize = 2 * SIGN_BIAS;
+
+// The i32 at a position within the bytes, plus the bias.
 pub fn biased_within(s: &[u8], at: usize) -> usize
     requires { ⌜ at + 4 ≤ length (now s) ⌝ }
     ensures { λ r. ⌜ (r ≡ biasedAt (now (s .entry)) at) × (r < 4294967296) ⌝ }
 {
-    (u32_within(s, at) + 2147483648) % 4294967296
+    (u32_within(s, at) + SIGN_BIAS) % VALUES
 }
 
-// The i32 that starts at a position, plus 2147483648.
+// The i32 that starts at a position, plus the bias.
 pub fn biased_at(s: &[u8], at: usize) -> usize
     ensures { λ r. ⌜ (r ≡ biasedAt (now (s .entry)) at) × (r < 4294967296) ⌝ }
 {
-    (u32_at(s, at) + 2147483648) % 4294967296
+    (u32_at(s, at) + SIGN_BIAS) % VALUES
 }
 
 // Puts a byte at a position; past the end nothing changes.

@@ -2,6 +2,7 @@
 ghost use mathlib.Core.Path.{_≡_};
 ghost use Prim.Native.Nat.{_<_};
 ghost use Rattle.order_file.specs.Layout.{windowAt, orderAt, linkAt, gapRead, contentsOf};
+use little_endian::SIGN_BIAS;
 
 // The edition of every order file.
 pub const FILE_EDITION: usize = 1;
@@ -34,9 +35,6 @@ pub const GAP_BIAS: usize = 100000;
 pub const LEAST_GAP: usize = GAP_BIAS - 99999;
 
 pub const MOST_GAP: usize = GAP_BIAS + 100001;
-
-// What an i32 has more where it is read without a sign.
-pub const SIGN_BIAS: usize = 2147483648;
 
 // The highest number of an effect, and the link to the initial state.
 pub const LAST_EFFECT: usize = 511;
@@ -114,7 +112,7 @@ pub fn earliest(file: &[u8], k: usize) -> usize
     little_endian::u32_at(file, window_at(k) + 8)
 }
 
-// The gap plus 100000, of the i32 plus 2147483648.
+// The gap plus 100000, of the i32 read without a sign.
 fn gap_read(biased: usize) -> usize
     requires { ⌜ biased < 4294967296 ⌝ }
     ensures { λ r. ⌜ (r ≡ gapRead biased) × (r < 2147583648) ⌝ }

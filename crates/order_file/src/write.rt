@@ -16,11 +16,9 @@ use crate::layout::LINK;
 use crate::layout::ORDER;
 use crate::table::NO_ORDER;
 use crate::table::WIDTH;
+use little_endian::VALUES;
 use little_endian::put_u16;
 use little_endian::put_u32;
-
-// How many values four bytes have.
-const VALUES: usize = 2 * layout::SIGN_BIAS;
 
 // What takes the bias off a gap of the table, counted round below 0.
 const UNBIASED: usize = VALUES - layout::GAP_BIAS;

@@ -1,6 +1,6 @@
 -- A schedule satisfies the file exactly if it obeys the orders and limits; the earliest starts obey, and no start that does lies below
 -- them. A pair of steps i and k stands in the table at rowWidth * i + k, and every pair there with a gap is filed under its number.
-use Prim.Native.Nat.{ℕ, _+_, _*_, _-_, _/_, _%_, _≤_, _<_}
+use Prim.Native.Nat.{ℕ, _+_, _*_, _/_, _%_, _≤_, _<_}
 use mathlib.Core.Path.{_≡_, ap, ap₂, _∙_}
 use mathlib.Core.Bool.{true, _&&_, not}
 use native.Mathlib.Decide.{ℕ-discrete}

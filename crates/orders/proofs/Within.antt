@@ -67,7 +67,9 @@ module _ (m : Model) (x : ℕ → ℕ) (w : WellFormed m) (s : Valid m x) where
   unfolding opposingGap opposingOrder
   opposing-most i k =
       largest-le (λ e. largest (m .effects) (opposingOrder m x i k e)) (m .effects) mostGap
-      (λ e h. largest-le (opposingOrder m x i k e) (m .effects) mostGap (λ f _. near x i k (m .effectStep e) (m .effectStep f) (m .effectAt e) (m .effectAt f) (opposes m e (m .effectFact f) (m .effectValue f)) (effect-near m w e h)))
+      (λ e h. largest-le (opposingOrder m x i k e) (m .effects) mostGap
+      (λ f _. near x i k (m .effectStep e) (m .effectStep f) (m .effectAt e) (m .effectAt f) (opposes m e (m .effectFact f) (m .effectValue f))
+      (effect-near m w e h)))
 
   condition-most : (i k : ℕ) → conditionGap m x i k ≤ mostGap
   unfolding conditionGap beforeOrder afterOrder
@@ -76,10 +78,12 @@ module _ (m : Model) (x : ℕ → ℕ) (w : WellFormed m) (s : Valid m x) where
       (λ c h.
       let o : ℕ → Bool = λ e. opposes m e (m .conditionFact c) (m .conditionValue c) in
       let b : largest (m .effects) (beforeOrder m x i k c) ≤ mostGap =
-      largest-le (beforeOrder m x i k c) (m .effects) mostGap (λ e g. near x i k (m .effectStep e) (m .conditionStep c) (m .effectAt e) (m .conditionFrom c) (o e) (effect-near m w e g))
+      largest-le (beforeOrder m x i k c) (m .effects) mostGap
+      (λ e g. near x i k (m .effectStep e) (m .conditionStep c) (m .effectAt e) (m .conditionFrom c) (o e) (effect-near m w e g))
       in
       let a : largest (m .effects) (afterOrder m x i k c) ≤ mostGap =
-      largest-le (afterOrder m x i k c) (m .effects) mostGap (λ e _. near x i k (m .conditionStep c) (m .effectStep e) (m .conditionTo c) (m .effectAt e) (o e) (to-near m w c h))
+      largest-le (afterOrder m x i k c) (m .effects) mostGap
+      (λ e _. near x i k (m .conditionStep c) (m .effectStep e) (m .conditionTo c) (m .effectAt e) (o e) (to-near m w c h))
       in
       omega arith)
 
@@ -87,7 +91,8 @@ module _ (m : Model) (x : ℕ → ℕ) (w : WellFormed m) (s : Valid m x) where
   unfolding levelGap levelOrder
   level-most i k =
       largest-le (λ u. largest (m .uses) (levelOrder m x i k u)) (m .uses) mostGap
-      (λ u h. largest-le (levelOrder m x i k u) (m .uses) mostGap (λ v _. near x i k (m .useStep u) (m .useStep v) (m .useAt u) (m .useAt v) (eqb (m .useLevel u) (m .useLevel v)) (use-near m w u h)))
+      (λ u h. largest-le (levelOrder m x i k u) (m .uses) mostGap
+      (λ v _. near x i k (m .useStep u) (m .useStep v) (m .useAt u) (m .useAt v) (eqb (m .useLevel u) (m .useLevel v)) (use-near m w u h)))
 
   serial-most : (i k : ℕ) → i < m .steps → serialGap m x i k ≤ mostGap
   unfolding serialGap

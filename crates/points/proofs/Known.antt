@@ -1,19 +1,19 @@
 -- Laws of what is known before a search: ticks listed one by one, and what the key of an effect says of it.
 use Prim.Native.Nat.{ℕ, _+_, _*_, _-_, _%_, _≤_, _<_}
-use mathlib.Core.Path.{_≡_, refl, sym, ap, ap₂, subst, _∙_}
+use mathlib.Core.Path.{_≡_, sym, ap, ap₂, subst}
 use mathlib.Core.Bool.{Bool, true, false, not, _&&_}
 use mathlib.Core.List.{List}
-use mathlib.Core.Logic.{_⊎_, ⊎-elim}
+use mathlib.Core.Logic.{⊎-elim}
 use native.Mathlib.Omega.{arith}
 use borrow.Author.Tests.{eqb-true, eqb-false, not-true, eq-eqb, ne-eqb}
 use lib.Dec.{eqb}
 use lib.ListN.{length, set, getD}
 use lib.Seq.{getD-set-same, getD-set-other}
-use Rattle.laws.proofs.Search.{either, contrary, and-both, last-or-below}
-use Rattle.points.specs.declared.index.Linking.the-variants.{EffectsByFact, UsesByLevel}
+use Rattle.laws.proofs.Search.{either, and-both, last-or-below}
+use Rattle.points.specs.declared.index.Linking.the-variants.{EffectsByFact}
 use Rattle.job.specs.Model.{Model}
 use Rattle.job.specs.WellFormed.{WellFormed}
-use Rattle.points.specs.Keys.{factKey, levelKey, keyOf}
+use Rattle.points.specs.Keys.{factKey, keyOf}
 use Rattle.validity.specs.Ticks.{gives, opposes}
 
 -- one more tick is listed

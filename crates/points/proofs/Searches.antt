@@ -8,7 +8,6 @@ use native.Mathlib.Omega.{arith}
 use borrow.Author.Tests.{eq-eqb, ne-eqb, lt-ltb, le-ltb}
 use lib.Dec.{ltb, eqb}
 use lib.ListN.{length, getD}
-use Rattle.laws.specs.Fold.{largest}
 use Rattle.job.specs.Model.{Model}
 use Rattle.timeline.specs.Sorted.{recordIn, tickIn, Rising, Parts}
 use Rattle.timeline.proofs.Scanning.{key-rising, key-holds, latest-none, latest-some}

@@ -172,7 +172,8 @@ module _ (n : ℕ) (gap : ℕ → ℕ → ℕ) (bias : ℕ) (x s : ℕ → ℕ) 
   -- one round more: the step i whose order raises k has its count, so k has one more
   counts-more :
       (r k : ℕ) → k < n → after n gap bias x r k < after n gap bias x (suc r) k
-      → ((i : ℕ) → i < n → after n gap bias x r k < demand gap bias i k (after n gap bias x r i) → suc r ≤ within n s (after n gap bias x r) (s i - after n gap bias x r i))
+      → ((i : ℕ) → i < n → after n gap bias x r k < demand gap bias i k (after n gap bias x r i) → suc r ≤ within n s (after n gap bias x r)
+      (s i - after n gap bias x r i))
       → suc (suc r) ≤ within n s (after n gap bias x (suc r)) (s k - after n gap bias x (suc r) k)
   unfolding after
   counts-more r k h up count =
@@ -185,8 +186,11 @@ module _ (n : ℕ) (gap : ℕ → ℕ → ℕ) (bias : ℕ) (x s : ℕ → ℕ) 
       in
       let b : demand gap bias i k (s i) ≤ s k = sat .keeps i k (w .1) h in
       let c : suc r ≤ within n s y (s i - y i) = count i (w .1) (omega arith) in
-      omega
-      (arith, within-grows n s y (raised n gap bias y) (s i - y i) (s k - raised n gap bias y k) k h (after-next n gap bias x r) (omega arith) (omega arith) (omega arith))
+      omega (
+        arith,
+        within-grows n s y (raised n gap bias y) (s i - y i) (s k - raised n gap bias y k) k h (after-next n gap bias x r) (omega arith)
+            (omega arith) (omega arith),
+      )
 
   -- a step raised by round r + 1 has r + 2 steps in its count
   counts :

@@ -6,7 +6,8 @@ use mathlib.Core.List.{List}
 use lib.ListN.{getD}
 use lib.Dec.{leb}
 use Rattle.laws.specs.Fold.{sum}
-use Rattle.job.specs.Model.{Model, signBias}
+use Rattle.little_endian.specs.Bytes.{signBias}
+use Rattle.job.specs.Model.{Model}
 use Rattle.timeline.specs.Sorted.{tickIn, placed, Parts}
 use Rattle.validity.specs.Ticks.{firstTick}
 use Rattle.validity.specs.Seen.{afterAll}

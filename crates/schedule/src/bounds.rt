@@ -2,14 +2,15 @@
 ghost use mathlib.Core.Path.{_≡_};
 ghost use mathlib.Core.Bool.{cond};
 ghost use Prim.Native.Nat.{_+_, _≤_, _<_};
-ghost use Rattle.job.specs.Model.{signBias, view};
+ghost use Rattle.little_endian.specs.Bytes.{signBias};
+ghost use Rattle.job.specs.Model.{view};
 ghost use Rattle.timeline.specs.Indexed.{capacity};
 ghost use Rattle.validity.specs.Ticks.{scheduleOf};
 ghost use Rattle.validity.specs.Levels.{rise, fall};
 ghost use Rattle.schedule.specs.Known.{sumLimit, inBounds, Sweep, SweptTick};
 use job::layout::Job;
-use job::layout::SIGN_BIAS;
 use job::records::*;
+use little_endian::SIGN_BIAS;
 use timeline::begin_of;
 use timeline::record_at;
 

@@ -1,11 +1,9 @@
 // The timing check: refusals 8 to 14, on the written starts or on any list of starts.
 ghost use mathlib.Core.Path.{_≡_};
-ghost use Rattle.job.specs.Layout.{jobOf};
 ghost use Rattle.job.specs.Model.{view};
-ghost use Rattle.form.specs.Refusals.{formCheck};
-ghost use Rattle.verdict.specs.Verdict.{_then_, number as numberOf};
+ghost use Rattle.verdict.specs.Verdict.{_then_};
 ghost use Rattle.job.specs.WellFormed.{WellFormed};
-ghost use Rattle.validity.specs.Ticks.{scheduleOf, plannedStarts};
+ghost use Rattle.validity.specs.Ticks.{scheduleOf};
 ghost use Rattle.validity.specs.Checks.{countUnder, refusalOf, ruleCheck, timingCheck, startsCheck};
 ghost use Rattle.points.specs.Known.{EffectsKnown, UsesKnown};
 ghost use Rattle.schedule.specs.Known.{Known};

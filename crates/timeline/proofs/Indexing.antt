@@ -94,11 +94,13 @@ module _ (n : ℕ) (key : ℕ → ℕ) where
         (λ (q : k ≡ j).
         subst (λ i. NextAt n key (key i) (suc i) (getD grown (keyCount + i) 0)) q
         (subst (NextAt n key (key k) (suc k))
-        (sym (getD-set-other linked (key k) (keyCount + k) k 0 (omega arith) ∙ getD-set-same index (keyCount + k) (getD index (key k) 0) 0 (omega (arith, begun .size))))
+        (sym (getD-set-other linked (key k) (keyCount + k) k 0 (omega arith) ∙ getD-set-same index (keyCount + k) (getD index (key k) 0) 0
+        (omega (arith, begun .size))))
         (begun .firsts (key k) low)))
         (λ (g : k < j).
         subst (NextAt n key (key j) (suc j))
-        (sym (getD-set-other linked (key k) (keyCount + j) k 0 (omega arith) ∙ getD-set-other index (keyCount + k) (keyCount + j) (getD index (key k) 0) 0 (omega arith)))
+        (sym (getD-set-other linked (key k) (keyCount + j) k 0 (omega arith) ∙ getD-set-other index (keyCount + k) (keyCount + j)
+        (getD index (key k) 0) 0 (omega arith)))
         (begun .nexts j g h))
         (eq-or-lt-of-le l)
 
@@ -111,7 +113,9 @@ module _ (n : ℕ) (key : ℕ → ℕ) where
         }
 
   -- A loop goes down from record k to the one before it, whose key f the code has read.
-  pub begun-less : (k f : ℕ) (index : List ℕ) → 0 < k → k ≤ n → n ≤ capacity → f ≡ key (k - 1) → f < keyCount → Begun n key k index → Begun n key (k - 1) (set (set index (keyCount + (k - 1)) (getD index f 0)) f (k - 1))
+  pub begun-less :
+      (k f : ℕ) (index : List ℕ) → 0 < k → k ≤ n → n ≤ capacity → f ≡ key (k - 1) → f < keyCount → Begun n key k index → Begun n key (k - 1)
+      (set (set index (keyCount + (k - 1)) (getD index f 0)) f (k - 1))
   begun-less k f index more within few e low begun =
       let q : k ≡ suc (k - 1) = omega arith in
       subst (λ g. Begun n key (k - 1) (set (set index (keyCount + (k - 1)) (getD index g 0)) g (k - 1))) (sym e)
@@ -174,12 +178,14 @@ module _ (key : ℕ → ℕ) where
         elim (decLt j k) [
           | yes g ↦
               subst (LastBefore capacity key (key j) j)
-              (sym (getD-set-other put (key k) (keyCount + j) k 0 (omega arith) ∙ getD-set-other index (keyCount + k) (keyCount + j) (getD index (key k) 0) 0 (omega arith)))
+              (sym (getD-set-other put (key k) (keyCount + j) k 0 (omega arith) ∙ getD-set-other index (keyCount + k) (keyCount + j)
+              (getD index (key k) 0) 0 (omega arith)))
               (growing .linked .befores j g)
           | no g ↦
               subst (λ i. LastBefore capacity key (key i) i (getD next (keyCount + i) 0)) (let q : k ≡ j = omega arith in q)
               (subst (LastBefore capacity key (key k) k)
-              (sym (getD-set-other put (key k) (keyCount + k) k 0 (omega arith) ∙ getD-set-same index (keyCount + k) (getD index (key k) 0) 0 (omega (arith, growing .size))))
+              (sym (getD-set-other put (key k) (keyCount + k) k 0 (omega arith) ∙ getD-set-same index (keyCount + k) (getD index (key k) 0) 0
+              (omega (arith, growing .size))))
               (growing .linked .lasts (key k) low))
         ]
 
@@ -191,7 +197,9 @@ module _ (key : ℕ → ℕ) where
         }
 
   -- A loop links record k, whose key f the code has read.
-  pub growing-more : (k f : ℕ) (index : List ℕ) {grown : List ℕ} → k < capacity → f ≡ key k → f < keyCount → Growing key k index → grown ≡ set (set index (keyCount + k) (getD index f 0)) f k → Growing key (k + 1) grown
+  pub growing-more :
+      (k f : ℕ) (index : List ℕ) {grown : List ℕ} → k < capacity → f ≡ key k → f < keyCount → Growing key k index → grown ≡ set
+      (set index (keyCount + k) (getD index f 0)) f k → Growing key (k + 1) grown
   growing-more k f index few e low growing q =
       subst (Growing key (k + 1)) (sym q)
       (subst (λ g. Growing key (k + 1) (set (set index (keyCount + k) (getD index g 0)) g k)) (sym e)

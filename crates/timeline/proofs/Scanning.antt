@@ -42,7 +42,9 @@ module _ {n keys : ℕ} {key : ℕ → ℕ} {ticks sorted : List ℕ} (known : S
     pub scanned-start : {from : ℕ} → Parts ticks sorted (getD sorted f 0) (getD sorted (f + 1) 0) t from → Scanned ticks sorted f pred t from from
     scanned-start parts = record { parts = parts; begins = omega arith; none = λ q l m. absurd (omega arith) }
 
-    pub scanned-more : {from : ℕ} (p : ℕ) → Scanned ticks sorted f pred t from p → {k : ℕ} {r : Bool} → k ≡ recordIn sorted p → r ≡ pred k → r ≡ false → Scanned ticks sorted f pred t from (p + 1)
+    pub scanned-more :
+        {from : ℕ} (p : ℕ) → Scanned ticks sorted f pred t from p → {k : ℕ} {r : Bool} → k ≡ recordIn sorted p → r ≡ pred k → r ≡ false → Scanned
+        ticks sorted f pred t from (p + 1)
     scanned-more {from} p so {k} e q fails =
         let begins : from ≤ p = so .begins in
         record {
@@ -55,7 +57,9 @@ module _ {n keys : ℕ} {key : ℕ → ℕ} {ticks sorted : List ℕ} (known : S
               ];
         }
 
-    pub scanned-hit : {from : ℕ} (p : ℕ) → Scanned ticks sorted f pred t from p → p < getD sorted (f + 1) 0 → {k : ℕ} {r : Bool} → k ≡ recordIn sorted p → r ≡ pred k → r ≡ true → true ≡ any n pred
+    pub scanned-hit :
+        {from : ℕ} (p : ℕ) → Scanned ticks sorted f pred t from p → p < getD sorted (f + 1) 0 → {k : ℕ} {r : Bool} → k ≡ recordIn sorted p → r ≡ pred
+        k → r ≡ true → true ≡ any n pred
     scanned-hit {from} p so m {k} e q passes =
         let a : getD sorted f 0 ≤ from = so .parts .from in
         let b : from ≤ p = so .begins in
@@ -63,7 +67,9 @@ module _ {n keys : ℕ} {key : ℕ → ℕ} {ticks sorted : List ℕ} (known : S
 
     module _ (only : (k : ℕ) → k < n → pred k ≡ true → (key k ≡ f) × (t ≤ getD ticks k 0)) where
       -- whatever passes stands at a place from there on
-      nothing : (p : ℕ) {from : ℕ} → Scanned ticks sorted f pred t from p → ((q : ℕ) → p ≤ q → q < getD sorted (f + 1) 0 → pred (recordIn sorted q) ≡ false) → false ≡ any n pred
+      nothing :
+          (p : ℕ) {from : ℕ} → Scanned ticks sorted f pred t from p → ((q : ℕ) → p ≤ q → q < getD sorted (f + 1) 0 → pred (recordIn sorted q) ≡ false)
+          → false ≡ any n pred
       nothing p {from} so rest =
           sym
           (any-none pred n
@@ -92,7 +98,9 @@ module _ {n keys : ℕ} {key : ℕ → ℕ} {ticks sorted : List ℕ} (known : S
       scanned-end p so m = nothing p so (λ q l g. absurd (omega arith))
 
       -- nor does anything behind the last tick that counts
-      pub scanned-past : {from : ℕ} (p last : ℕ) → ((k : ℕ) → k < n → pred k ≡ true → getD ticks k 0 ≤ last) → Scanned ticks sorted f pred t from p → p < getD sorted (f + 1) 0 → {k : ℕ} → k ≡ recordIn sorted p → last < getD ticks k 0 → false ≡ any n pred
+      pub scanned-past :
+          {from : ℕ} (p last : ℕ) → ((k : ℕ) → k < n → pred k ≡ true → getD ticks k 0 ≤ last) → Scanned ticks sorted f pred t from p → p < getD sorted
+          (f + 1) 0 → {k : ℕ} → k ≡ recordIn sorted p → last < getD ticks k 0 → false ≡ any n pred
       scanned-past {from} p last until so m {k} e late =
           let a : getD sorted f 0 ≤ from = so .parts .from in
           let b : from ≤ p = so .begins in
@@ -105,14 +113,18 @@ module _ {n keys : ℕ} {key : ℕ → ℕ} {ticks sorted : List ℕ} (known : S
           let u : tickIn ticks sorted q ≤ last = until (recordIn sorted q) r passes in
           elim (decLt p q) [
             | yes v ↦ let up : tickIn ticks sorted p ≤ tickIn ticks sorted q = known .each f h .rises p q (omega arith) v g .0 in absurd (omega arith)
-            | no v ↦ let same : p ≡ q = omega arith in let w : last < tickIn ticks sorted q = subst (λ j. last < tickIn ticks sorted j) same here in absurd (omega arith)
+            | no v ↦ let same : p ≡ q = omega arith in
+                let w : last < tickIn ticks sorted q = subst (λ j. last < tickIn ticks sorted j) same here in absurd (omega arith)
           ])
           (λ (fails : pred (recordIn sorted q) ≡ false). fails)
           (either (pred (recordIn sorted q))))
 
   -- The latest record before tick t is the one before the place where t begins.
-  module _ (g : ℕ → ℕ) (t : ℕ) (own : (k : ℕ) → k < n → key k ≡ f → g k ≡ cond (ltb (getD ticks k 0) t) (suc (getD ticks k 0)) 0) (other : (k : ℕ) → k < n → (key k ≡ f → ⊥) → g k ≡ 0) where
-    least-bound : {r : ℕ} (b : ℕ) → Parts ticks sorted (getD sorted f 0) (getD sorted (f + 1) 0) t r → ((p : ℕ) → getD sorted f 0 ≤ p → p < r → suc (tickIn ticks sorted p) ≤ b) → largest n g ≤ b
+  module _ (g : ℕ → ℕ) (t : ℕ) (own : (k : ℕ) → k < n → key k ≡ f → g k ≡ cond (ltb (getD ticks k 0) t) (suc (getD ticks k 0)) 0)
+      (other : (k : ℕ) → k < n → (key k ≡ f → ⊥) → g k ≡ 0) where
+    least-bound :
+        {r : ℕ} (b : ℕ) → Parts ticks sorted (getD sorted f 0) (getD sorted (f + 1) 0) t r
+        → ((p : ℕ) → getD sorted f 0 ≤ p → p < r → suc (tickIn ticks sorted p) ≤ b) → largest n g ≤ b
     least-bound {r} b parts bound =
         largest-le g n b
         (λ k l.
@@ -147,26 +159,35 @@ module _ {n keys : ℕ} {key : ℕ → ℕ} {ticks sorted : List ℕ} (known : S
         let b : largest n g ≤ 0 = least-bound 0 parts (λ p l k. absurd (omega arith)) in
         omega arith
 
-    pub latest-some : {r begin k : ℕ} → begin ≡ getD sorted f 0 → Parts ticks sorted (getD sorted f 0) (getD sorted (f + 1) 0) t r → begin < r → k ≡ recordIn sorted (r - 1) → getD ticks k 0 + 1 ≡ largest n g
+    pub latest-some :
+        {r begin k : ℕ} → begin ≡ getD sorted f 0 → Parts ticks sorted (getD sorted f 0) (getD sorted (f + 1) 0) t r → begin < r → k ≡ recordIn sorted
+        (r - 1) → getD ticks k 0 + 1 ≡ largest n g
     latest-some {r} {begin} {k} e parts m q =
         let ends : r ≤ getD sorted (f + 1) 0 = parts .to in
         let early : tickIn ticks sorted (r - 1) < t = parts .before (r - 1) (omega arith) (omega arith) in
         let there = key-holds (r - 1) (omega arith) (omega arith) in
-        let v : g (recordIn sorted (r - 1)) ≡ suc (tickIn ticks sorted (r - 1)) = own (recordIn sorted (r - 1)) (there .0) (there .1) ∙ ap (λ c. cond c (suc (tickIn ticks sorted (r - 1))) 0) (lt-ltb (tickIn ticks sorted (r - 1)) t early) in
+        let v : g (recordIn sorted (r - 1)) ≡ suc (tickIn ticks sorted (r - 1)) = own (recordIn sorted (r - 1)) (there .0) (there .1) ∙ ap
+        (λ c. cond c (suc (tickIn ticks sorted (r - 1))) 0) (lt-ltb (tickIn ticks sorted (r - 1)) t early) in
         let above : g (recordIn sorted (r - 1)) ≤ largest n g = largest-ge g n (recordIn sorted (r - 1)) (there .0) in
-        let below : largest n g ≤ suc (tickIn ticks sorted (r - 1)) = least-bound (suc (tickIn ticks sorted (r - 1))) parts (λ p l u. rising p l (omega arith)) in
+        let below : largest n g ≤ suc (tickIn ticks sorted (r - 1)) = least-bound (suc (tickIn ticks sorted (r - 1))) parts
+        (λ p l u. rising p l (omega arith)) in
         let same : getD ticks k 0 ≡ tickIn ticks sorted (r - 1) = ap (λ j. getD ticks j 0) q in
         omega arith
       where
         rising : (p : ℕ) → getD sorted f 0 ≤ p → p ≤ r - 1 → suc (tickIn ticks sorted p) ≤ suc (tickIn ticks sorted (r - 1))
         rising p l u =
             elim (decLt p (r - 1)) [
-              | yes v ↦ let ends : r ≤ getD sorted (f + 1) 0 = parts .to in let up : tickIn ticks sorted p ≤ tickIn ticks sorted (r - 1) = known .each f h .rises p (r - 1) l v (omega arith) .0 in omega arith
-              | no v ↦ let same : tickIn ticks sorted p ≡ tickIn ticks sorted (r - 1) = ap (tickIn ticks sorted) (let w : p ≡ r - 1 = omega arith in w) in omega arith
+              | yes v ↦ let ends : r ≤ getD sorted (f + 1) 0 = parts .to in
+                  let up : tickIn ticks sorted p ≤ tickIn ticks sorted (r - 1) = known .each f h .rises p (r - 1) l v (omega arith) .0 in omega arith
+              | no v ↦ let same : tickIn ticks sorted p ≡ tickIn ticks sorted (r - 1) = ap (tickIn ticks sorted) (let w : p ≡ r - 1 = omega arith in
+                  w) in omega arith
             ]
 
   -- The first record from tick t on is the earliest, and of the earliest the lowest.
-  pub earliest-there : (pred : ℕ → Bool) (t : ℕ) → ((k : ℕ) → k < n → pred k ≡ true → (key k ≡ f) × (t ≤ getD ticks k 0)) → {r : ℕ} → Parts ticks sorted (getD sorted f 0) (getD sorted (f + 1) 0) t r → r < getD sorted (f + 1) 0 → (k : ℕ) → k < n → pred k ≡ true → (tickIn ticks sorted r ≤ getD ticks k 0) × (tickIn ticks sorted r ≡ getD ticks k 0 → recordIn sorted r ≤ k)
+  pub earliest-there :
+      (pred : ℕ → Bool) (t : ℕ) → ((k : ℕ) → k < n → pred k ≡ true → (key k ≡ f) × (t ≤ getD ticks k 0)) → {r : ℕ} → Parts ticks sorted
+      (getD sorted f 0) (getD sorted (f + 1) 0) t r → r < getD sorted (f + 1) 0 → (k : ℕ) → k < n → pred k ≡ true
+      → (tickIn ticks sorted r ≤ getD ticks k 0) × (tickIn ticks sorted r ≡ getD ticks k 0 → recordIn sorted r ≤ k)
   earliest-there pred t only {r} parts m k l passes =
       let place = known .each f h .found k (l, only k l passes .0) in
       let at : ℕ = place .0 in

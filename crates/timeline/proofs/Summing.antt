@@ -41,7 +41,10 @@ sum-one f (suc n) k h none =
           omega arith
     ]
 
-module _ {n keys : ℕ} {key : ℕ → ℕ} {ticks sorted : List ℕ} (known : Sorted n keys key ticks sorted) (f : ℕ) (h : f < keys) (t r : ℕ) (parts : Parts ticks sorted (getD sorted f 0) (getD sorted (f + 1) 0) t r) (g : ℕ → ℕ) (test : ℕ → Bool) (own : (k : ℕ) → k < n → key k ≡ f → getD ticks k 0 < t → test k ≡ true) (only : (k : ℕ) → k < n → test k ≡ true → (key k ≡ f) × (getD ticks k 0 < t)) where
+module _ {n keys : ℕ} {key : ℕ → ℕ} {ticks sorted : List ℕ} (known : Sorted n keys key ticks sorted) (f : ℕ) (h : f < keys) (t r : ℕ)
+    (parts : Parts ticks sorted (getD sorted f 0) (getD sorted (f + 1) 0) t r) (g : ℕ → ℕ) (test : ℕ → Bool)
+    (own : (k : ℕ) → k < n → key k ≡ f → getD ticks k 0 < t → test k ≡ true)
+    (only : (k : ℕ) → k < n → test k ≡ true → (key k ≡ f) × (getD ticks k 0 < t)) where
   -- what record k adds at place q: g k where it stands there
   there : ℕ → ℕ → ℕ
   there q k = cond (leb (getD sorted f 0) q && eqb (recordIn sorted q) k) (g k) 0

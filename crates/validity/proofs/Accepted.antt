@@ -1,15 +1,14 @@
 -- Accepted exactly if sound: the chain of refusals against the rules of a sound timing.
 use Prim.Native.Nat.{ℕ, _<_}
-use mathlib.Core.Path.{_≡_, refl, sym, ap, _∙_}
+use mathlib.Core.Path.{_≡_, sym, ap, _∙_}
 use mathlib.Core.Bool.{false, not}
 use mathlib.Core.List.{List}
 use native.Mathlib.Omega.{arith}
 use borrow.Author.Tests.{eqb-true, eq-eqb, not-false}
 use Rattle.laws.proofs.Listed.{getD-tabulate}
 use Rattle.verdict.specs.declared.Verdict.{Verdict}
-use Rattle.verdict.specs.Verdict.{number, _then_}
+use Rattle.verdict.specs.Verdict.{number}
 use Rattle.job.specs.Model.{Model, modelOf}
-use Rattle.form.specs.Refusals.{formCheck}
 use Rattle.job.specs.WellFormed.{WellFormed}
 use Rattle.verdict.proofs.Chain.{then-zero, refuse-zero, lowest-zero, zero-then, zero-refuse, zero-lowest}
 use Rattle.form.proofs.WellFormed.{well-formed}
@@ -18,7 +17,7 @@ use Rattle.validity.specs.declared.Rule.the-variants.{FixedSteps, Effect
 use Rattle.validity.specs.Ticks.{scheduleOf, planned}
 use Rattle.validity.specs.Valid.{Valid}
 use Rattle.validity.specs.Checks.{broken, countUnder, refusalOf, ruleCheck, timingCheck, jobCheck, countCheck, startsCheck, scheduleCheck}
-use Rattle.validity.specs.Promise.{Sound, JobPromise, SchedulePromise}
+use Rattle.validity.specs.Promise.{JobPromise, SchedulePromise}
 use Rattle.validity.proofs.Tested.{moved-none, none-moved, conflicts-none, none-conflicts, breaks-none, low-everywhere, high-everywhere, none-passes, crowded-none, none-crowded, condition-holds, condition-seen, none-condition-fails, goal-holds, goal-in-time, none-goal-fails}
 
 -- every rule refuses with a number

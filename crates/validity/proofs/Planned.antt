@@ -6,7 +6,7 @@ use borrow.Author.Tests.{eq-eqb}
 use lib.Dec.{eqb}
 use Rattle.laws.proofs.Listed.{length-tabulate, getD-tabulate}
 use Rattle.job.specs.Model.{Model}
-use Rattle.verdict.specs.Verdict.{number, _then_}
+use Rattle.verdict.specs.Verdict.{number}
 use Rattle.verdict.proofs.Chain.{then-accepted, zero-then, zero-refuse, zero-lowest}
 use Rattle.validity.specs.declared.Rule.the-variants.{FixedSteps}
 use Rattle.validity.specs.Ticks.{planned, plannedStarts}

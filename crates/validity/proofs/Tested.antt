@@ -1,14 +1,14 @@
 -- What a rule's test says of the ticks where something happens is what the rule says of every tick, in both directions.
 use Prim.Native.Nat.{ℕ, suc, _+_, _-_, _≤_, _<_}
-use mathlib.Core.Path.{_≡_, refl, sym, ap, ap₂, _∙_}
+use mathlib.Core.Path.{_≡_, sym, ap, ap₂, _∙_}
 use mathlib.Core.Bool.{Bool, true, false, not, _&&_, _||_, cond}
 use mathlib.Core.Logic.{_⊎_, inl, inr, ⊎-elim}
 use native.Mathlib.Decide.{ℕ-discrete, decLe}
 use native.Mathlib.Omega.{arith}
-use borrow.Author.Tests.{ltb-true, leb-true, leb-false, eqb-true, eqb-false, not-true, not-false, lt-ltb, le-leb, eq-eqb, ne-eqb}
-use lib.Dec.{ltb, leb, eqb}
+use borrow.Author.Tests.{ltb-true, leb-true, eqb-true, eqb-false, not-true, not-false, lt-ltb, le-leb, eq-eqb, ne-eqb}
+use lib.Dec.{leb, eqb}
 use Rattle.laws.specs.Search.{any}
-use Rattle.laws.proofs.Search.{either, contrary, and-both, or-both, any-none, any-false, any-intro}
+use Rattle.laws.proofs.Search.{either, contrary, and-both, or-both, any-none, any-false}
 use Rattle.laws.proofs.Fold.{sum-zero}
 use Rattle.job.specs.Model.{Model}
 use Rattle.job.specs.Model.{noDeadline}

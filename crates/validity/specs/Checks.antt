@@ -1,5 +1,5 @@
 -- Refusals 8 to 14, in checking order. Rules that speak of every tick are tested at the ticks where something happens.
-use Prim.Native.Nat.{ℕ, suc, _+_}
+use Prim.Native.Nat.{ℕ, suc}
 use mathlib.Core.Bool.{Bool, _&&_, _||_, not}
 use mathlib.Core.List.{List}
 use lib.ListN.{length}

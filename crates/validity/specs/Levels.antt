@@ -3,7 +3,8 @@ use Prim.Native.Nat.{ℕ, suc, _+_, _-_}
 use mathlib.Core.Bool.{Bool, _&&_, cond}
 use lib.Dec.{eqb, leb, ltb}
 use Rattle.laws.specs.Fold.{largest, sum}
-use Rattle.job.specs.Model.{Model, signBias}
+use Rattle.little_endian.specs.Bytes.{signBias}
+use Rattle.job.specs.Model.{Model}
 use Rattle.validity.specs.Ticks.{useTick}
 
 -- a use raises its level by this much, or lowers it by this much; the other is 0

@@ -1,6 +1,6 @@
 -- "The value seen at a tick counts all effects at earlier ticks and none at that tick."
-use Prim.Native.Nat.{ℕ, suc, _+_}
-use mathlib.Core.Bool.{Bool, _&&_, cond}
+use Prim.Native.Nat.{ℕ, suc}
+use mathlib.Core.Bool.{_&&_, cond}
 use lib.Dec.{ltb}
 use Rattle.laws.specs.Fold.{largest}
 use Rattle.job.specs.Model.{Model}

@@ -63,7 +63,9 @@ unfolding refuseIf
 refuse-zero true v h e = absurd (h e)
 refuse-zero false v h e = refl
 
-pub lowest-zero : (n : ℕ) (p : ℕ → Bool) (refusal : ℕ → Verdict) → ((k : ℕ) → number (refusal k) ≡ 0 → ⊥) → number (refuseLowest n p refusal) ≡ 0 → (k : ℕ) → k < n → p k ≡ false
+pub lowest-zero :
+    (n : ℕ) (p : ℕ → Bool) (refusal : ℕ → Verdict) → ((k : ℕ) → number (refusal k) ≡ 0 → ⊥) → number (refuseLowest n p refusal) ≡ 0 → (k : ℕ) → k < n
+    → p k ≡ false
 unfolding refuseLowest
 lowest-zero n p refusal h e = any-false p n (any-lowest p n ∙ refuse-zero _ _ (h (lowest n p)) e)
 

@@ -85,7 +85,8 @@ module _ (m : Model) (x : ℕ → ℕ) where
               let q : step ≡ k = linked-step ∙ e in
               contrary
               (ap₂ _&&_
-              (ap₂ _&&_ (ap₂ _&&_ (ap not (ne-eqb _ _ (λ z. d (sym ed ∙ z)))) (ap not (ne-eqb _ _ (λ z. n (sym el ∙ z))))) (lt-ltb step (m .steps) (omega arith)))
+              (ap₂ _&&_ (ap₂ _&&_ (ap not (ne-eqb _ _ (λ z. d (sym ed ∙ z)))) (ap not (ne-eqb _ _ (λ z. n (sym el ∙ z)))))
+              (lt-ltb step (m .steps) (omega arith)))
               (ap not (ne-eqb _ _ (λ z. f (ap (m .fixed) (sym q) ∙ sym ef ∙ z)))))
               t));
         }

@@ -73,7 +73,12 @@ rows-bounded n gaps before i at g b l w =
             arith,
             w .below k h,
             raised-le i (gapIn gaps) gapBias (startIn before) k (aboveStarts + gapBias) (omega (arith, b .most k h)) (λ j m.
-                omega (arith, b .most j (omega arith), demand-most (gapIn gaps) gapBias (mostGap - gapBias) j k (startIn before j) (g .most (rowWidth * j + k)))),
+                omega (
+                  arith,
+                  b .most j (omega arith),
+                  demand-most (gapIn gaps) gapBias (mostGap - gapBias) j k (startIn before j)
+                      (g .most (rowWidth * j + k)),
+                )),
           );
     }
 

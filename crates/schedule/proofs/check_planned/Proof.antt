@@ -1,5 +1,5 @@
 -- Of a file of good form, the timing check of the planned starts is the job check.
-use mathlib.Core.Path.{_≡_, refl, ap, _∙_}
+use mathlib.Core.Path.{refl, ap, _∙_}
 use denote.Ref.{now}
 use Rattle.job.specs.declared.layout.Job.{Job}
 use Rattle.job.specs.Model.{view}
@@ -8,7 +8,6 @@ use Rattle.validity.specs.Ticks.{planned}
 use Rattle.validity.specs.Checks.{startsCheck, timingCheck, jobCheck}
 use Rattle.validity.proofs.Accepted.{job-promise}
 use Rattle.validity.proofs.Planned.{planned-check}
-use borrow.Author.Needs.{needs}
 use Rattle.schedule.proofs.check_planned.Statement.{statement}
 use Rattle.schedule.proofs.check_planned.Tie as tie
 

@@ -42,9 +42,21 @@ effects-against-spec =
     ))
     (λ c κs. search needs)
     (λ c. sym (c .before .before .before .before .before .before .before .before .link-conditions .ensures .size))
-    (λ c κs. let k = c .before .before .before .before .step-key .ensures in record { growing = c .before .before .before .before .before .before .before .before .link-conditions .ensures; few = c .before .before .before .before .before .before .before .before .before .before .before .pre .conditions; same = k .0; low = k .1 })
+    (λ c κs.
+    let k = c .before .before .before .before .step-key .ensures in
+    record {
+      growing = c .before .before .before .before .before .before .before .before .link-conditions .ensures;
+      few = c .before .before .before .before .before .before .before .before .before .before .before .pre .conditions;
+      same = k .0;
+      low = k .1;
+    })
     (λ c κs. search needs)
-    (λ c κs. let l = c .before .before .before .before .before .before .before .before .before in (c .before .before .before .before .before .before .before .step-key .ensures .1, omega (arith, l .loop-test .taken, l .before .before .before .before .before .pre .effects)))
+    (λ c κs.
+    let l = c .before .before .before .before .before .before .before .before .before in (
+      c .before .before .before .before .before .before .before .step-key .ensures .1,
+      omega
+          (arith, l .loop-test .taken, l .before .before .before .before .before .pre .effects),
+    ))
     (λ c. search needs) (λ c. search needs)
     (λ c.
     let l = c .before .before .before .before .before .before .before .before .before .before in
@@ -52,8 +64,10 @@ effects-against-spec =
     let k = c .before .before .before .before .before .before .before .before .step-key .ensures in
     let r = c .before .before .before .before .before .before .before .before .before .effect-of .ensures in (
       search needs,
-      growing-more _ _ _ _ (omega (arith, l .loop-test .taken, l .before .before .before .before .before .pre .effects)) (k .0 ∙ ap (λ (x : Effect). stepKey (x .step) (x .fact)) r) (k .1) (v .1) (c .link .ensures),
-      owner-more _ _ _ _ (v .2) (c .before .before .before .before .before .before .set-before .ensures) (ap (λ (x : Effect). x .step) r) (c .before .before .before .before .before .lower-if .ensures),
+      growing-more _ _ _ _ (omega (arith, l .loop-test .taken, l .before .before .before .before .before .pre .effects))
+          (k .0 ∙ ap (λ (x : Effect). stepKey (x .step) (x .fact)) r) (k .1) (v .1) (c .link .ensures),
+      owner-more _ _ _ _ (v .2) (c .before .before .before .before .before .before .set-before .ensures) (ap (λ (x : Effect). x .step) r)
+          (c .before .before .before .before .before .lower-if .ensures),
       owner-more _ _ _ _ (v .3) (c .before .before .before .opposes-any .ensures _ r) (ap (λ (x : Effect). x .step) r) (c .before .before .lower-if2 .ensures),
     ))
     (λ c κs. search needs)

@@ -18,12 +18,16 @@ link-conditions-spec =
     (λ s job index₀ n c₀ index c. n - c)
     (λ c. (search needs, c .before .pre .0))
     (λ c κs. search needs) (λ c κs. search needs) (λ c κs. search needs)
-    (λ c κs. let l = c .before .before .before .before in (c .before .step-key .ensures .1, omega (arith, l .before .before .before .pre .1, l .loop-test .taken)))
+    (λ c κs.
+    let l = c .before .before .before .before in
+    (c .before .step-key .ensures .1, omega (arith, l .before .before .before .pre .1, l .loop-test .taken)))
     (λ c. search needs) (λ c. search needs)
     (λ c.
     let l = c .before .before .before .before .before in
     let k = c .before .before .step-key .ensures in (
       search needs,
-      growing-more _ _ _ _ (omega (arith, l .before .before .before .pre .1, l .loop-test .taken)) (k .0 ∙ ap₂ stepKey (c .before .before .before .before .condition-step .ensures) (c .before .before .before .condition-fact .ensures)) (k .1) (l .before .loop .inv .1) (c .link .ensures),
+      growing-more _ _ _ _ (omega (arith, l .before .before .before .pre .1, l .loop-test .taken))
+          (k .0 ∙ ap₂ stepKey (c .before .before .before .before .condition-step .ensures) (c .before .before .before .condition-fact .ensures))
+          (k .1) (l .before .loop .inv .1) (c .link .ensures),
     ))
     (λ c. growing-end _ _ _ _ (c .before .loop .inv .0) (c .loop-test .left) (c .before .loop .inv .1)))

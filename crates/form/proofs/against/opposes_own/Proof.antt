@@ -18,5 +18,11 @@ opposes-own-spec =
     (λ c. λ k q.
     let d = c .before .before .before .before .before .before in
     let f = d .before .before .before in
-    rw (c .before .condition-to .ensures .0, c .before .before .before .condition-from .ensures .0, c .before .before .before .before .before .condition-step .ensures, q)
-    (opposes-rest _ _ _ (ap (λ (x : Effect). x .fact) q) (f .before .before .condition-fact .ensures) (f .if1 .left) (ap (λ (x : Effect). x .value) q) (d .before .before .condition-value .ensures) (d .if2 .left))))
+    rw (
+      c .before .condition-to .ensures .0,
+      c .before .before .before .condition-from .ensures .0,
+      c .before .before .before .before .before .condition-step .ensures,
+      q,
+    )
+    (opposes-rest _ _ _ (ap (λ (x : Effect). x .fact) q) (f .before .before .condition-fact .ensures) (f .if1 .left) (ap (λ (x : Effect). x .value) q)
+    (d .before .before .condition-value .ensures) (d .if2 .left))))

@@ -34,13 +34,18 @@ uses-against-spec =
       low = k .1;
     })
     (λ c κs. search needs)
-    (λ c κs. let l = c .before .before .before .before .before .before .before in (c .before .before .before .before .step-key .ensures .1, omega (arith, l .loop-test .taken, l .before .before .before .before .pre .uses)))
+    (λ c κs.
+    let l = c .before .before .before .before .before .before .before in
+    (c .before .before .before .before .step-key .ensures .1, omega (arith, l .loop-test .taken, l .before .before .before .before .pre .uses)))
     (λ c. search needs) (λ c. search needs)
     (λ c.
     let l = c .before .before .before .before .before .before .before .before in
     let k = c .before .before .before .before .before .step-key .ensures in (
       search needs,
-      growing-more _ _ _ _ (omega (arith, l .loop-test .taken, l .before .before .before .before .pre .uses)) (k .0 ∙ ap₂ stepKey (c .before .before .before .before .before .before .before .use-step .ensures) (c .before .before .before .before .before .before .use-level .ensures)) (k .1) (l .before .loop .inv .1) (c .link .ensures),
-      owner-more _ _ _ _ (l .before .loop .inv .2) (c .before .before .before .used-before .ensures) (c .before .before .before .before .before .before .before .use-step .ensures) (c .before .before .lower-if .ensures),
+      growing-more _ _ _ _ (omega (arith, l .loop-test .taken, l .before .before .before .before .pre .uses))
+          (k .0 ∙ ap₂ stepKey (c .before .before .before .before .before .before .before .use-step .ensures)
+          (c .before .before .before .before .before .before .use-level .ensures)) (k .1) (l .before .loop .inv .1) (c .link .ensures),
+      owner-more _ _ _ _ (l .before .loop .inv .2) (c .before .before .before .used-before .ensures)
+          (c .before .before .before .before .before .before .before .use-step .ensures) (c .before .before .lower-if .ensures),
     ))
     (λ c. owner-end _ _ _ _ _ (c .before .loop .inv .2) (c .before .loop .inv .0) (c .loop-test .left)))

@@ -11,4 +11,7 @@ uses-twice-spec =
     (λ c κs. search needs) (λ c κs. search needs)
     (λ c. uses-twice-not _ _ _ (c .before .before .use-at .ensures .0) (c .before .use-at2 .ensures .0) (c .if1 .taken))
     (λ c κs. search needs) (λ c κs. search needs) (λ c κs. search needs) (λ c κs. search needs)
-    (λ c. let d = c .before .before .before .before in rw (c .use-level2 .ensures, c .before .use-level .ensures, c .before .before .use-step2 .ensures, c .before .before .before .use-step .ensures) (uses-twice-rest _ _ _ (d .before .before .use-at .ensures .0) (d .before .use-at2 .ensures .0) (d .if1 .left))))
+    (λ c.
+    let d = c .before .before .before .before in
+    rw (c .use-level2 .ensures, c .before .use-level .ensures, c .before .before .use-step2 .ensures, c .before .before .before .use-step .ensures)
+    (uses-twice-rest _ _ _ (d .before .before .use-at .ensures .0) (d .before .use-at2 .ensures .0) (d .if1 .left))))

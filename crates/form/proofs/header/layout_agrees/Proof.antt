@@ -12,4 +12,12 @@ layout-agrees-spec =
     (λ c κs. search needs) (λ c. search needs) (λ c κs. search needs) (λ c. search needs) (λ c κs. search needs) (λ c. search needs)
     (λ c κs. search needs) (λ c. search needs) (λ c κs. search needs) (λ c. search needs) (λ c κs. search needs) (λ c. search needs)
     (λ c κs. search needs) (λ c. search needs) (λ c. search needs)
-    (λ c. rw (c .before .before .u32-at7 .ensures .0, c .before .before .before .before .u32-at6 .ensures .0, c .before .before .before .before .before .before .u32-at5 .ensures .0, c .before .before .before .before .before .before .before .before .u32-at4 .ensures .0, c .before .before .before .before .before .before .before .before .before .before .u32-at3 .ensures .0, c .before .before .before .before .before .before .before .before .before .before .before .before .u32-at2 .ensures .0, c .before .before .before .before .before .before .before .before .before .before .before .before .before .before .u32-at .ensures .0)))
+    (λ c. rw (
+      c .before .before .u32-at7 .ensures .0,
+      c .before .before .before .before .u32-at6 .ensures .0,
+      c .before .before .before .before .before .before .u32-at5 .ensures .0,
+      c .before .before .before .before .before .before .before .before .u32-at4 .ensures .0,
+      c .before .before .before .before .before .before .before .before .before .before .u32-at3 .ensures .0,
+      c .before .before .before .before .before .before .before .before .before .before .before .before .u32-at2 .ensures .0,
+      c .before .before .before .before .before .before .before .before .before .before .before .before .before .before .u32-at .ensures .0,
+    )))

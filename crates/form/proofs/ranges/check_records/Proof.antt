@@ -12,4 +12,13 @@ check-records-spec =
     (tie.spec
     (λ c κs. search needs) (λ c κs. search needs) (λ c κs. search needs) (λ c κs. search needs) (λ c κs. search needs)
     (λ c κs. search needs) (λ c κs. search needs)
-    (λ c. rw (c .table-after7 .ensures, c .before .table-after6 .ensures, c .before .before .table-after5 .ensures, c .before .before .before .table-after4 .ensures, c .before .before .before .before .table-after3 .ensures, c .before .before .before .before .before .table-after2 .ensures, c .before .before .before .before .before .before .table-after .ensures, accepted-then)))
+    (λ c. rw (
+      c .table-after7 .ensures,
+      c .before .table-after6 .ensures,
+      c .before .before .table-after5 .ensures,
+      c .before .before .before .table-after4 .ensures,
+      c .before .before .before .before .table-after3 .ensures,
+      c .before .before .before .before .before .table-after2 .ensures,
+      c .before .before .before .before .before .before .table-after .ensures,
+      accepted-then,
+    )))

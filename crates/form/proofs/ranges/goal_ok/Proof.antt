@@ -10,4 +10,4 @@ goal-ok-spec =
     tie.close
     (tie.spec
     (λ c κs. search needs) (λ c κs. search needs) (λ c κs. search needs)
-    (λ c. cc))
+    (λ c. rw (c .goal-value .ensures, c .before .before .goal-fact .ensures, c .before .before .before .goal-deadline .ensures .0)))

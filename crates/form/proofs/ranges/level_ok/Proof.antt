@@ -10,4 +10,11 @@ level-ok-spec =
     tie.close
     (tie.spec
     (λ c κs. search needs) (λ c κs. search needs) (λ c κs. search needs) (λ c κs. search needs)
-    (λ c. let d = c .before .before in rw (d .level-in-range3 .ensures, d .before .level-in-range2 .ensures, d .before .before .level-in-range .ensures, d .before .before .before .level-at .ensures)))
+    (λ c.
+    let d = c .before .before in
+    rw (
+      d .level-in-range3 .ensures,
+      d .before .level-in-range2 .ensures,
+      d .before .before .level-in-range .ensures,
+      d .before .before .before .level-at .ensures,
+    )))

@@ -14,5 +14,11 @@ table-after-spec =
     (λ c κs. search needs)
     (λ c. then-refused _ _ (λ e. c .if1 .taken (c .before .number .ensures ∙ e)))
     (λ c κs. search needs) (λ c κs. search needs)
-    (λ c. let d = c .before .before in lowest-refused _ _ _ (rw (d .count-in .ensures) at (c .before .first-broken .ensures)) (rw (d .count-in .ensures) at (c .if2 .taken)) ∙ then-accepted _ _ (sym (d .before .before .number .ensures) ∙ d .before .if1 .left))
-    (λ c. let d = c .before .before in lowest-passed _ _ _ (rw (d .count-in .ensures) at (c .before .first-broken .ensures)) (rw (d .count-in .ensures) at (c .if2 .left)) ∙ then-accepted _ _ (sym (d .before .before .number .ensures) ∙ d .before .if1 .left)))
+    (λ c.
+    let d = c .before .before in
+    lowest-refused _ _ _ (rw (d .count-in .ensures) at (c .before .first-broken .ensures)) (rw (d .count-in .ensures) at (c .if2 .taken))
+    ∙ then-accepted _ _ (sym (d .before .before .number .ensures) ∙ d .before .if1 .left))
+    (λ c.
+    let d = c .before .before in
+    lowest-passed _ _ _ (rw (d .count-in .ensures) at (c .before .first-broken .ensures)) (rw (d .count-in .ensures) at (c .if2 .left))
+    ∙ then-accepted _ _ (sym (d .before .before .number .ensures) ∙ d .before .if1 .left)))

@@ -10,4 +10,7 @@ use-ok-spec =
     tie.close
     (tie.spec
     (λ c κs. search needs) (λ c κs. search needs)
-    (λ c. rw (c .before .before .before .before .step-length .ensures .0, c .before .before .before .before .before .before .before .before .before .use-of .ensures)))
+    (λ c. rw (
+      c .before .before .before .before .step-length .ensures .0,
+      c .before .before .before .before .before .before .before .before .before .use-of .ensures,
+    )))

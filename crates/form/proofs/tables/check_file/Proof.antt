@@ -110,7 +110,8 @@ module _ {M : Type 1} (𝓤 : URA M) (H : Heap 𝓤) (A : Atoms 𝓤) (W : Given
   exits r u e =
       qed W (‵ (S.the-row .own r (u ∷ [])) ∷ (‵ (flft κ q) ⊛ ‵ ftrue) ∷ ‵ Params ∷ []) ∵
       suffices ! _
-      (ends-at 𝓤 H A check-file.ended stayed (check-file.clauses 𝓤 H A mem run) W (((κ, tt), (q, tt), tt, (s, (j, tt)), at), tt) u r (tt, (tt, tt)) (tt, (tt, tt))) $
+      (ends-at 𝓤 H A check-file.ended stayed (check-file.clauses 𝓤 H A mem run) W (((κ, tt), (q, tt), tt, (s, (j, tt)), at), tt) u r (tt, (tt, tt))
+      (tt, (tt, tt))) $
       says ! e $ move ! (1 ∷ 2 ∷ []) $ frame ! $ frame ! $ done !
 
   module _ (C : Calls 𝓤 H) (Λ : Loops 𝓤 H) (fm : FmC 𝓤 H (W .laws) C) (known : Triple 𝓤 (C #form·tables·check-tables) (Check 𝓤 H A mem run)) where

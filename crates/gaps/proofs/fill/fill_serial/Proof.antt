@@ -17,13 +17,17 @@ unfolding serialGap
 fill-serial-spec =
     tie.close
     (tie.spec
-    (λ s job starts gaps₀ n i₀ gaps i. (i ≤ n) × Raised (job .count .steps) (λ a b. largest i (λ j. serialRow (view job s) (scheduleOf starts) j a b)) gaps₀ gaps)
+    (λ s job starts gaps₀ n i₀ gaps i. (i ≤ n) × Raised (job .count .steps) (λ a b. largest i (λ j. serialRow (view job s) (scheduleOf starts) j a b))
+    gaps₀ gaps)
     (λ s job starts gaps₀ n i₀ gaps i. n - i)
     (λ c. raised-none _ _ _ (λ i k. rw (ne-eqb _ _ (c .if1 .taken)) refl))
     (λ c. (omega arith, raised-start _ _ _))
-    (λ c κs. let d = c .before .before .before .before .before .before .before .before in (d .pre .0, c .before .before .loop .inv .1 .whole (d .pre .1), c .before .loop-test .taken))
+    (λ c κs.
+    let d = c .before .before .before .before .before .before .before .before in
+    (d .pre .0, c .before .before .loop .inv .1 .whole (d .pre .1), c .before .loop-test .taken))
     (λ c. omega arith)
     (λ c. omega arith)
     (λ c. (omega arith, raised-more _ _ _ _ _ _ (c .before .before .before .before .before .loop .inv .1) (c .before .before .raise-serial .ensures)))
     (λ c. let d = c .before .before .before .before .before .before .before in omega (arith, c .before .loop .inv .1 .whole (d .pre .1) .size, d .pre .1 .size))
-    (λ c. raised-is _ _ _ _ _ (raised-end _ _ _ _ _ _ (c .before .loop .inv .1) (c .before .loop .inv .0) (c .loop-test .left)) (λ a b h l. all-pairs _ _ a b h l)))
+    (λ c. raised-is _ _ _ _ _ (raised-end _ _ _ _ _ _ (c .before .loop .inv .1) (c .before .loop .inv .0) (c .loop-test .left))
+    (λ a b h l. all-pairs _ _ a b h l)))

@@ -19,5 +19,10 @@ serial-gap-spec =
     (λ c κs. search needs)
     (λ c. search needs)
     (λ c. let d = c .before .before .before .before .before in omega (arith, c .step-length .ensures .0, d .pre .0 .lengthRange _ (d .pre .1)))
-    (λ c. let d = c .before .before .before .before .before in (chosen-yes _ _ _ (c .before .if1 .taken) (c .before .before .precedes .ensures) (ap (λ n. n + gapBias) (c .step-length .ensures .0)), omega (arith, c .step-length .ensures .0, d .pre .0 .lengthRange _ (d .pre .1))))
+    (λ c.
+    let d = c .before .before .before .before .before in (
+      chosen-yes _ _ _ (c .before .if1 .taken) (c .before .before .precedes .ensures) (ap (λ n. n + gapBias) (c .step-length .ensures .0)),
+      omega
+          (arith, c .step-length .ensures .0, d .pre .0 .lengthRange _ (d .pre .1)),
+    ))
     (λ c. (chosen-no _ _ _ (c .if1 .left) (c .before .precedes .ensures) refl, omega arith)))

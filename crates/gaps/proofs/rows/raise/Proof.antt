@@ -16,5 +16,7 @@ raise-spec =
     (λ c. search needs)
     (λ c. search needs)
     (λ c. search needs)
-    (λ c. let d = c .before .before .before in raised-set _ _ _ _ (d .pre .1) (d .pre .2) (c .before .before .if1 .left) (c .if2 .taken) (d .pre .3) (d .pre .0 .size))
+    (λ c.
+    let d = c .before .before .before in
+    raised-set _ _ _ _ (d .pre .1) (d .pre .2) (c .before .before .if1 .left) (c .if2 .taken) (d .pre .3) (d .pre .0 .size))
     (λ c. raised-less _ _ _ _ (c .if2 .left)))

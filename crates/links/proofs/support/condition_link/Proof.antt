@@ -12,5 +12,12 @@ condition-link-spec =
     (λ c κs. search needs)
     (λ c κs. search needs)
     (λ c κs. search needs)
-    (λ c κs. let d = c .before .before .before .before .before .before .before in let form = d .pre .0 .form in (d .pre .0, rw (c .before .before .condition-fact .ensures) (form .conditionFact _ (d .pre .1)), rw (c .before .condition-value .ensures) (form .conditionValue _ (d .pre .1))))
+    (λ c κs.
+    let d = c .before .before .before .before .before .before .before in
+    let form = d .pre .0 .form in (
+      d .pre .0,
+      rw (c .before .before .condition-fact .ensures) (form .conditionFact _ (d .pre .1)),
+      rw (c .before .condition-value .ensures)
+          (form .conditionValue _ (d .pre .1)),
+    ))
     (λ c. cc))

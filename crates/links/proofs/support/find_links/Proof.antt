@@ -19,12 +19,18 @@ find-links-spec =
     (λ c κs. c .before .before .before .before .before .pre .0 .timed)
     (λ c. let form = c .before .before .before .before .before .before .before .pre .0 .form in omega (arith, form .conditionCount, form .goalCount))
     (λ c. (omega arith, filled-start _ _))
-    (λ c κs. (record { effects = c .before .before .before .before .before .before .before .before .before .pre .0; ends = c .before .before .before .after-all .ensures }, c .loop-test .taken))
+    (λ c κs. (
+      record {
+        effects = c .before .before .before .before .before .before .before .before .before .pre .0;
+        ends = c .before .before .before .after-all .ensures;
+      },
+      c .loop-test .taken,
+    ))
     (λ c. search needs)
     (λ c. search needs)
     (λ c. omega arith)
     (λ c. omega arith)
     (λ c. omega arith)
-    (λ c. (omega arith, filled-more _ _ _ _ _ (omega arith) (c .before .before .loop .inv .1) (c .link-at .ensures)))
+    (λ c. (omega arith, filled-more _ _ _ _ _ (omega arith) (c .before .before .loop .inv .1) (c .nth-link .ensures)))
     (λ c. c .before .loop .inv .1 .size)
     (λ c. filled-end _ _ _ _ _ (c .before .loop .inv .1) (c .before .loop .inv .0) (c .loop-test .left)))

@@ -11,5 +11,16 @@ goal-link-spec =
     (tie.spec
     (λ c κs. search needs)
     (λ c κs. search needs)
-    (λ c κs. let d = c .before .before .before .before .before .before in let form = d .pre .0 .effects .form in (d .pre .0 .effects, rw (c .before .goal-fact .ensures) (form .goalFact _ (d .pre .1)), rw (c .goal-value .ensures) (form .goalValue _ (d .pre .1))))
-    (λ c. rw (c .before .before .goal-fact .ensures, c .before .goal-value .ensures, c .before .before .before .before .before .before .before .pre .0 .ends) at (c .link-of .ensures)))
+    (λ c κs.
+    let d = c .before .before .before .before .before .before in
+    let form = d .pre .0 .effects .form in (
+      d .pre .0 .effects,
+      rw (c .before .goal-fact .ensures) (form .goalFact _ (d .pre .1)),
+      rw (c .goal-value .ensures)
+          (form .goalValue _ (d .pre .1)),
+    ))
+    (λ c. rw (
+      c .before .before .goal-fact .ensures,
+      c .before .goal-value .ensures,
+      c .before .before .before .before .before .before .before .pre .0 .ends,
+    ) at (c .link-of .ensures)))

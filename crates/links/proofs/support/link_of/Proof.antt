@@ -15,6 +15,13 @@ link-of-spec =
     (tie.spec
     (λ c κs. let d = c .before .before .before .before in (d .pre .0, d .pre .1))
     (λ c κs. search needs)
-    (λ c. let d = c .before .before .before .before .before .before .before in chosen-yes _ _ _ (c .if1 .taken) (ap₂ _&&_ (ap (λ n. eqb n 0) (c .before .before .last-opposing .ensures)) (ap (λ n. eqb n (d .args .value)) (c .before .fact-initial .ensures))) refl)
+    (λ c.
+    let d = c .before .before .before .before .before .before .before in
+    chosen-yes _ _ _ (c .if1 .taken) (ap₂ _&&_ (ap (λ n. eqb n 0) (c .before .before .last-opposing .ensures))
+    (ap (λ n. eqb n (d .args .value)) (c .before .fact-initial .ensures))) refl)
     (λ c κs. c .before .before .before .before .before .before .before .pre)
-    (λ c. let d = c .before .before .before .before .before .before .before .before in chosen-no _ _ _ (c .before .if1 .left) (ap₂ _&&_ (ap (λ n. eqb n 0) (c .before .before .before .last-opposing .ensures)) (ap (λ n. eqb n (d .args .value)) (c .before .before .fact-initial .ensures))) (rw (c .before .before .before .last-opposing .ensures) at (c .supporter .ensures))))
+    (λ c.
+    let d = c .before .before .before .before .before .before .before .before in
+    chosen-no _ _ _ (c .before .if1 .left) (ap₂ _&&_ (ap (λ n. eqb n 0) (c .before .before .before .last-opposing .ensures))
+    (ap (λ n. eqb n (d .args .value)) (c .before .before .fact-initial .ensures)))
+    (rw (c .before .before .before .last-opposing .ensures) at (c .supporter .ensures))))

@@ -1,6 +1,5 @@
 -- From the last record to the first, each becomes the first of its key.
 use Prim.Native.Nat.{_≤_}
-use native.Mathlib.Omega.{arith}
 use Rattle.job.specs.Model.{view}
 use Rattle.points.specs.Keys.{keyOf}
 use Rattle.timeline.proofs.Indexing.{Begun, begun-start, begun-less, begun-end}

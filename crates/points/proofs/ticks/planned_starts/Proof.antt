@@ -1,12 +1,11 @@
 -- The starts so far are those of the first k steps.
 use Prim.Native.Nat.{ℕ, _≤_, _-_}
-use mathlib.Core.Path.{_≡_, refl, sym, ap, ap₂, _∙_}
+use mathlib.Core.Path.{_≡_, refl, ap₂, _∙_}
 use mathlib.Core.List.{List, [], _∷_, _++_}
 use native.Mathlib.Numerals.{add-one}
 use lib.ListN.{length, take, length-set}
 use lib.Seq.{take-suc-set}
 use Rattle.laws.specs.Listed.{tabulate}
-use Rattle.laws.proofs.Listed.{tabulate-more}
 use Rattle.job.specs.Model.{view}
 use borrow.Author.Needs.{needs}
 use native.Mathlib.Omega.{arith}

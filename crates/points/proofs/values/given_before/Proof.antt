@@ -30,8 +30,10 @@ given-before-spec =
           (omega (arith, c .before .before .if1 .taken, c .before .before .before .begin-of .ensures)) .1),
     ))
     (λ c. rw (lt-ltb _ _
-    (let h : getD (c .before .before .before .before .before .before .args .sorted .now) (c .before .before .before .before .before .before .args .key) 0 < c .before .before .before .before .before .before .args .p = omega (arith, c .before .before .if1 .taken, c .before .before .before .begin-of .ensures) in
+    (let h : getD (c .before .before .before .before .before .before .args .sorted .now) (c .before .before .before .before .before .before .args .key) 0 < c .before .before .before .before .before .before .args .p = omega
+    (arith, c .before .before .if1 .taken, c .before .before .before .begin-of .ensures) in
     h)) (ap (λ k. getD (c .before .before .before .before .before .before .args .ticks .now) k 0 + 1) (c .before .record-at .ensures)))
     (λ c. rw (le-ltb _ _
-    (let h : c .before .before .before .before .args .p ≤ getD (c .before .before .before .before .args .sorted .now) (c .before .before .before .before .args .key) 0 = omega (arith, c .if1 .left, c .before .begin-of .ensures) in
+    (let h : c .before .before .before .before .args .p ≤ getD (c .before .before .before .before .args .sorted .now) (c .before .before .before .before .args .key) 0 = omega
+    (arith, c .if1 .left, c .before .begin-of .ensures) in
     h)) refl))

@@ -1,7 +1,6 @@
 -- The measure is how many are left.
 use Prim.Native.Nat.{_-_}
 use borrow.Author.Needs.{needs}
-use native.Mathlib.Omega.{arith}
 use Rattle.replay.proofs.lines.print_numbers.Statement.{statement}
 use Rattle.replay.proofs.lines.print_numbers.Tie as tie
 

@@ -1,5 +1,4 @@
 -- What stands behind the deadline undoes the goal.
-use mathlib.Core.Path.{sym, ap, _∙_}
 use native.Mathlib.Omega.{arith}
 use Rattle.points.proofs.Searches.{key-listed, key-searched, opposing-key}
 use Rattle.schedule.proofs.Searches.{goal-search}

@@ -23,11 +23,14 @@ earliest-starts-spec =
     (p .0, reached-bounded _ _ _ _ _ (p .0) (p .1) (p .2) (v .0), p .2, v .1))
     (λ c. omega arith)
     (λ c κs. c .before .before .before .before .before .before .before .before .pre .2)
-    (λ c. reached-last _ _ _ _ _ _ _ (c .before .before .before .before .before .before .before .before .loop .inv .0) (c .before .before .before .before .before .before .round .ensures) (c .before .before .before .before .before .before .before .loop-test .taken) (c .before .same-starts .ensures) (c .if1 .taken))
+    (λ c. reached-last _ _ _ _ _ _ _ (c .before .before .before .before .before .before .before .before .loop .inv .0)
+    (c .before .before .before .before .before .before .round .ensures) (c .before .before .before .before .before .before .before .loop-test .taken)
+    (c .before .same-starts .ensures) (c .if1 .taken))
     (λ c. omega arith)
     (λ c.
     let v = c .before .before .before .before .before .before .round .ensures in (
-      reached-more _ _ _ _ _ _ _ (c .before .before .before .before .before .before .before .before .loop .inv .0) v (c .before .before .before .before .before .before .before .loop-test .taken) (c .before .same-starts .ensures) (c .if1 .left),
+      reached-more _ _ _ _ _ _ _ (c .before .before .before .before .before .before .before .before .loop .inv .0) v
+          (c .before .before .before .before .before .before .before .loop-test .taken) (c .before .same-starts .ensures) (c .if1 .left),
       given-more _ _ _ _ _ v,
     ))
     (λ c. reached-end _ _ _ _ _ _ (c .before .loop .inv .0) (c .loop-test .left)))

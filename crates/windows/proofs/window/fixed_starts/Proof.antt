@@ -25,7 +25,13 @@ fixed-starts-spec =
     (λ c. omega (arith, c .before .before .before .before .pre .stepCount))
     (λ c. omega arith)
     (λ c. omega arith)
-    (λ c. (omega arith, simp length-set (c .before .before .loop .inv .1), filled-more _ _ _ _ _ (omega (arith, c .before .before .loop .inv .2 .size, c .before .before .before .before .pre .stepCount)) (c .before .before .loop .inv .2) (c .fixed-start .ensures)))
+    (λ c. (
+      omega arith,
+      simp length-set (c .before .before .loop .inv .1),
+      filled-more _ _ _ _ _
+          (omega (arith, c .before .before .loop .inv .2 .size, c .before .before .before .before .pre .stepCount)) (c .before .before .loop .inv .2)
+          (c .fixed-start .ensures),
+    ))
     (λ c.
     let v = c .before .loop .inv in
     record { size = v .1; each = filled-end _ _ _ _ _ (v .2) (v .0) (c .loop-test .left) .below }))

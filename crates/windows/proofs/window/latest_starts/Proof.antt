@@ -20,7 +20,9 @@ latest-starts-spec =
     (λ s job links n at₀ g₀ at g. n - g)
     (λ c κs. search needs)
     (λ c. let o = c .before .fixed-starts .ensures in (omega arith, o .size, λ x l. latest-none _ x _ (o .each)))
-    (λ c κs. let p = c .before .before .before .before .before .before .before .pre in (record { form = p .0; room = p .1; size = c .before .before .loop .inv .1 }, c .before .loop-test .taken))
+    (λ c κs.
+    let p = c .before .before .before .before .before .before .before .pre in
+    (record { form = p .0; room = p .1; size = c .before .before .loop .inv .1 }, c .before .loop-test .taken))
     (λ c. omega arith)
     (λ c. omega arith)
     (λ c.

@@ -2,12 +2,12 @@
 use native.Mathlib.Omega.{arith}
 use borrow.Author.Tests.{lt-ltb, le-ltb}
 use Rattle.orders.specs.Links.{nthLink}
-use Rattle.links.proofs.support.link_at.Statement.{statement}
-use Rattle.links.proofs.support.link_at.Tie as tie
+use Rattle.links.proofs.support.nth_link.Statement.{statement}
+use Rattle.links.proofs.support.nth_link.Tie as tie
 
-pub link-at-spec : {M : Type 1} → statement M
+pub nth-link-spec : {M : Type 1} → statement M
 unfolding nthLink
-link-at-spec =
+nth-link-spec =
     tie.close
     (tie.spec
     (λ c κs. let d = c .before .before .before .before .before in (d .pre .0 .effects, c .if1 .taken))
