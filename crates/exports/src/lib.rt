@@ -28,7 +28,8 @@ pub extern "C" fn jobs_check(job: &[u8]) -> u64
 // Whether a list of starts is a sound timing of a job.
 #[no_mangle]
 pub extern "C" fn jobs_check_schedule(job: &[u8], starts: &[u32]) -> u64
-    ensures { λ r. ⌜ Packs (SchedulePromise (now (job .entry)) (now (starts .entry))) packedVerdict (scheduleCheck (now (job .entry)) (now (starts .entry))) r ⌝ }
+    ensures { λ r. ⌜ Packs (SchedulePromise (now (job .entry)) (now (starts .entry))) packedVerdict
+        (scheduleCheck (now (job .entry)) (now (starts .entry))) r ⌝ }
 {
     let a = schedule::check_schedule(job, starts);
     packed(0, verdict::number(a), verdict::place(a))
@@ -37,7 +38,8 @@ pub extern "C" fn jobs_check_schedule(job: &[u8], starts: &[u32]) -> u64
 // Loosens a job into an order file in `out`.
 #[no_mangle]
 pub extern "C" fn jobs_partialize(job: &[u8], out: &mut [u8]) -> u64
-    ensures { λ r. ⌜ Packs (Promise (now (job .entry)) (now (out .entry)) (now (out .exit))) packedAnswer (answerTo (now (job .entry)) (length (now (out .entry)))) r ⌝ }
+    ensures { λ r. ⌜ Packs (Promise (now (job .entry)) (now (out .entry)) (now (out .exit))) packedAnswer
+        (answerTo (now (job .entry)) (length (now (out .entry)))) r ⌝ }
     ensures { λ _. ⌜ now (out .exit) ≡ bufferAfter (now (job .entry)) (now (out .entry)) ⌝ }
 {
     let a = partialize::partialize(job, out);

@@ -1,4 +1,4 @@
--- For callers: refusal 7, a step against itself, in three parts.
+-- Refusal 7, a step against itself, in three parts.
 use Prim.Native.Nat.{ℕ}
 use mathlib.Core.Bool.{Bool, _&&_, not}
 use lib.Dec.{ltb, leb, eqb}

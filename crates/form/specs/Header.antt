@@ -1,4 +1,4 @@
--- For callers: refusals 1 to 5, the header and the layout.
+-- Refusals 1 to 5, the header and the layout.
 use Prim.Native.Nat.{ℕ}
 use mathlib.Core.Bool.{Bool, _&&_, _||_, not}
 use mathlib.Core.List.{List}

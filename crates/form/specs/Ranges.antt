@@ -1,4 +1,4 @@
--- For callers: the ranges of "The job file", record by record, in table order.
+-- The ranges of "The job file", record by record, in table order.
 use Prim.Native.Nat.{ℕ}
 use mathlib.Core.Bool.{Bool, _&&_, _||_, not}
 use lib.Dec.{ltb, leb, eqb}

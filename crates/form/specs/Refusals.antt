@@ -1,4 +1,4 @@
--- For callers: refusals 6 and 7, and all of the form check in checking order.
+-- Refusals 6 and 7, and all of the form check in checking order.
 use Prim.Native.Nat.{ℕ, min}
 use mathlib.Core.Path.{_≡_}
 use mathlib.Core.List.{List}

@@ -8,7 +8,8 @@ ghost use lib.Dec.{ltb};
 ghost use Rattle.job.specs.Model.{view, effectOf};
 ghost use Rattle.form.specs.Keys.{stepKey, effectKey, conditionKey, useKey, Linkable, SearchBack};
 ghost use Rattle.timeline.specs.Indexed.{keyCount, capacity, Growing};
-ghost use Rattle.form.specs.Against.{bothWays, usesTwice, opposesOwn, setBefore, usedBefore, opposesAny, bothWaysStep, usesTwiceStep, opposesOwnStep};
+ghost use Rattle.form.specs.Against.{bothWays, usesTwice, opposesOwn, setBefore, usedBefore, opposesAny, bothWaysStep, usesTwiceStep};
+ghost use Rattle.form.specs.Against.{opposesOwnStep};
 ghost use Rattle.form.specs.Refusals.{stepCheck};
 use job::layout::Job;
 use job::records::*;
@@ -66,7 +67,8 @@ fn opposes_own(s: &[u8], job: Job, e: Effect, c: u16) -> bool
 
 // Whether an effect before k, which is e, sets e's fact the other way, in e's step at e's tick.
 fn set_before(s: &[u8], job: Job, index: &[u16], key: usize, k: u16, e: Effect) -> bool
-    requires { ⌜ SearchBack (effectKey (view job (now s))) k (effectKey (view job (now s)) k) key (now index) × (e ≡ effectOf (view job (now s)) k) ⌝ }
+    requires { ⌜ SearchBack (effectKey (view job (now s))) k (effectKey (view job (now s)) k) key (now index)
+        × (e ≡ effectOf (view job (now s)) k) ⌝ }
     ensures { λ r. ⌜ r ≡ setBefore (view job (now (s .entry))) k ⌝ }
 {
     let mut f = first_of(index, key);

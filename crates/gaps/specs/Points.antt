@@ -1,4 +1,4 @@
--- Invariants of this crate: points of a job in the order of their ticks, the orders between them, and a table raised to what they say.
+-- Inner: points of a job in the order of their ticks, the orders between them, and a table raised to what they say.
 use Prim.Native.Nat.{ℕ, _+_, _-_, _*_, _%_, _≤_, _<_}
 use mathlib.Core.Path.{_≡_}
 use mathlib.Core.List.{List}

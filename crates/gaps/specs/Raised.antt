@@ -1,4 +1,4 @@
--- Invariants of this crate: the table of gaps raised, rule by rule.
+-- Inner: the table of gaps raised, rule by rule.
 use Prim.Native.Nat.{ℕ, _+_, _≤_, _<_, max}
 use mathlib.Core.Path.{_≡_}
 use mathlib.Core.Bool.{cond}

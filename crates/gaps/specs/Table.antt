@@ -1,4 +1,4 @@
--- What callers believe: from which the table of gaps is filled, and what it then is.
+-- What the table of gaps is filled from, and what it then is.
 use Prim.Native.Nat.{ℕ, _+_, _≤_, _<_}
 use mathlib.Core.Path.{_≡_}
 use mathlib.Core.Bool.{_&&_, cond}

@@ -33,7 +33,8 @@ use points::ticks::start_of;
 // Rule 1 for condition c, by its link.
 fn raise_support(s: &[u8], job: Job, links: &[u16], c: u16, gaps: &mut [u32])
     requires { ⌜ SupportKnown (view job (now s)) (now links) (now gaps) × (c < job .count .conditions) ⌝ }
-    ensures { λ _. ⌜ RaisedByLinks (view job (now (s .entry))) (now (links .entry)) (λ m x i k. supportOrder m x i k c) (now (gaps .entry)) (now (gaps .exit)) ⌝ }
+    ensures { λ _. ⌜ RaisedByLinks (view job (now (s .entry))) (now (links .entry)) (λ m x i k. supportOrder m x i k c) (now (gaps .entry))
+        (now (gaps .exit)) ⌝ }
     ensures { λ _. ⌜ Gaps (now (gaps .exit)) ⌝ }
 {
     let link = links[c as usize];
@@ -87,7 +88,8 @@ fn fill_opposing(
     gaps: &mut [u32],
 )
     requires { ⌜ EffectsKnown (view job (now s)) (scheduleOf (now starts)) (now ticks) (now sorted) × Gaps (now gaps) ⌝ }
-    ensures { λ _. ⌜ Raised (job .count .steps) (opposingGap (view job (now (s .entry))) (scheduleOf (now (starts .entry)))) (now (gaps .entry)) (now (gaps .exit)) ⌝ }
+    ensures { λ _. ⌜ Raised (job .count .steps) (opposingGap (view job (now (s .entry))) (scheduleOf (now (starts .entry))))
+        (now (gaps .entry)) (now (gaps .exit)) ⌝ }
 {
     let n = 2 * job.count.facts as usize;
     let mut key = 0;
@@ -110,8 +112,10 @@ fn fill_conditions(
     conditions: &[u16],
     gaps: &mut [u32],
 )
-    requires { ⌜ OpposersKnown (view job (now s)) (scheduleOf (now starts)) (now ticks) (now sorted) (now firsts) (now conditions) × Gaps (now gaps) ⌝ }
-    ensures { λ _. ⌜ Raised (job .count .steps) (conditionGap (view job (now (s .entry))) (scheduleOf (now (starts .entry)))) (now (gaps .entry)) (now (gaps .exit)) ⌝ }
+    requires { ⌜ OpposersKnown (view job (now s)) (scheduleOf (now starts)) (now ticks) (now sorted) (now firsts) (now conditions)
+        × Gaps (now gaps) ⌝ }
+    ensures { λ _. ⌜ Raised (job .count .steps) (conditionGap (view job (now (s .entry))) (scheduleOf (now (starts .entry))))
+        (now (gaps .entry)) (now (gaps .exit)) ⌝ }
 {
     let n = 2 * job.count.facts as usize;
     let mut key = 0;
@@ -134,7 +138,8 @@ fn fill_levels(
     gaps: &mut [u32],
 )
     requires { ⌜ UsesKnown (view job (now s)) (scheduleOf (now starts)) (now ticks) (now sorted) × Gaps (now gaps) ⌝ }
-    ensures { λ _. ⌜ Raised (job .count .steps) (levelGap (view job (now (s .entry))) (scheduleOf (now (starts .entry)))) (now (gaps .entry)) (now (gaps .exit)) ⌝ }
+    ensures { λ _. ⌜ Raised (job .count .steps) (levelGap (view job (now (s .entry))) (scheduleOf (now (starts .entry))))
+        (now (gaps .entry)) (now (gaps .exit)) ⌝ }
 {
     let n = job.count.levels as usize;
     let mut key = 0;
@@ -174,7 +179,8 @@ fn serial_gap(s: &[u8], job: Job, starts: &[u32], i: u16, k: u16) -> u32
 // Rule 5 for the steps after step i.
 fn raise_serial(s: &[u8], job: Job, starts: &[u32], i: u16, gaps: &mut [u32])
     requires { ⌜ WellFormed (view job (now s)) × Gaps (now gaps) × (i < job .count .steps) ⌝ }
-    ensures { λ _. ⌜ Raised (job .count .steps) (serialRow (view job (now (s .entry))) (scheduleOf (now (starts .entry))) i) (now (gaps .entry)) (now (gaps .exit)) ⌝ }
+    ensures { λ _. ⌜ Raised (job .count .steps) (serialRow (view job (now (s .entry))) (scheduleOf (now (starts .entry))) i)
+        (now (gaps .entry)) (now (gaps .exit)) ⌝ }
 {
     let n = job.count.steps;
     let mut k = 0;
@@ -188,7 +194,8 @@ fn raise_serial(s: &[u8], job: Job, starts: &[u32], i: u16, gaps: &mut [u32])
 // Rule 5.
 fn fill_serial(s: &[u8], job: Job, starts: &[u32], gaps: &mut [u32])
     requires { ⌜ WellFormed (view job (now s)) × Gaps (now gaps) ⌝ }
-    ensures { λ _. ⌜ Raised (job .count .steps) (serialGap (view job (now (s .entry))) (scheduleOf (now (starts .entry)))) (now (gaps .entry)) (now (gaps .exit)) ⌝ }
+    ensures { λ _. ⌜ Raised (job .count .steps) (serialGap (view job (now (s .entry))) (scheduleOf (now (starts .entry))))
+        (now (gaps .entry)) (now (gaps .exit)) ⌝ }
 {
     if job.serial != 1 {
         return;

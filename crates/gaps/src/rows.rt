@@ -107,8 +107,10 @@ fn raise_after(
     t: usize,
     gaps: &mut [u32],
 )
-    requires { ⌜ Group (view job (now s)) to (now ticks) (now sorted) key × Gaps (now gaps) × (job .count .steps ≤ stepLimit) × (first < job .count .steps) × (at ≤ longest) ⌝ }
-    ensures { λ _. ⌜ Reached (job .count .steps) (After (view job (now (s .entry))) to (now (ticks .entry)) (now (sorted .entry)) key first at t) (now (gaps .entry)) (now (gaps .exit)) ⌝ }
+    requires { ⌜ Group (view job (now s)) to (now ticks) (now sorted) key × Gaps (now gaps) × (job .count .steps ≤ stepLimit)
+        × (first < job .count .steps) × (at ≤ longest) ⌝ }
+    ensures { λ _. ⌜ Reached (job .count .steps)
+        (After (view job (now (s .entry))) to (now (ticks .entry)) (now (sorted .entry)) key first at t) (now (gaps .entry)) (now (gaps .exit)) ⌝ }
 {
     let mut p = place_from(ticks, sorted, key, t);
     while p < begin_of(sorted, key + 1) {
@@ -131,7 +133,8 @@ fn raise_pairs(
     gaps: &mut [u32],
 )
     requires { ⌜ GroupsKnown (view job (now s)) groups (now ticks) (now sorted) (now others) (now against) × Gaps (now gaps) ⌝ }
-    ensures { λ _. ⌜ GroupsRaised (view job (now (s .entry))) groups (now (ticks .entry)) (now (sorted .entry)) (now (others .entry)) (now (against .entry)) (now (gaps .entry)) (now (gaps .exit)) ⌝ }
+    ensures { λ _. ⌜ GroupsRaised (view job (now (s .entry))) groups (now (ticks .entry)) (now (sorted .entry)) (now (others .entry))
+        (now (against .entry)) (now (gaps .entry)) (now (gaps .exit)) ⌝ }
 {
     let from = groups.from;
     let to = groups.to;
@@ -210,7 +213,8 @@ fn raise_rows(
     gaps: &mut [u32],
 )
     requires { ⌜ GroupsKnown (view job (now s)) groups (now ticks) (now sorted) (now others) (now against) × Gaps (now gaps) ⌝ }
-    ensures { λ _. ⌜ GroupsRaised (view job (now (s .entry))) groups (now (ticks .entry)) (now (sorted .entry)) (now (others .entry)) (now (against .entry)) (now (gaps .entry)) (now (gaps .exit)) ⌝ }
+    ensures { λ _. ⌜ GroupsRaised (view job (now (s .entry))) groups (now (ticks .entry)) (now (sorted .entry)) (now (others .entry))
+        (now (against .entry)) (now (gaps .entry)) (now (gaps .exit)) ⌝ }
 {
     let from = groups.from;
     let to = groups.to;
@@ -241,7 +245,8 @@ pub fn raise_group(
     gaps: &mut [u32],
 )
     requires { ⌜ GroupsKnown (view job (now s)) groups (now ticks) (now sorted) (now others) (now against) × Gaps (now gaps) ⌝ }
-    ensures { λ _. ⌜ GroupsRaised (view job (now (s .entry))) groups (now (ticks .entry)) (now (sorted .entry)) (now (others .entry)) (now (against .entry)) (now (gaps .entry)) (now (gaps .exit)) ⌝ }
+    ensures { λ _. ⌜ GroupsRaised (view job (now (s .entry))) groups (now (ticks .entry)) (now (sorted .entry)) (now (others .entry))
+        (now (against .entry)) (now (gaps .entry)) (now (gaps .exit)) ⌝ }
 {
     let begin = begin_of(against, groups.other);
     let end = begin_of(against, groups.other + 1);

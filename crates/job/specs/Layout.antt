@@ -1,4 +1,4 @@
--- For callers: "The job file", its header, the record widths, where each table starts, the highest counts.
+-- "The job file", its header, the record widths, where each table starts, the highest counts.
 use Prim.Native.Nat.{ℕ, zero, suc, _+_, _*_}
 use mathlib.Core.Bool.{Bool}
 use mathlib.Core.List.{List, [], _∷_}

@@ -1,4 +1,4 @@
--- For callers: the job that a file holds, counts and functions of an index. Its meaning is stated over this record alone.
+-- The job that a file holds, counts and functions of an index. Its meaning is stated over this record alone.
 use Prim.Native.Nat.{ℕ, _+_, _*_, _-_}
 use mathlib.Core.List.{List}
 use Rattle.little_endian.specs.Bytes.{signBias, byteAt, u16At, u32At, biasedAt}

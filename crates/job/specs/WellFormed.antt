@@ -1,4 +1,4 @@
--- For callers: what holds of the job in a file that refusals 1 to 7 pass. Plain statements, one a sentence.
+-- What holds of the job in a file that refusals 1 to 7 pass. Plain statements, one a sentence.
 use Prim.Native.Nat.{ℕ, _≤_, _<_}
 use mathlib.Core.Path.{_≡_}
 use mathlib.Core.Logic.{_⊎_}

@@ -1,4 +1,4 @@
--- What callers believe: lists of links.
+-- Lists of links.
 use Prim.Native.Nat.{ℕ, _+_, _<_}
 use mathlib.Core.Path.{_≡_}
 use mathlib.Core.List.{List}

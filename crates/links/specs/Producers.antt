@@ -1,4 +1,4 @@
--- Invariants of this crate: a supporter of rule 1, once it is known from which tick on it counts.
+-- Inner: a supporter of rule 1, once it is known from which tick on it counts.
 use Prim.Native.Nat.{ℕ}
 use mathlib.Core.Path.{_≡_}
 use mathlib.Core.Bool.{Bool, _&&_, cond}

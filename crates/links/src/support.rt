@@ -57,7 +57,8 @@ fn supporter(
     sorted: &[u16],
     want: Wanted,
 ) -> u16
-    requires { ⌜ EffectsKnown (view job (now s)) (scheduleOf (now starts)) (now ticks) (now sorted) × (want .fact < job .count .facts) × (want .value ≤ 1) ⌝ }
+    requires { ⌜ EffectsKnown (view job (now s)) (scheduleOf (now starts)) (now ticks) (now sorted)
+        × (want .fact < job .count .facts) × (want .value ≤ 1) ⌝ }
     ensures { λ r. ⌜ r ≡ supporterFrom (view job (now (s .entry))) (scheduleOf (now (starts .entry))) (want .fact) (want .value) (want .from) ⌝ }
 {
     let key = fact_key(want.fact, want.value);
@@ -135,7 +136,8 @@ fn nth_link(
     end: usize,
     k: u16,
 ) -> u16
-    requires { ⌜ EndKnown (view job (now s)) (scheduleOf (now starts)) (now ticks) (now sorted) end × (k < job .count .conditions + job .count .goals) ⌝ }
+    requires { ⌜ EndKnown (view job (now s)) (scheduleOf (now starts)) (now ticks) (now sorted) end
+        × (k < job .count .conditions + job .count .goals) ⌝ }
     ensures { λ r. ⌜ r ≡ nthLink (view job (now (s .entry))) (scheduleOf (now (starts .entry))) k ⌝ }
 {
     let n = job.count.conditions;
@@ -155,8 +157,10 @@ pub fn find_links(
     sorted: &[u16],
     links: &mut [u16],
 )
-    requires { ⌜ EffectsKnown (view job (now s)) (scheduleOf (now starts)) (now ticks) (now sorted) × (job .count .conditions + job .count .goals ≤ length (now links)) ⌝ }
-    ensures { λ _. ⌜ Filled (job .count .conditions + job .count .goals) (nthLink (view job (now (s .entry))) (scheduleOf (now (starts .entry)))) (now (links .entry)) (now (links .exit)) ⌝ }
+    requires { ⌜ EffectsKnown (view job (now s)) (scheduleOf (now starts)) (now ticks) (now sorted)
+        × (job .count .conditions + job .count .goals ≤ length (now links)) ⌝ }
+    ensures { λ _. ⌜ Filled (job .count .conditions + job .count .goals)
+        (nthLink (view job (now (s .entry))) (scheduleOf (now (starts .entry)))) (now (links .entry)) (now (links .exit)) ⌝ }
 {
     let end = after_all(s, job, starts, ticks);
     let n = job.count.conditions + job.count.goals;

@@ -27,13 +27,17 @@ use Rattle.form.specs.Refusals.{tableCheck, recordCheck, againstStep, stepCheck
 use Rattle.validity.specs.Ticks.{planned}
 use Rattle.validity.specs.Seen.{givenAt, lastGiven, seen, afterAll}
 use Rattle.validity.specs.Levels.{risesBefore, fallsBefore}
-use Rattle.validity.specs.Checks.{meets, conflicts, breaks, conditionFails, passes, levelFails, undoes, late, goalFails, overlaps, crowded, ruleCheck, timingCheck, jobCheck}
+use Rattle.validity.specs.Checks.{meets, conflicts, breaks, conditionFails, passes, levelFails, undoes, late, goalFails, overlaps, crowded, ruleCheck}
+use Rattle.validity.specs.Checks.{timingCheck, jobCheck}
 use Rattle.orders.specs.Links.{producer, earliestProduced, supporter, linkOf, conditionLink, goalLink, nthLink}
-use Rattle.orders.specs.Gaps.{supportOrder, supportGap, opposingOrder, opposingGap, beforeOrder, afterOrder, conditionGap, levelOrder, levelGap, serialGap, gapOf}
+use Rattle.orders.specs.Gaps.{supportOrder, supportGap, opposingOrder, opposingGap, beforeOrder, afterOrder, conditionGap, levelOrder, levelGap}
+use Rattle.orders.specs.Gaps.{serialGap, gapOf}
 use Rattle.orders.specs.Windows.{limitOf, allowed, latestOf}
 use Rattle.rounds.specs.Rounds.{demand, raised, after, unchanged, rounds, earliest}
 use Rattle.orders.specs.File.{ordered, fileOf}
-use Rattle.orders.specs.Starred.{fact, level, step, condition, effect, usage, goal, joined, offsets, tablesOf, jobBytes, Order, order, Answer, refused, accepted, listed, windowOf, orderOf, said, answer, answerOf, Case, small, nothing, levelled, serially, starred}
+use Rattle.orders.specs.Starred.{fact, level, step, condition, effect, usage, goal, joined, offsets, tablesOf, jobBytes, Order, order, Answer}
+use Rattle.orders.specs.Starred.{refused, accepted, listed, windowOf, orderOf, said, answer, answerOf, Case, small, nothing, levelled, serially}
+use Rattle.orders.specs.Starred.{starred}
 use Rattle.order_file.specs.Table.{rowWidth, tableSize}
 
 module _ {A : Type 0} where

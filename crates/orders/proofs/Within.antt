@@ -21,7 +21,8 @@ use Rattle.order_file.specs.Within.{Within}
 use Rattle.order_file.specs.Contents.{initialState, noLatest, lastEffect, orderLimit, gapBias, mostGap}
 use Rattle.order_file.specs.Table.{rowWidth, tableSize}
 use Rattle.orders.specs.Links.{conditionLink, goalLink, nthLink}
-use Rattle.orders.specs.Gaps.{strictly, supportOrder, supportGap, opposingOrder, opposingGap, beforeOrder, afterOrder, conditionGap, levelOrder, levelGap, serialFirst, serialGap, gapOf}
+use Rattle.orders.specs.Gaps.{strictly, supportOrder, supportGap, opposingOrder, opposingGap, beforeOrder, afterOrder, conditionGap, levelOrder}
+use Rattle.orders.specs.Gaps.{levelGap, serialFirst, serialGap, gapOf}
 use Rattle.orders.specs.Windows.{limitOf, allowed, latestOf}
 use Rattle.rounds.specs.Rounds.{earliest}
 use Rattle.orders.specs.File.{roundsOf, earliestOf, ordered, pairOf, fileOf}

@@ -1,4 +1,4 @@
--- What callers believe: what is filed of a job, "The order file", of the orders and limits that are found by the ticks of the planned schedule x.
+-- What is filed of a job, "The order file": of the orders and limits that are found by the ticks of the planned schedule x.
 use Prim.Native.Nat.{ℕ, _+_, _/_, _%_}
 use mathlib.Core.Bool.{Bool, _&&_, not}
 use lib.Dec.{ltb, eqb}

@@ -1,5 +1,5 @@
--- What callers believe: orders from a sound job, rules 1 to 5, each rule's gap from step i to step k by itself, then the largest. A gap
--- is stored plus `gapBias`, and 0 stands for none; x is the schedule by whose ticks the orders are found.
+-- Orders from a sound job, rules 1 to 5: each rule's gap from step i to step k by itself, then the largest. A gap is stored plus
+-- `gapBias`, and 0 stands for none; x is the schedule by whose ticks the orders are found.
 use Prim.Native.Nat.{ℕ, _+_, _-_, max}
 use mathlib.Core.Bool.{Bool, _&&_, _||_, not, cond}
 use lib.Dec.{ltb, leb, eqb}

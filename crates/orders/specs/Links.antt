@@ -1,5 +1,4 @@
--- What callers believe: orders from a sound job, rule 1. The link of a condition or goal is its supporter; x is the schedule by whose
--- ticks it is found.
+-- Orders from a sound job, rule 1: the link of a condition or goal is its supporter. x is the schedule by whose ticks it is found.
 use Prim.Native.Nat.{ℕ, _-_}
 use mathlib.Core.Bool.{Bool, _&&_, cond}
 use lib.Dec.{ltb, leb, eqb}

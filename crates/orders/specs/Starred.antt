@@ -1,4 +1,4 @@
--- What callers believe: the starred cases of "A small job, and edges": one table of jobs with their whole answers.
+-- The starred cases of "A small job, and edges": one table of jobs with their whole answers.
 use Prim.Native.Nat.{ℕ, zero, suc, _+_, _-_}
 use mathlib.Core.Bool.{Bool, true, false}
 use mathlib.Core.List.{List, [], _∷_, _++_, foldr}

@@ -1,4 +1,4 @@
--- What callers believe: the earliest limit and the latest start of a step.
+-- The earliest limit and the latest start of a step.
 use Prim.Native.Nat.{ℕ, _-_}
 use mathlib.Core.Bool.{_&&_, not, cond}
 use lib.Dec.{eqb}

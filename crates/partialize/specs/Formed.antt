@@ -1,4 +1,4 @@
--- What loosening knows before it lists the points of a job: that its form is good, and the written starts.
+-- Inner: what loosening knows before it lists the points of a job, that its form is good, and the written starts.
 use Prim.Native.Nat.{ℕ}
 use mathlib.Core.Path.{_≡_}
 use mathlib.Core.List.{List}

@@ -1,4 +1,4 @@
--- What inner functions ask and give: points of a valid schedule, lists of links and gaps to be filed, and lists that hold what is filed.
+-- Inner: points of a valid schedule, lists of links and gaps to be filed, and lists that hold what is filed.
 use Prim.Native.Nat.{ℕ, _+_, _<_}
 use mathlib.Core.Path.{_≡_}
 use mathlib.Core.List.{List}

@@ -12,7 +12,9 @@ use job::layout::Job;
 use timeline::sort;
 
 pub fn list_effects(s: &[u8], job: Job, starts: &[u32], ticks: &[usize], sorted: &mut [u16])
-    requires { ⌜ WellFormed (view job (now s)) × TicksOf (job .count .effects) (effectTick (view job (now s)) (scheduleOf (now starts))) (now ticks) × (length (now sorted) ≡ listSize) ⌝ }
+    requires { ⌜ WellFormed (view job (now s))
+        × TicksOf (job .count .effects) (effectTick (view job (now s)) (scheduleOf (now starts))) (now ticks)
+        × (length (now sorted) ≡ listSize) ⌝ }
     ensures { λ _. ⌜ EffectsKnown (view job (now (s .entry))) (scheduleOf (now (starts .entry))) (now (ticks .entry)) (now (sorted .exit)) ⌝ }
 {
     let values = 2 * job.count.facts as usize;
@@ -23,7 +25,9 @@ pub fn list_effects(s: &[u8], job: Job, starts: &[u32], ticks: &[usize], sorted:
 
 // By their first ticks.
 pub fn list_conditions(s: &[u8], job: Job, starts: &[u32], ticks: &[usize], sorted: &mut [u16])
-    requires { ⌜ WellFormed (view job (now s)) × TicksOf (job .count .conditions) (firstTick (view job (now s)) (scheduleOf (now starts))) (now ticks) × (length (now sorted) ≡ listSize) ⌝ }
+    requires { ⌜ WellFormed (view job (now s))
+        × TicksOf (job .count .conditions) (firstTick (view job (now s)) (scheduleOf (now starts))) (now ticks)
+        × (length (now sorted) ≡ listSize) ⌝ }
     ensures { λ _. ⌜ ConditionsKnown (view job (now (s .entry))) (scheduleOf (now (starts .entry))) (now (ticks .entry)) (now (sorted .exit)) ⌝ }
 {
     let values = 2 * job.count.facts as usize;
@@ -33,7 +37,9 @@ pub fn list_conditions(s: &[u8], job: Job, starts: &[u32], ticks: &[usize], sort
 }
 
 pub fn list_uses(s: &[u8], job: Job, starts: &[u32], ticks: &[usize], sorted: &mut [u16])
-    requires { ⌜ WellFormed (view job (now s)) × TicksOf (job .count .uses) (useTick (view job (now s)) (scheduleOf (now starts))) (now ticks) × (length (now sorted) ≡ listSize) ⌝ }
+    requires { ⌜ WellFormed (view job (now s))
+        × TicksOf (job .count .uses) (useTick (view job (now s)) (scheduleOf (now starts))) (now ticks)
+        × (length (now sorted) ≡ listSize) ⌝ }
     ensures { λ _. ⌜ UsesKnown (view job (now (s .entry))) (scheduleOf (now (starts .entry))) (now (ticks .entry)) (now (sorted .exit)) ⌝ }
 {
     let levels = job.count.levels as usize;

@@ -66,7 +66,8 @@ pub fn effect_ticks(s: &[u8], job: Job, starts: &[u32], ticks: &mut [usize])
 // Lists the first tick of each condition.
 pub fn first_ticks(s: &[u8], job: Job, starts: &[u32], ticks: &mut [usize])
     requires { ⌜ job .count .conditions ≤ length (now ticks) ⌝ }
-    ensures { λ _. ⌜ TicksOf (job .count .conditions) (firstTick (view job (now (s .entry))) (scheduleOf (now (starts .entry)))) (now (ticks .exit)) ⌝ }
+    ensures { λ _. ⌜ TicksOf (job .count .conditions) (firstTick (view job (now (s .entry))) (scheduleOf (now (starts .entry))))
+        (now (ticks .exit)) ⌝ }
 {
     let n = job.count.conditions;
     let mut c = 0;

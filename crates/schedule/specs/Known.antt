@@ -1,4 +1,4 @@
--- What the timing check knows of a job: its points, and what the uses of a level add and take before a place.
+-- Inner: what the rules of the timing check know of a job, its points, and what the uses of a level add and take before a place.
 use Prim.Native.Nat.{ℕ, _+_, _-_, _*_, _≤_, _<_}
 use mathlib.Core.Path.{_≡_}
 use mathlib.Core.Bool.{Bool, _&&_}

@@ -44,7 +44,8 @@ pub struct Changes {
 // The changes with those of use u at the place.
 fn with_use(s: &[u8], job: Job, sums: Changes, u: u16) -> Changes
     requires { ⌜ (sums .place < capacity) × (sums .rises ≤ sumLimit) × (sums .falls ≤ sumLimit) ⌝ }
-    ensures { λ r. ⌜ (r .place ≡ sums .place + 1) × (r .rises ≡ sums .rises + rise (view job (now (s .entry))) u) × (r .falls ≡ sums .falls + fall (view job (now (s .entry))) u) ⌝ }
+    ensures { λ r. ⌜ (r .place ≡ sums .place + 1) × (r .rises ≡ sums .rises + rise (view job (now (s .entry))) u)
+        × (r .falls ≡ sums .falls + fall (view job (now (s .entry))) u) ⌝ }
 {
     Changes {
         place: sums.place + 1,

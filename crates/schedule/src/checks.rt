@@ -39,7 +39,8 @@ fn meets(
     e: u16,
     f: u16,
 ) -> bool
-    requires { ⌜ EffectsKnown (view job (now s)) (scheduleOf (now starts)) (now ticks) (now sorted) × (e < job .count .effects) × (f < job .count .effects) ⌝ }
+    requires { ⌜ EffectsKnown (view job (now s)) (scheduleOf (now starts)) (now ticks) (now sorted) × (e < job .count .effects)
+        × (f < job .count .effects) ⌝ }
     ensures { λ r. ⌜ r ≡ spec.meets (view job (now (s .entry))) (scheduleOf (now (starts .entry))) e f ⌝ }
 {
     if ticks[e as usize] != ticks[f as usize] {
@@ -251,7 +252,8 @@ fn broken(
     rule: Rule,
     k: u16,
 ) -> bool
-    requires { ⌜ Known (view job (now s)) (scheduleOf (now starts)) (now ticks) (now facts) (now uses) (now levels) end × (k < spec.countUnder (view job (now s)) rule) ⌝ }
+    requires { ⌜ Known (view job (now s)) (scheduleOf (now starts)) (now ticks) (now facts) (now uses) (now levels) end
+        × (k < spec.countUnder (view job (now s)) rule) ⌝ }
     ensures { λ r. ⌜ r ≡ spec.broken (view job (now (s .entry))) (scheduleOf (now (starts .entry))) rule k ⌝ }
 {
     match rule {
@@ -277,7 +279,8 @@ pub fn first_breaking(
     rule: Rule,
     n: u16,
 ) -> u16
-    requires { ⌜ Known (view job (now s)) (scheduleOf (now starts)) (now ticks) (now facts) (now uses) (now levels) end × (n ≡ spec.countUnder (view job (now s)) rule) ⌝ }
+    requires { ⌜ Known (view job (now s)) (scheduleOf (now starts)) (now ticks) (now facts) (now uses) (now levels) end
+        × (n ≡ spec.countUnder (view job (now s)) rule) ⌝ }
     ensures { λ r. ⌜ r ≡ lowest n (spec.broken (view job (now (s .entry))) (scheduleOf (now (starts .entry))) rule) ⌝ }
 {
     let mut k = 0;

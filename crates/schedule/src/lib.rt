@@ -116,7 +116,8 @@ fn check_listed(
     uses: &[usize],
     levels: &[u16],
 ) -> Verdict
-    requires { ⌜ EffectsKnown (view job (now s)) (scheduleOf (now starts)) (now ticks) (now facts) × UsesKnown (view job (now s)) (scheduleOf (now starts)) (now uses) (now levels) ⌝ }
+    requires { ⌜ EffectsKnown (view job (now s)) (scheduleOf (now starts)) (now ticks) (now facts)
+        × UsesKnown (view job (now s)) (scheduleOf (now starts)) (now uses) (now levels) ⌝ }
     ensures { λ r. ⌜ r ≡ startsCheck (view job (now (s .entry))) (now (starts .entry)) ⌝ }
 {
     let other = starts.len() != job.count.steps as usize;

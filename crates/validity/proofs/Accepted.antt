@@ -18,7 +18,9 @@ use Rattle.validity.specs.Ticks.{scheduleOf, planned}
 use Rattle.validity.specs.Valid.{Valid}
 use Rattle.validity.specs.Checks.{broken, countUnder, refusalOf, ruleCheck, timingCheck, jobCheck, countCheck, startsCheck, scheduleCheck}
 use Rattle.validity.specs.Promise.{JobPromise, SchedulePromise}
-use Rattle.validity.proofs.Tested.{moved-none, none-moved, conflicts-none, none-conflicts, breaks-none, low-everywhere, high-everywhere, none-passes, crowded-none, none-crowded, condition-holds, condition-seen, none-condition-fails, goal-holds, goal-in-time, none-goal-fails}
+use Rattle.validity.proofs.Tested.{moved-none, none-moved, conflicts-none, none-conflicts, breaks-none, low-everywhere, high-everywhere}
+use Rattle.validity.proofs.Tested.{none-passes, crowded-none, none-crowded, condition-holds, condition-seen, none-condition-fails, goal-holds}
+use Rattle.validity.proofs.Tested.{goal-in-time, none-goal-fails}
 
 -- every rule refuses with a number
 refuses : (rule : Rule) (k : ℕ) → number (refusalOf rule k) ≡ 0 → ⊥

@@ -6,7 +6,8 @@ use lib.ListN.{length}
 use lib.Dec.{ltb, leb, eqb}
 use Rattle.laws.specs.Search.{any}
 use Rattle.verdict.specs.declared.Verdict.{Verdict}
-use Rattle.verdict.specs.declared.Verdict.the-variants.{StartsMiscounted, FixedStepMoved, EffectsConflict, ConditionFails, LevelOutOfBounds, GoalFails, StepsOverlap}
+use Rattle.verdict.specs.declared.Verdict.the-variants.{StartsMiscounted, FixedStepMoved, EffectsConflict, ConditionFails, LevelOutOfBounds}
+use Rattle.verdict.specs.declared.Verdict.the-variants.{GoalFails, StepsOverlap}
 use Rattle.verdict.specs.Verdict.{_then_, refuseIf, refuseLowest}
 use Rattle.job.specs.Model.{Model, modelOf}
 use Rattle.job.specs.Model.{noDeadline}

@@ -1,10 +1,12 @@
--- For callers: the numbers and places of "Refusals", and a chain of checks in checking order.
+-- The numbers and places of "Refusals", and a chain of checks in checking order.
 use Prim.Native.Nat.{ℕ}
 use mathlib.Core.Bool.{Bool, cond}
 use lib.Dec.{ltb, eqb}
 use Rattle.laws.specs.Search.{lowest}
 use Rattle.verdict.specs.declared.Verdict.{Verdict}
-use Rattle.verdict.specs.declared.Verdict.the-variants.{Accepted, FileTooShort, UnknownEdition, MarkOutOfRange, CountTooHigh, LayoutDisagrees, RecordOutOfRange, StepAgainstItself, StartsMiscounted, FixedStepMoved, EffectsConflict, ConditionFails, LevelOutOfBounds, GoalFails, StepsOverlap}
+use Rattle.verdict.specs.declared.Verdict.the-variants.{Accepted, FileTooShort, UnknownEdition, MarkOutOfRange, CountTooHigh, LayoutDisagrees}
+use Rattle.verdict.specs.declared.Verdict.the-variants.{RecordOutOfRange, StepAgainstItself, StartsMiscounted, FixedStepMoved, EffectsConflict}
+use Rattle.verdict.specs.declared.Verdict.the-variants.{ConditionFails, LevelOutOfBounds, GoalFails, StepsOverlap}
 
 -- the place where none is named
 abbrev pub nowhere : ℕ

@@ -1,4 +1,4 @@
--- Invariants of this crate: rounds over the starts, and the latest starts lowered goal by goal.
+-- Inner: rounds over the starts, and the latest starts lowered goal by goal.
 use Prim.Native.Nat.{ℕ, _+_, _≤_, _<_}
 use mathlib.Core.Path.{_≡_}
 use mathlib.Core.Bool.{cond}

@@ -41,7 +41,8 @@ fn demanded(gaps: &[u32], i: usize, k: usize, t: u32) -> u32
 // Raises the first n starts to what the orders from i, which starts at t, demand.
 fn raise_starts(n: usize, gaps: &[u32], i: usize, t: u32, at: &mut [u32; WIDTH])
     requires { ⌜ Gaps (now gaps) × Bounded n (aboveStarts + gapBias) (now at) × (n ≤ rowWidth) × (i < rowWidth) × (t < aboveStarts) ⌝ }
-    ensures { λ _. ⌜ Filled n (λ k. max (startIn (now (at .entry)) k) (demand (gapIn (now (gaps .entry))) gapBias i k t)) (now (at .entry)) (now (at .exit)) ⌝ }
+    ensures { λ _. ⌜ Filled n (λ k. max (startIn (now (at .entry)) k) (demand (gapIn (now (gaps .entry))) gapBias i k t)) (now (at .entry))
+        (now (at .exit)) ⌝ }
 {
     let mut k = 0;
     while k < n {
@@ -69,7 +70,8 @@ impl Starts {
     // The starts of the first n steps after a round. A step that starts as it did before the last round, in last, demanded the same
     // then, so its row is skipped.
     pub fn round(self, last: Starts, n: usize, gaps: &[u32]) -> Starts
-        requires { ⌜ Gaps (now gaps) × Bounded n (aboveStarts - 1) (self .at) × (n ≤ rowWidth) × Given n (gapIn (now gaps)) gapBias (startIn (last .at)) (startIn (self .at)) ⌝ }
+        requires { ⌜ Gaps (now gaps) × Bounded n (aboveStarts - 1) (self .at) × (n ≤ rowWidth)
+            × Given n (gapIn (now gaps)) gapBias (startIn (last .at)) (startIn (self .at)) ⌝ }
         ensures { λ r. ⌜ Filled n (raised n (gapIn (now (gaps .entry))) gapBias (startIn (self .at))) (self .at) (r .at) ⌝ }
     {
         let before = self.at;

@@ -28,7 +28,8 @@ loosen-spec =
     (λ c. search needs)
     (λ c. search needs)
     (λ c κs.
-    let p = c .before .before .before .before .before .before .before .before .before .before .before .before .before .before .before .before .before .before .before .before .before .pre in
+    let far = c .before .before .before .before .before .before .before .before .before .before in
+    let p = far .before .before .before .before .before .before .before .before .before .before .before .pre in
     record {
       form = p .form;
       header = p .header;
@@ -43,7 +44,8 @@ loosen-spec =
     (λ c. search needs)
     (λ c. search needs)
     (λ c κs.
-    let p = c .before .before .before .before .before .before .before .before .before .before .before .before .before .before .before .before .before .before .before .before .before .before .before .before .before .before .before .before .before .pre in
+    let far = c .before .before .before .before .before .before .before .before .before .before .before .before .before .before in
+    let p = far .before .before .before .before .before .before .before .before .before .before .before .before .before .before .before .pre in
     let sound = c .before .before .before .before .before .before .before .check-planned .ensures .sound
     (sym (c .before .before .before .before .before .before .number .ensures) ∙ c .before .before .before .before .before .if1 .left) in
     record {
@@ -54,7 +56,8 @@ loosen-spec =
     })
     (λ c. search needs)
     (λ c.
-    let p = c .before .before .before .before .before .before .before .before .before .before .before .before .before .before .before .before .before .before .before .before .before .before .before .before .before .before .before .before .before .before .before .before .pre in
+    let far = c .before .before .before .before .before .before .before .before .before .before .before .before .before .before .before .before in
+    let p = far .before .before .before .before .before .before .before .before .before .before .before .before .before .before .before .before .pre in
     let promised = c .before .before .before .before .before .before .before .before .before .before .check-planned .ensures in
     filed-promise _ _ _ _ _ promised (sym (c .before .before .before .before .before .before .before .before .before .number .ensures)
     ∙ c .before .before .before .before .before .before .before .before .if1 .left)

@@ -55,7 +55,8 @@ fill-gaps-spec =
           _ (d .pre .linked)) .whole (empty-gaps _ (d .pre .size) (d .pre .empty))))),
     ))
     (λ c.
-    let d = c .before .before .before .before .before .before .before .before .before .before .before .before .before .before .before .before .before .before .before .before .before .before .before .before .before .before .before .before .before .before .before .before .before .before .before .before .before in
+    let far = c .before .before .before .before .before .before .before .before .before .before .before .before .before .before .before .before .before .before in
+    let d = far .before .before .before .before .before .before .before .before .before .before .before .before .before .before .before .before .before .before .before in
     omega (
       arith,
       c .before .before .fill-serial .ensures .whole
@@ -67,7 +68,8 @@ fill-gaps-spec =
       d .pre .size,
     ))
     (λ c.
-    let d = c .before .before .before .before .before .before .before .before .before .before .before .before .before .before .before .before .before .before .before .before .before .before .before .before .before .before .before .before .before .before .before .before .before .before .before .before .before in
+    let far = c .before .before .before .before .before .before .before .before .before .before .before .before .before .before .before .before .before .before in
+    let d = far .before .before .before .before .before .before .before .before .before .before .before .before .before .before .before .before .before .before .before in
     table-of _ _ _ _ (raised-then _ _ _ _ _ _
     (raised-then _ _ _ _ _ _ (raised-then _ _ _ _ _ _
     (raised-then _ _ _ _ _ _

@@ -87,7 +87,8 @@ raise-pairs-spec =
       c .before .before .before .before .before .before .before .before .before .before .begin-of2 .ensures,
     ))
     (λ c.
-    let d = c .before .before .before .before .before .before .before .before .before .before .before .before .before .before .before .before .before .before .before .before in
+    let far = c .before .before .before .before .before .before .before .before .before .before in
+    let d = far .before .before .before .before .before .before .before .before .before .before in
     let l = c .before .before .before .before .before .before .before .before .before .before .before .before .loop in (
       omega (arith, l .inv .0),
       omega (

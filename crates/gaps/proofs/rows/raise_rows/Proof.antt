@@ -7,7 +7,8 @@ use Rattle.job.specs.Model.{view}
 use Rattle.timeline.specs.Sorted.{tickIn}
 use Rattle.gaps.specs.Points.{Reached, Among, From, Leads}
 use Rattle.gaps.proofs.Reached.{within-down, within-all, within-empty}
-use Rattle.gaps.proofs.Grouped.{place-listed, place-timed, place-step, place-near, from-at, ahead-still, ahead-after, leads-start, leads-low, noted-more}
+use Rattle.gaps.proofs.Grouped.{place-listed, place-timed, place-step, place-near, from-at, ahead-still, ahead-after, leads-start, leads-low}
+use Rattle.gaps.proofs.Grouped.{noted-more}
 use borrow.Author.Needs.{needs}
 use Rattle.gaps.proofs.rows.raise_rows.Statement.{statement}
 use Rattle.gaps.proofs.rows.raise_rows.Tie as tie
@@ -98,7 +99,8 @@ raise-rows-spec =
     ))
     (λ c. search needs)
     (λ c κs.
-    let d = c .before .before .before .before .before .before .before .before .before .before .before .before .before .before .before .before .before .before .before .before .before .before in
+    let far = c .before .before .before .before .before .before .before .before .before .before .before in
+    let d = far .before .before .before .before .before .before .before .before .before .before .before in
     let l = c .before .before .before .before .before .before .before .before .before .before .before .before .loop in (
       l .inv .6 .whole (d .pre .1),
       d .pre .0 .few,
@@ -123,7 +125,8 @@ raise-rows-spec =
     ))
     (λ c. omega (arith, c .before .before .before .before .before .before .before .before .before .before .before .before .before .if1 .taken))
     (λ c.
-    let d = c .before .before .before .before .before .before .before .before .before .before .before .before .before .before .before .before .before .before .before .before .before .before .before .before .before in
+    let far = c .before .before .before .before .before .before .before .before .before .before .before .before in
+    let d = far .before .before .before .before .before .before .before .before .before .before .before .before .before in
     let l = c .before .before .before .before .before .before .before .before .before .before .before .before .before .before .before .loop in
     let parts = c .before .before .before .before .before .before .before .before .note-from .ensures .parts in
     let leads = c .before .before .before .before .before .before .before .before .note-from .ensures .ahead in (

@@ -97,7 +97,8 @@ conflicts-spec =
           (c .before .before .record-at .ensures)),
     ))
     (λ c.
-    let p = c .before .before .before .before .before .before .before .before .before .before .before .before .before .before .before .before .before .before .pre in
+    let far = c .before .before .before .before .before .before .before .before .before in
+    let p = far .before .before .before .before .before .before .before .before .before .pre in
     let k = opposing-key (c .before .before .before .before .before .before .before .before .before .before .fact-key .ensures)
     (c .before .before .before .before .before .before .before .before .before .before .before .before .before .effect-fact .ensures)
     (c .before .before .before .before .before .before .before .before .before .before .before .other .ensures)
@@ -107,7 +108,8 @@ conflicts-spec =
     (omega (arith, c .before .before .before .before .before .if1 .taken, c .before .before .before .before .before .before .begin-of .ensures))
     (c .before .before .before .before .record-at .ensures) (c .before .meets .ensures) (c .if3 .taken))
     (λ c.
-    let p = c .before .before .before .before .before .before .before .before .before .before .before .before .before .before .before .before .before .before .pre in
+    let far = c .before .before .before .before .before .before .before .before .before in
+    let p = far .before .before .before .before .before .before .before .before .before .pre in
     let k = opposing-key (c .before .before .before .before .before .before .before .before .before .before .fact-key .ensures)
     (c .before .before .before .before .before .before .before .before .before .before .before .before .before .effect-fact .ensures)
     (c .before .before .before .before .before .before .before .before .before .before .before .other .ensures)
@@ -120,7 +122,8 @@ conflicts-spec =
     ))
     (λ c. omega (arith, c .before .before .before .before .before .if1 .taken, c .before .before .before .before .before .before .begin-of .ensures))
     (λ c.
-    let p = c .before .before .before .before .before .before .before .before .before .before .before .before .before .before .before .before .before .before .pre in
+    let far = c .before .before .before .before .before .before .before .before .before in
+    let p = far .before .before .before .before .before .before .before .before .before .pre in
     let k = opposing-key (c .before .before .before .before .before .before .before .before .before .before .fact-key .ensures)
     (c .before .before .before .before .before .before .before .before .before .before .before .before .before .effect-fact .ensures)
     (c .before .before .before .before .before .before .before .before .before .before .before .other .ensures)
