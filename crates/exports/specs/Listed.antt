@@ -1,10 +1,11 @@
 -- The numbers that the readers of order files put into a lent list, and the list afterwards.
-use Prim.Native.Nat.{ℕ, _-_}
+use Prim.Native.Nat.{ℕ, suc, _-_}
 use mathlib.Core.Bool.{cond}
 use mathlib.Core.List.{List, [], _∷_, _++_}
 use lib.Dec.{eqb}
 use lib.IntN.{ℤ, pos, negsuc}
 use lib.ListN.{length, take, drop}
+use Rattle.little_endian.specs.Bytes.{values}
 use Rattle.order_reader.specs.declared.HeaderRead.{HeaderRead}
 use Rattle.order_reader.specs.Answers.{headerNumber, headerValues}
 use Rattle.order_reader.specs.declared.RecordRead.{RecordRead}
@@ -17,7 +18,7 @@ filled list numbers = take (length list) numbers ++ drop (length numbers) list
 -- the 32 bits of an i32, read without a sign
 abbrev pub bits : ℤ → ℕ
 bits (pos n) = n
-bits (negsuc n) = 4294967295 - n
+bits (negsuc n) = values - suc n
 
 -- a header's numbers; none after a refusal
 abbrev pub headerList : HeaderRead → List ℕ

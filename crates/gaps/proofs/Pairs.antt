@@ -10,6 +10,7 @@ use lib.ListN.{getD}
 use Rattle.laws.specs.Fold.{largest}
 use Rattle.laws.proofs.Fold.{largest-le}
 use Rattle.job.specs.Model.{Model, longest}
+use Rattle.timeline.specs.Indexed.{keyCount, capacity}
 use Rattle.timeline.specs.Sorted.{recordIn, Sorted}
 use Rattle.timeline.proofs.Scanning.{key-rising}
 use Rattle.points.specs.Known.{TicksOf}
@@ -31,8 +32,8 @@ pub record Listed (m : Model) : Type 0 where
   pub tick : ℕ → ℕ
   pub ticks : List ℕ
   pub sorted : List ℕ
-  pub few : count ≤ 512
-  pub fewKeys : keys ≤ 512
+  pub few : count ≤ capacity
+  pub fewKeys : keys ≤ keyCount
   pub timed : TicksOf count tick ticks
   pub ordered : Sorted count keys key ticks sorted
   pub step : (k : ℕ) → k < count → pointStep m point k < m .steps

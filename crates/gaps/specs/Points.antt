@@ -4,6 +4,7 @@ use mathlib.Core.Path.{_≡_}
 use mathlib.Core.List.{List}
 use lib.ListN.{length, getD}
 use Rattle.job.specs.Model.{Model, longest}
+use Rattle.timeline.specs.Indexed.{keyCount}
 use Rattle.timeline.specs.Sorted.{recordIn, tickIn, Rising, Parts}
 use Rattle.orders.specs.Gaps.{strictly}
 use Rattle.gaps.specs.declared.rows.Groups.{Groups}
@@ -39,7 +40,7 @@ levelGroups key = record { from = Use; key = key; to = Use; other = key; wait = 
 
 -- a key whose records are points of a job's steps, in the order of their ticks
 pub record Group (m : Model) (point : Point) (ticks sorted : List ℕ) (key : ℕ) : Type 0 where
-  pub low : key < 512
+  pub low : key < keyCount
   pub rising : Rising ticks sorted (getD sorted key 0) (getD sorted (key + 1) 0)
   pub step : (p : ℕ) → getD sorted key 0 ≤ p → p < getD sorted (key + 1) 0 → pointStep m point (recordIn sorted p) < m .steps
   pub near : (p : ℕ) → getD sorted key 0 ≤ p → p < getD sorted (key + 1) 0 → pointAt m point (recordIn sorted p) ≤ longest

@@ -3,6 +3,7 @@ ghost use mathlib.Core.Path.{_≡_};
 ghost use Prim.Native.Nat.{_≤_, _<_};
 ghost use Rattle.job.specs.Model.{view};
 ghost use Rattle.job.specs.WellFormed.{WellFormed};
+ghost use Rattle.timeline.specs.Indexed.{keyCount};
 ghost use Rattle.validity.specs.Ticks.{scheduleOf};
 ghost use Rattle.points.specs.Known.{EffectsKnown, UsesKnown};
 ghost use Rattle.orders.specs.Gaps.{supportOrder, supportGap, opposingGap, conditionGap, levelGap, serialFirst, serialGap, gapOf};
@@ -29,6 +30,8 @@ use points::listed::list_conditions;
 use points::ticks::finish;
 use points::ticks::first_ticks;
 use points::ticks::start_of;
+use timeline::index::CAPACITY;
+use timeline::index::LIST_SIZE;
 
 // Rule 1 for condition c, by its link.
 fn raise_support(s: &[u8], job: Job, links: &[u16], c: u16, gaps: &mut [u32])
@@ -65,7 +68,7 @@ fn fill_support(s: &[u8], job: Job, links: &[u16], gaps: &mut [u32])
 
 // A fact with a value against the same with the other value.
 fn opposite(from: Point, key: usize, to: Point, wait: usize) -> Groups
-    requires { ⌜ key < 512 ⌝ }
+    requires { ⌜ key < keyCount ⌝ }
     ensures { λ r. ⌜ r ≡ oppositeGroups from key to wait ⌝ }
 {
     let other = key + 1 - 2 * (key % 2);
@@ -225,9 +228,9 @@ pub fn fill_gaps(
 {
     fill_support(s, job, links, gaps);
     fill_opposing(s, job, starts, ticks, facts, gaps);
-    let mut firsts = [0; 512];
+    let mut firsts = [0; CAPACITY];
     first_ticks(s, job, starts, &mut firsts);
-    let mut conditions = [0; 1025];
+    let mut conditions = [0; LIST_SIZE];
     list_conditions(s, job, starts, &firsts, &mut conditions);
     fill_conditions(s, job, starts, ticks, facts, &firsts, &conditions, gaps);
     fill_levels(s, job, starts, uses, levels, gaps);

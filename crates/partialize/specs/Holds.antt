@@ -8,7 +8,7 @@ use Rattle.job.specs.WellFormed.{WellFormed}
 use Rattle.validity.specs.Valid.{Valid}
 use Rattle.points.specs.Known.{EffectsKnown, UsesKnown}
 use Rattle.order_file.specs.Contents.{linkLimit}
-use Rattle.order_file.specs.Table.{gapIn, startIn, Gaps}
+use Rattle.order_file.specs.Table.{rowWidth, gapIn, startIn, Gaps}
 use Rattle.order_file.specs.Held.{NoneFrom}
 use Rattle.orders.specs.Links.{conditionLink, goalLink}
 use Rattle.orders.specs.Gaps.{gapOf}
@@ -27,7 +27,7 @@ pub record Holds (m : Model) (x : ℕ → ℕ) (rounds : ℕ) (limits latest ear
   pub earliestAt : (k : ℕ) → k < m .steps → startIn earliest k ≡ earliestOf m x k
   pub gapAt : (i k : ℕ) → i < m .steps → k < m .steps → gapIn gaps i k ≡ gapOf m x i k
   -- no entry for a step that is not counted
-  pub emptyAt : (i k : ℕ) → i < 64 → k < 64 → (i < m .steps → k < m .steps → ⊥) → gapIn gaps i k ≡ 0
+  pub emptyAt : (i k : ℕ) → i < rowWidth → k < rowWidth → (i < m .steps → k < m .steps → ⊥) → gapIn gaps i k ≡ 0
   pub conditionAt : (c : ℕ) → c < m .conditions → getD linked c 0 ≡ conditionLink m x c
   pub goalAt : (g : ℕ) → g < m .goals → getD linked (m .conditions + g) 0 ≡ goalLink m x g
 

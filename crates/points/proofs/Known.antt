@@ -1,30 +1,59 @@
 -- Laws of what is known before a search: ticks listed one by one, and what the key of an effect says of it.
 use Prim.Native.Nat.{ℕ, _+_, _*_, _-_, _%_, _≤_, _<_}
-use mathlib.Core.Path.{_≡_, sym, ap, ap₂, subst}
+use mathlib.Core.Path.{_≡_, refl, sym, ap, ap₂, _∙_}
 use mathlib.Core.Bool.{Bool, true, false, not, _&&_}
 use mathlib.Core.List.{List}
 use mathlib.Core.Logic.{⊎-elim}
 use native.Mathlib.Omega.{arith}
 use borrow.Author.Tests.{eqb-true, eqb-false, not-true, eq-eqb, ne-eqb}
 use lib.Dec.{eqb}
-use lib.ListN.{length, set, getD}
+use lib.ListN.{length, set, getD, length-set}
 use lib.Seq.{getD-set-same, getD-set-other}
 use Rattle.laws.proofs.Search.{either, and-both, last-or-below}
 use Rattle.points.specs.declared.index.Linking.the-variants.{EffectsByFact}
 use Rattle.job.specs.Model.{Model}
 use Rattle.job.specs.WellFormed.{WellFormed}
+use Rattle.points.specs.Known.{TicksOf}
+use Rattle.timeline.specs.Sorted.{tickLimit}
 use Rattle.points.specs.Keys.{factKey, keyOf}
 use Rattle.validity.specs.Ticks.{gives, opposes}
 
--- one more tick is listed
-pub timed-more :
-    (P : ℕ → ℕ → Type 0) (k v : ℕ) (l : List ℕ) → k < length l → P k v → ((j : ℕ) → j < k → P j (getD l j 0)) → (j : ℕ) → j < k + 1 → P j
-    (getD (set l k v) j 0)
-timed-more P k v l h p below j g =
-    ⊎-elim
-    (λ (q : j ≡ k). subst (λ i. P i (getD (set l k v) i 0)) (sym q) (subst (P k) (sym (getD-set-same l k v 0 h)) p))
-    (λ (r : j < k). subst (P j) (sym (getD-set-other l k j v 0 (omega arith))) (below j r))
-    (last-or-below (let w : j < k + 1 = g in omega arith))
+-- What a loop that lists ticks keeps: of n ticks the first k are listed.
+pub record Ticking (n : ℕ) (tick : ℕ → ℕ) (before ticks : List ℕ) (k : ℕ) : Type 0 where
+  pub room : n ≤ length before
+  pub within : k ≤ n
+  pub size : length ticks ≡ length before
+  pub each : (j : ℕ) → j < k → (getD ticks j 0 ≡ tick j) × (getD ticks j 0 < tickLimit)
+
+module _ {n : ℕ} {tick : ℕ → ℕ} {before : List ℕ} where
+  pub ticking-start : n ≤ length before → Ticking n tick before before 0
+  ticking-start room = record { room = room; within = omega arith; size = refl; each = λ j h. absurd (let z : j < 0 = h in omega arith) }
+
+  module _ {ticks : List ℕ} {k : ℕ} (i : Ticking n tick before ticks k) where
+    pub ticking-more : {v : ℕ} → k < n → (v ≡ tick k) × (v < tickLimit) → Ticking n tick before (set ticks k v) (k + 1)
+    ticking-more {v} h now =
+        record {
+          room = i .room;
+          within = omega arith;
+          size = length-set ticks k v ∙ i .size;
+          each = λ j l.
+              ⊎-elim
+              (λ (q : j ≡ k).
+              let here : getD (set ticks k v) j 0 ≡ v = ap (λ r. getD (set ticks k v) r 0) q ∙ getD-set-same ticks k v 0 (omega (arith, i .size, i .room)) in
+              (here ∙ now .0 ∙ ap tick (sym q), omega (arith, here, now .1)))
+              (λ (r : j < k).
+              let there : getD (set ticks k v) j 0 ≡ getD ticks j 0 = getD-set-other ticks k j v 0 (omega arith) in
+              (there ∙ i .each j r .0, omega (arith, there, i .each j r .1)))
+              (last-or-below (let w : j < k + 1 = l in omega arith));
+        }
+
+    pub ticking-end : n ≤ k → TicksOf n tick ticks
+    ticking-end h =
+        record {
+          size = omega (arith, i .size, i .room);
+          at = λ j l. i .each j (omega arith) .0;
+          low = λ j l. i .each j (omega arith) .1;
+        }
 
 module _ (m : Model) where
   -- an effect that gives a fact a value has their key

@@ -2,7 +2,7 @@
 ghost use mathlib.Core.Path.{_≡_};
 ghost use Prim.Native.Nat.{ℕ, _+_, _-_, _≤_, _<_, min};
 ghost use lib.ListN.{length};
-ghost use Rattle.job.specs.Model.{view};
+ghost use Rattle.job.specs.Model.{lastStart, view};
 ghost use Rattle.job.specs.WellFormed.{WellFormed};
 ghost use Rattle.order_file.specs.Table.{rowWidth, startIn};
 ghost use Rattle.orders.specs.Windows.{limitOf};
@@ -49,7 +49,7 @@ fn fixed_starts(s: &[u8], job: Job, none: u32) -> Starts
 pub fn limits(s: &[u8], job: Job) -> Starts
     requires { ⌜ WellFormed (view job (now s)) ⌝ }
     ensures { λ r. ⌜ ((k : ℕ) → k < job .count .steps → startIn (r .at) k ≡ limitOf (view job (now (s .entry))) k) ⌝ }
-    ensures { λ r. ⌜ Bounded (job .count .steps) 1000000 (r .at) ⌝ }
+    ensures { λ r. ⌜ Bounded (job .count .steps) lastStart (r .at) ⌝ }
 {
     fixed_starts(s, job, 0)
 }

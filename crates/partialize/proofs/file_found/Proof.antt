@@ -57,12 +57,7 @@ pub file-found-spec : {M : Type 1} → statement M
 file-found-spec =
     tie.close
     (tie.spec
-    (λ c. search needs)
-    (λ c. search needs)
-    (λ c. search needs)
-    (λ c. search needs)
-    (λ c κs. search needs)
-    (λ c κs. search needs)
+    (λ c. search needs) (λ c. search needs) (λ c. search needs) (λ c. search needs) (λ c κs. search needs) (λ c κs. search needs)
     (λ c κs. search needs)
     (λ c κs. let p = c .before .before .before .before .before .before .before .before .before .before .pre in (p .table .size, p .form .stepCount, p .rows))
     (λ c κs.
@@ -73,9 +68,7 @@ file-found-spec =
     let d = c .before in
     written-short (model d) x (d .before .before .before .before .before .before .before .before .before .before .before .before .pre .form) _
     (limits d) (latest d) (early d) (gaps d) (links d) (held d x l t) _ _ (fits d x l t) (c .if1 .taken))
-    (λ c. search needs)
-    (λ c. search needs)
-    (λ c. search needs)
+    (λ c. search needs) (λ c. search needs) (λ c. search needs)
     (λ c κs.
     let d = c .before .before .before .before .before .before .before .before .before in
     let p = d .before .before .before .before .before .before .before .before .before .before .before .before .pre in

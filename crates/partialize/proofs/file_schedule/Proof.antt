@@ -25,10 +25,7 @@ pub file-schedule-spec : {M : Type 1} → statement M
 file-schedule-spec =
     tie.close
     (tie.spec
-    (λ c. search needs)
-    (λ c κs. search needs)
-    (λ c. search needs)
-    (λ c. search needs)
+    (λ c. search needs) (λ c κs. search needs) (λ c. search needs) (λ c. search needs)
     (λ c κs.
     let p = c .before .before .before .before .before .before .before .before .before .before .before .before .pre in
     let f = c .before .before .before .find-links .ensures in
@@ -41,8 +38,7 @@ file-schedule-spec =
       size = refl;
       empty = zeros;
     })
-    (λ c. search needs)
-    (λ c. search needs)
+    (λ c. search needs) (λ c. search needs)
     (λ c κs. record {
       form =
           c .before .before .before .before .before .before .before .before .before .before .before .before .before .before .before .before .before .pre .effects .form;

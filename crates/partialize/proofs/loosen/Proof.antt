@@ -13,20 +13,15 @@ loosen-spec =
     (tie.spec
     (λ c. search needs)
     (λ c κs. let w = c .before .before .before .before .pre .wellFormed in search needs)
-    (λ c. search needs)
-    (λ c. search needs)
+    (λ c. search needs) (λ c. search needs)
     (λ c κs. let w = c .before .before .before .before .before .before .before .before .pre .wellFormed in search needs)
     (λ c. search needs)
     (λ c κs. let w = c .before .before .before .before .before .before .before .before .before .before .before .pre .wellFormed in search needs)
-    (λ c. search needs)
-    (λ c. search needs)
+    (λ c. search needs) (λ c. search needs)
     (λ c κs.
     let w = c .before .before .before .before .before .before .before .before .before .before .before .before .before .before .before .pre .wellFormed in
     search needs)
-    (λ c. search needs)
-    (λ c. search needs)
-    (λ c. search needs)
-    (λ c. search needs)
+    (λ c. search needs) (λ c. search needs) (λ c. search needs) (λ c. search needs)
     (λ c κs.
     let far = c .before .before .before .before .before .before .before .before .before .before in
     let p = far .before .before .before .before .before .before .before .before .before .before .before .pre in
@@ -39,10 +34,7 @@ loosen-spec =
     })
     (λ c κs. search needs)
     (λ c. refused-promise _ _ _ (c .before .before .check-planned .ensures) (λ z. c .if1 .taken (c .before .number .ensures ∙ z)))
-    (λ c. search needs)
-    (λ c. search needs)
-    (λ c. search needs)
-    (λ c. search needs)
+    (λ c. search needs) (λ c. search needs) (λ c. search needs) (λ c. search needs)
     (λ c κs.
     let far = c .before .before .before .before .before .before .before .before .before .before .before .before .before .before in
     let p = far .before .before .before .before .before .before .before .before .before .before .before .before .before .before .before .pre in

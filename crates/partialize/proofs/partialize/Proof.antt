@@ -22,8 +22,7 @@ pub partialize-spec : {M : Type 1} → statement M
 partialize-spec =
     tie.close
     (tie.spec
-    (λ c κs. search needs)
-    (λ c κs. search needs)
+    (λ c κs. search needs) (λ c κs. search needs)
     (λ c.
     refused-promise _ _ _ (c .before .before .open-job .ensures .refused (λ z. c .if1 .taken (c .before .number .ensures ∙ z)))
     (λ z. c .if1 .taken (c .before .number .ensures ∙ z)))

@@ -26,8 +26,7 @@ unfolding jobCheck
 check-job-spec =
     tie.close
     (tie.spec
-    (λ c κs. search needs)
-    (λ c κs. search needs)
+    (λ c κs. search needs) (λ c κs. search needs)
     (λ c. c .before .before .open-job .ensures .refused (λ z. c .if1 .taken (c .before .number .ensures ∙ z)))
     (λ c. search needs)
     (λ c κs. formed (c .before) .stepCount)

@@ -12,8 +12,7 @@ unfolding startsCheck countCheck
 check-listed-spec =
     tie.close
     (tie.spec
-    (λ c. search needs)
-    (λ c κs. search needs)
+    (λ c. search needs) (λ c κs. search needs)
     (λ c κs. c .before .before .before .before .before .before .before .before .pre .0 .timed)
     (λ c κs.
     let p = c .before .before .before .before .before .before .before .before .before .pre in

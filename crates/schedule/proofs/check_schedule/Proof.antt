@@ -15,8 +15,7 @@ unfolding scheduleCheck
 check-schedule-spec =
     tie.close
     (tie.spec
-    (λ c κs. search needs)
-    (λ c κs. search needs)
+    (λ c κs. search needs) (λ c κs. search needs)
     (λ c. schedule-promise _ _ (stands _ (c .before .before .read-form .ensures .verdict) (c .before .number .ensures) (c .if1 .taken)))
     (λ c κs.
     let f = c .before .before .before .read-form .ensures in

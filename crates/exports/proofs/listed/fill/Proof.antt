@@ -17,11 +17,7 @@ fill-spec =
     (λ numbers list₀ k₀ list k. (k ≤ length numbers) × ((length list ≡ length list₀) × (list ≡ filled list₀ (take k numbers))))
     (λ numbers list₀ k₀ list k. length numbers - k)
     (λ c. (omega arith, (refl, sym (filled-none _))))
-    (λ c. search needs)
-    (λ c. search needs)
-    (λ c κs. search needs)
-    (λ c. search needs)
-    (λ c. search needs)
+    (λ c. search needs) (λ c. search needs) (λ c κs. search needs) (λ c. search needs) (λ c. search needs)
     (λ c.
     let d = c .before .before in
     let g = d .before .before .before .before in

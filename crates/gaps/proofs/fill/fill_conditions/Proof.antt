@@ -17,8 +17,7 @@ fill-conditions-spec =
     (λ s job starts ticks sorted firsts conditions gaps₀ n key₀ gaps key. (key ≤ n) × Reached (job .count .steps)
     (Among 0 key (ConditionOrder (view job s) ticks sorted firsts conditions)) gaps₀ gaps)
     (λ s job starts ticks sorted firsts conditions gaps₀ n key₀ gaps key. n - key)
-    (λ c. search needs)
-    (λ c. search needs)
+    (λ c. search needs) (λ c. search needs)
     (λ c. (omega arith, within-empty _ _ _ _ _ (omega arith)))
     (λ c κs. omega (
       arith,

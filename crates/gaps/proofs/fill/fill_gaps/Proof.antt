@@ -23,12 +23,7 @@ fill-gaps-spec =
     (λ c κs.
     let d = c .before .before .before .before .before .before .before .before .before .before .before .before .before in
     (d .pre .effects, ((c .before .before .before .fill-support .ensures _ (d .pre .linked)) .whole (empty-gaps _ (d .pre .size) (d .pre .empty)))))
-    (λ c. search needs)
-    (λ c κs. search needs)
-    (λ c. search needs)
-    (λ c. search needs)
-    (λ c κs. search needs)
-    (λ c. search needs)
+    (λ c. search needs) (λ c κs. search needs) (λ c. search needs) (λ c. search needs) (λ c κs. search needs) (λ c. search needs)
     (λ c. search needs)
     (λ c κs.
     let d = c .before .before .before .before .before .before .before .before .before .before .before .before .before .before .before .before .before .before .before .before .before .before .before .before .before .before in (

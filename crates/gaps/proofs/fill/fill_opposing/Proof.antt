@@ -17,8 +17,7 @@ fill-opposing-spec =
     (λ s job starts ticks sorted gaps₀ n key₀ gaps key. (key ≤ n) × Reached (job .count .steps)
     (Among 0 key (OpposingOrder (view job s) ticks sorted)) gaps₀ gaps)
     (λ s job starts ticks sorted gaps₀ n key₀ gaps key. n - key)
-    (λ c. search needs)
-    (λ c. search needs)
+    (λ c. search needs) (λ c. search needs)
     (λ c. (omega arith, within-empty _ _ _ _ _ (omega arith)))
     (λ c κs. omega (arith, c .loop-test .taken, c .before .before .before .before .before .before .before .before .pre .0 .form .factCount))
     (λ c κs.

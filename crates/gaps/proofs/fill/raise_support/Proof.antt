@@ -19,8 +19,7 @@ raise-support-spec =
     (λ c.
     let d = c .before .before .before .before .before in
     (λ x l. raised-none _ _ _ (support-none _ _ _ (condition-link _ _ _ l _ (d .pre .1)) (c .if1 .taken)), d .pre .0 .whole))
-    (λ c κs. search needs)
-    (λ c κs. search needs)
+    (λ c κs. search needs) (λ c κs. search needs)
     (λ c κs.
     let d = c .before .before .before .before .before .before .before in (
       omega (
@@ -32,8 +31,7 @@ raise-support-spec =
       omega
           (arith, c .condition-from .ensures .0, from-near _ (d .pre .0 .form) _ (d .pre .1)),
     ))
-    (λ c κs. search needs)
-    (λ c κs. search needs)
+    (λ c κs. search needs) (λ c κs. search needs)
     (λ c κs.
     let d = c .before .before .before .before .before .before .before .before .before .before .before in (
       d .pre .0 .whole,

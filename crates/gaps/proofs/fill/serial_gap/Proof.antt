@@ -15,9 +15,7 @@ unfolding serialGap
 serial-gap-spec =
     tie.close
     (tie.spec
-    (λ c κs. search needs)
-    (λ c κs. search needs)
-    (λ c. search needs)
+    (λ c κs. search needs) (λ c κs. search needs) (λ c. search needs)
     (λ c. let d = c .before .before .before .before .before in omega (arith, c .step-length .ensures .0, d .pre .0 .lengthRange _ (d .pre .1)))
     (λ c.
     let d = c .before .before .before .before .before in (

@@ -9,14 +9,8 @@ unfolding pointAt
 at-of-spec =
     tie.close
     (tie.spec
-    (λ c. search needs)
-    (λ c κs. search needs)
-    (λ c. search needs)
-    (λ c κs. search needs)
-    (λ c. search needs)
-    (λ c κs. search needs)
-    (λ c. search needs)
-    (λ c κs. search needs)
+    (λ c. search needs) (λ c κs. search needs) (λ c. search needs) (λ c κs. search needs) (λ c. search needs) (λ c κs. search needs)
+    (λ c. search needs) (λ c κs. search needs)
     (λ c. rw (c .before .enum-told .given .1) (c .effect-at .ensures .0))
     (λ c. rw (c .before .enum-told2 .given .1) (c .use-at .ensures .0))
     (λ c. rw (c .before .enum-told3 .given .1) (c .condition-from .ensures .0))

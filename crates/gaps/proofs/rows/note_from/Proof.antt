@@ -23,8 +23,7 @@ note-from-spec =
     (λ c κs.
     let d = c .before .before .before .before .before .before in
     (d .pre .group .rising .size, omega (arith, c .if1 .taken, c .before .before .loop .inv .1, d .pre .group .rising .ends)))
-    (λ c. search needs)
-    (λ c. search needs)
+    (λ c. search needs) (λ c. search needs)
     (λ c. place-listed (c .before .before .before .before .before .before .before .before .pre .group) _
     (omega (arith, c .before .before .if1 .taken, c .before .before .before .begin-of .ensures))
     (omega (arith, c .before .before .if1 .taken, c .before .before .before .before .loop .inv .1)) (c .before .record-at .ensures))
@@ -37,9 +36,7 @@ note-from-spec =
           (c .before .before .record-at .ensures) (c .if2 .taken);
       ahead = l .inv .3;
     })
-    (λ c κs. search needs)
-    (λ c. search needs)
-    (λ c. search needs)
+    (λ c κs. search needs) (λ c. search needs) (λ c. search needs)
     (λ c.
     let d = c .before .before .before .before .before .before .before .before .before .before in
     omega (
@@ -68,9 +65,7 @@ note-from-spec =
           )) (c .before .before .before .before .before .record-at .ensures)
           (c .at-of .ensures),
     ))
-    (λ c. search needs)
-    (λ c κs. search needs)
-    (λ c. search needs)
+    (λ c. search needs) (λ c κs. search needs) (λ c. search needs)
     (λ c.
     let d = c .before .before .before .before .before .before .before .before .before .before .before .before .before in
     omega (

@@ -34,10 +34,7 @@ raise-pairs-spec =
     (λ c κs.
     let d = c .before .before .before .before .before .before .before .before .before .before .before in
     (d .pre .0 .first .rising .size, omega (arith, c .if1 .taken, c .before .begin-of2 .ensures, d .pre .0 .first .rising .ends)))
-    (λ c κs. search needs)
-    (λ c κs. search needs)
-    (λ c. search needs)
-    (λ c. search needs)
+    (λ c κs. search needs) (λ c κs. search needs) (λ c. search needs) (λ c. search needs)
     (λ c.
     let l = c .before .before .before .before .before .before .before .loop in
     place-listed

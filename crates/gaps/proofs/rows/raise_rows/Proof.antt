@@ -48,8 +48,7 @@ raise-rows-spec =
     (λ c κs.
     let d = c .before .before .before .before .before .before .before .before .before .before .before .before in
     (d .pre .0 .first .rising .size, omega (arith, c .if1 .taken, c .before .before .loop .inv .1, d .pre .0 .first .rising .ends)))
-    (λ c. search needs)
-    (λ c. search needs)
+    (λ c. search needs) (λ c. search needs)
     (λ c.
     let l = c .before .before .before .before .loop in
     place-listed (c .before .before .before .before .before .before .before .before .before .before .before .before .before .before .pre .0 .first)
@@ -79,9 +78,7 @@ raise-rows-spec =
           (omega (arith, c .before .before .before .before .if1 .taken)) a b));
       ahead = l .inv .5;
     })
-    (λ c κs. search needs)
-    (λ c. search needs)
-    (λ c κs. search needs)
+    (λ c κs. search needs) (λ c. search needs) (λ c κs. search needs)
     (λ c.
     let l = c .before .before .before .before .before .before .before .before .before .loop in
     search (

@@ -9,14 +9,8 @@ unfolding pointStep
 step-of-spec =
     tie.close
     (tie.spec
-    (λ c. search needs)
-    (λ c κs. search needs)
-    (λ c. search needs)
-    (λ c κs. search needs)
-    (λ c. search needs)
-    (λ c κs. search needs)
-    (λ c. search needs)
-    (λ c κs. search needs)
+    (λ c. search needs) (λ c κs. search needs) (λ c. search needs) (λ c κs. search needs) (λ c. search needs) (λ c κs. search needs)
+    (λ c. search needs) (λ c κs. search needs)
     (λ c. rw (c .before .enum-told .given .1) (c .effect-step .ensures))
     (λ c. rw (c .before .enum-told2 .given .1) (c .use-step .ensures))
     (λ c. rw (c .before .enum-told3 .given .1) (c .condition-step .ensures))

@@ -9,9 +9,7 @@ unfolding conditionLink
 condition-link-spec =
     tie.close
     (tie.spec
-    (λ c κs. search needs)
-    (λ c κs. search needs)
-    (λ c κs. search needs)
+    (λ c κs. search needs) (λ c κs. search needs) (λ c κs. search needs)
     (λ c κs.
     let d = c .before .before .before .before .before .before .before in
     let form = d .pre .0 .form in (

@@ -26,8 +26,7 @@ find-links-spec =
       },
       c .loop-test .taken,
     ))
-    (λ c. search needs)
-    (λ c. search needs)
+    (λ c. search needs) (λ c. search needs)
     (λ c. omega arith)
     (λ c. omega arith)
     (λ c. omega arith)

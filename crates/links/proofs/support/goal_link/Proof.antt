@@ -9,8 +9,7 @@ unfolding goalLink
 goal-link-spec =
     tie.close
     (tie.spec
-    (λ c κs. search needs)
-    (λ c κs. search needs)
+    (λ c κs. search needs) (λ c κs. search needs)
     (λ c κs.
     let d = c .before .before .before .before .before .before in
     let form = d .pre .0 .effects .form in (

@@ -10,9 +10,7 @@ write-file-spec =
     tie.close
     (tie.spec
     (λ c κs. let start = c .before .before .before .before .before .before .before in (omega arith, orders-most (start .pre)))
-    (λ c κs. search needs)
-    (λ c κs. search needs)
-    (λ c κs. search needs)
+    (λ c κs. search needs) (λ c κs. search needs) (λ c κs. search needs)
     (λ c κs.
     let header = c .before .before .before .before .before .before .before .before .before .before .before in
     let start = header .before .before .before .before .before .before .before .before in

@@ -11,6 +11,5 @@ unfolding factKey
 fact-key-spec =
     tie.close
     (tie.spec
-    (λ c. search needs)
-    (λ c. search needs)
+    (λ c. search needs) (λ c. search needs)
     (λ c. (refl, omega arith)))

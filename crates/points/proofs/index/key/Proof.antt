@@ -10,17 +10,8 @@ unfolding keyOf
 key-spec =
     tie.close
     (tie.spec
-    (λ c. search needs)
-    (λ c κs. search needs)
-    (λ c κs. search needs)
-    (λ c κs. search needs)
-    (λ c. search needs)
-    (λ c κs. search needs)
-    (λ c κs. search needs)
-    (λ c κs. search needs)
-    (λ c. search needs)
-    (λ c κs. search needs)
-    (λ c κs. search needs)
+    (λ c. search needs) (λ c κs. search needs) (λ c κs. search needs) (λ c κs. search needs) (λ c. search needs) (λ c κs. search needs)
+    (λ c κs. search needs) (λ c κs. search needs) (λ c. search needs) (λ c κs. search needs) (λ c κs. search needs)
     (λ c. rw (c .before .before .before .enum-told .given .1)
     (c .fact-key .ensures .0 ∙ ap₂ factKey (c .before .before .effect-fact .ensures) (c .before .effect-value .ensures), c .fact-key .ensures .1))
     (λ c. rw (c .before .before .before .enum-told2 .given .1) (

@@ -8,8 +8,7 @@ pub list-conditions-spec : {M : Type 1} → statement M
 list-conditions-spec =
     tie.close
     (tie.spec
-    (λ c. search needs)
-    (λ c. search needs)
+    (λ c. search needs) (λ c. search needs)
     (λ c κs. omega (arith, c .before .before .before .before .before .pre .0 .conditionCount))
     (λ c. search needs)
     (λ c κs.

@@ -8,8 +8,7 @@ pub list-effects-spec : {M : Type 1} → statement M
 list-effects-spec =
     tie.close
     (tie.spec
-    (λ c. search needs)
-    (λ c. search needs)
+    (λ c. search needs) (λ c. search needs)
     (λ c κs. omega (arith, c .before .before .before .before .before .pre .0 .effectCount))
     (λ c. search needs)
     (λ c κs.

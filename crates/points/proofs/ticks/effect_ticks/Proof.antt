@@ -1,13 +1,9 @@
 -- The ticks so far are listed.
-use Prim.Native.Nat.{ℕ, _≤_, _<_, _-_}
-use mathlib.Core.Path.{_≡_, refl, _∙_}
-use native.Mathlib.Nat.{not-suc-le-zero}
+use Prim.Native.Nat.{_-_}
 use native.Mathlib.Omega.{arith}
-use lib.ListN.{length, getD, length-set}
-use denote.Ref.{now}
 use Rattle.job.specs.Model.{view}
 use Rattle.validity.specs.Ticks.{scheduleOf, effectTick}
-use Rattle.points.proofs.Known.{timed-more}
+use Rattle.points.proofs.Known.{Ticking, ticking-start, ticking-more, ticking-end}
 use borrow.Author.Needs.{needs}
 use Rattle.points.proofs.ticks.effect_ticks.Statement.{statement}
 use Rattle.points.proofs.ticks.effect_ticks.Tie as tie
@@ -16,33 +12,12 @@ pub effect-ticks-spec : {M : Type 1} → statement M
 effect-ticks-spec =
     tie.close
     (tie.spec
-    (λ s job starts ticks₀ n e₀ ticks e. (e ≤ n) × (length ticks ≡ length ticks₀) × ((j : ℕ) → j < e
-    → (getD ticks j 0 ≡ effectTick (view job s) (scheduleOf starts) j) × (getD ticks j 0 < 8589934592)))
+    (λ s job starts ticks₀ n e₀ ticks e. Ticking n (effectTick (view job s) (scheduleOf starts)) ticks₀ ticks e)
     (λ s job starts ticks₀ n e₀ ticks e. n - e)
-    (λ c. (search needs, refl, λ j h. absurd (not-suc-le-zero h)))
-    (λ c κs. search needs)
-    (λ c. search needs)
-    (λ c. search needs)
-    (λ c. omega (arith, c .before .loop-test .taken, c .before .before .before .before .before .before .pre, c .before .before .loop .inv .1))
-    (λ c. search needs)
-    (λ c. search needs)
-    (λ c.
-    let h = c .before .before .loop in (
-      search needs,
-      length-set (h .ticks) (h .e) (c .effect-tick .result) ∙ h .inv .1,
-      timed-more
-          (λ j v. (v ≡ effectTick (view (c .before .before .before .before .before .before .args .job)
-          (now (c .before .before .before .before .before .before .args .s)))
-          (scheduleOf (now (c .before .before .before .before .before .before .args .starts))) j) × (v < 8589934592)) (h .e) (c .effect-tick .result)
-          (h .ticks) (omega (arith, c .before .loop-test .taken, c .before .before .before .before .before .before .pre, h .inv .1))
-          (c .effect-tick .ensures) (h .inv .2),
-    ))
-    (λ c. c .before .loop .inv .1)
-    (λ c.
-    let h = c .before .loop in
-    record {
-      size = omega (arith, c .before .before .before .before .before .pre, h .inv .1);
-      at = λ k l. h .inv .2 k
-          (omega (arith, c .loop-test .left)) .0;
-      low = λ k l. h .inv .2 k (omega (arith, c .loop-test .left)) .1;
-    }))
+    (λ c. ticking-start (c .before .before .before .pre))
+    (λ c κs. search needs) (λ c. search needs) (λ c. search needs)
+    (λ c. let i = c .before .before .loop .inv in omega (arith, c .before .loop-test .taken, i .room, i .size))
+    (λ c. search needs) (λ c. search needs)
+    (λ c. ticking-more (c .before .before .loop .inv) (c .before .loop-test .taken) (c .effect-tick .ensures))
+    (λ c. c .before .loop .inv .size)
+    (λ c. ticking-end (c .before .loop .inv) (c .loop-test .left)))

@@ -7,6 +7,5 @@ pub opposes-spec : {M : Type 1} → statement M
 opposes-spec =
     tie.close
     (tie.spec
-    (λ c κs. search needs)
-    (λ c κs. search needs)
+    (λ c κs. search needs) (λ c κs. search needs)
     (λ c. cc))

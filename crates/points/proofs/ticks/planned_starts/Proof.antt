@@ -20,13 +20,9 @@ planned-starts-spec =
     (λ s job n starts₀ k₀ starts k. (k ≤ n) × (length starts ≡ 64) × (take k starts ≡ tabulate k (view job s .start)))
     (λ s job n starts₀ k₀ starts k. n - k)
     (λ c. (search needs, refl, refl))
-    (λ c. search needs)
-    (λ c κs. search needs)
-    (λ c. search needs)
-    (λ c. search needs)
+    (λ c. search needs) (λ c κs. search needs) (λ c. search needs) (λ c. search needs)
     (λ c. omega (arith, c .before .before .before .before .pre))
-    (λ c. search needs)
-    (λ c. search needs)
+    (λ c. search needs) (λ c. search needs)
     (λ c.
     let h = c .before .before .loop in
     let p = c .before .before .before .before .pre in (

@@ -20,13 +20,10 @@ after-all-spec =
     (λ s job starts ticks after₀ e₀ after e. (e ≤ job .count .effects) × (after ≡ largest e (λ k. suc (effectTick (view job s) (scheduleOf starts) k))))
     (λ s job starts ticks after₀ e₀ after e. job .count .effects - e)
     (λ c. (search needs, largest-start _))
-    (λ c. search needs)
-    (λ c. search needs)
+    (λ c. search needs) (λ c. search needs)
     (λ c. omega (arith, c .before .if1 .taken, c .before .before .before .before .before .before .before .pre .size))
     (λ c. omega (arith, c .before .before .before .before .before .before .before .pre .low _ (c .before .if1 .taken)))
-    (λ c κs. search needs)
-    (λ c. search needs)
-    (λ c. search needs)
+    (λ c κs. search needs) (λ c. search needs) (λ c. search needs)
     (λ c.
     let h = c .before .before .if1 .taken in (
       omega (arith, h),

@@ -12,11 +12,7 @@ pub given-before-spec : {M : Type 1} → statement M
 given-before-spec =
     tie.close
     (tie.spec
-    (λ c κs. search needs)
-    (λ c. search needs)
-    (λ c κs. search needs)
-    (λ c. search needs)
-    (λ c. search needs)
+    (λ c κs. search needs) (λ c. search needs) (λ c κs. search needs) (λ c. search needs) (λ c. search needs)
     (λ c. omega (
       arith,
       c .before .record-at .ensures,

@@ -15,8 +15,7 @@ pub seen-as-spec : {M : Type 1} → statement M
 seen-as-spec =
     tie.close
     (tie.spec
-    (λ c κs. search needs)
-    (λ c κs. search needs)
+    (λ c κs. search needs) (λ c κs. search needs)
     (λ c κs. let p = c .before .before .before .before .before .before .pre in (p .0, p .1, omega (arith, c .other .ensures)))
     (λ c κs. search needs)
     (λ c.

@@ -13,16 +13,10 @@ pub read-field-spec : {M : Type 1} → statement M
 read-field-spec =
     tie.close
     (tie.spec
-    (λ c. search needs)
-    (λ c κs. search needs)
-    (λ c. search needs)
-    (λ c κs. search needs)
-    (λ c. search needs)
-    (λ c. search needs)
+    (λ c. search needs) (λ c κs. search needs) (λ c. search needs) (λ c κs. search needs) (λ c. search needs) (λ c. search needs)
     (λ c. sym (length-take-le (c .before .before .number-in .result)
     (now (c .before .before .before .before .before .before .before .before .before .args .buf)) (search needs)))
-    (λ c κs. search needs)
-    (λ c. search needs)
+    (λ c κs. search needs) (λ c. search needs)
     (λ c.
     let n = c .before .before .before .before .before .number-in .result in
     let b = now (c .before .before .before .before .before .before .before .before .before .before .before .before .args .buf) in

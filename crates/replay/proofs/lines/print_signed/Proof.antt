@@ -58,12 +58,10 @@ print-signed-spec =
     tie.close
     (tie.spec
     cast-wide
-    (λ c. search needs)
-    (λ c κs. search needs)
+    (λ c. search needs) (λ c κs. search needs)
     sub-print-decimal
     cast-print-decimal
     (λ c κs. search needs)
     cast-print-number
-    (λ c κs. search needs)
-    (λ c. search needs)
+    (λ c κs. search needs) (λ c. search needs)
     (λ c. search needs))

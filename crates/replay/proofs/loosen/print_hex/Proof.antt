@@ -11,10 +11,5 @@ print-hex-spec =
     (tie.spec
     (λ bytes i₀ i. i ≤ length bytes)
     (λ bytes i₀ i. length bytes - i)
-    (λ c. search needs)
-    (λ c. search needs)
-    (λ c κs. search needs)
-    (λ c. search needs)
-    (λ c. search needs)
-    (λ c. search needs)
+    (λ c. search needs) (λ c. search needs) (λ c κs. search needs) (λ c. search needs) (λ c. search needs) (λ c. search needs)
     (λ c. search needs))

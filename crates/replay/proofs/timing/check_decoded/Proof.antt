@@ -10,8 +10,7 @@ pub check-decoded-spec : {M : Type 1} → statement M
 check-decoded-spec =
     tie.close
     (tie.spec
-    (λ c κs. search needs)
-    (λ c. search needs)
+    (λ c κs. search needs) (λ c. search needs)
     (λ c. sym (length-take-le (c .before .before .before .before .args .n) (c .before .decode .result) (omega (arith, c .before .decode .ensures))))
     (λ c κs. search needs)
     (λ c. search needs))

@@ -8,9 +8,7 @@ pub change-spec : {M : Type 1} → statement M
 change-spec =
     tie.close
     (tie.spec
-    (λ c κs. search needs)
-    (λ c. search needs)
-    (λ c. search needs)
+    (λ c κs. search needs) (λ c. search needs) (λ c. search needs)
     (λ c. (rw (c .before .if1 .taken) (omega arith), omega arith))
     (λ c. (rw (c .before .if1 .taken) (omega arith), omega arith))
     (λ c. (rw (c .before .if1 .left) (omega arith), omega arith))

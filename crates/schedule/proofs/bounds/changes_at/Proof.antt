@@ -19,8 +19,7 @@ changes-at-spec =
     sums × (sums₀ .place ≤ sums .place) × ((q : ℕ) → sums₀ .place ≤ q → q < sums .place → tickIn ticks sorted q < tick + 1))
     (λ s job starts ticks sorted l tick sums₀ sums. getD sorted (l + 1) 0 - sums .place)
     (λ c κs. let p = c .before .before .before .before .pre in (p .known .ordered .size, omega (arith, p .left, level-ends (p .known) _ (p .counted))))
-    (λ c. search needs)
-    (λ c. search needs)
+    (λ c. search needs) (λ c. search needs)
     (λ c.
     let p = c .before .before .before .before .before .before .pre in
     omega (arith, p .known .timed .size, use-counted (p .known) _ (p .counted) _ (p .summed .begins) (p .left) (c .before .record-at .ensures)))
@@ -32,8 +31,7 @@ changes-at-spec =
     (λ c κs.
     let p = c .before .before .before .before .before .before .before .before .before .before .pre in
     (p .known .ordered .size, omega (arith, level-ends (p .known) _ (p .counted), c .if1 .taken, c .before .before .begin-of .ensures)))
-    (λ c. search needs)
-    (λ c. search needs)
+    (λ c. search needs) (λ c. search needs)
     (λ c.
     let p = c .before .before .before .before .before .before .before .before .before .before .before .before .pre in
     omega (

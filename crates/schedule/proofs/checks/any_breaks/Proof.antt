@@ -37,8 +37,7 @@ any-breaks-spec =
     let p = c .before .before .before .before .before .before .before .before .pre in
     let l = key-listed (p .known) _ _ (p .known .form .conditionFact _ (p .counted)) (omega arith) (p .opposite) in
     (p .known .ordered .size, place-low (p .known) _ l _ (omega (arith, c .if1 .taken, c .before .begin-of .ensures))))
-    (λ c. search needs)
-    (λ c. search needs)
+    (λ c. search needs) (λ c. search needs)
     (λ c.
     let p = c .before .before .before .before .before .before .before .before .before .before .pre in
     let l = key-listed (p .known) _ _ (p .known .form .conditionFact _ (p .counted)) (omega arith) (p .opposite) in

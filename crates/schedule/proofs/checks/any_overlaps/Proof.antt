@@ -20,7 +20,6 @@ any-overlaps-spec =
     (λ c. (search needs, any-start _))
     (λ c κs. search needs)
     (λ c. any-found _ _ _ (c .before .before .loop-test .taken) (c .before .overlaps .ensures) (c .if1 .taken))
-    (λ c. search needs)
-    (λ c. search needs)
+    (λ c. search needs) (λ c. search needs)
     (λ c. (search needs, any-more _ _ (c .before .before .before .loop .inv .1) (c .before .overlaps .ensures) (c .if1 .left)))
     (λ c. any-end _ _ _ (c .before .loop .inv .1) (c .before .loop .inv .0) (c .loop-test .left)))

@@ -10,12 +10,7 @@ pub any-undoes-spec : {M : Type 1} → statement M
 any-undoes-spec =
     tie.close
     (tie.spec
-    (λ c κs. search needs)
-    (λ c κs. search needs)
-    (λ c κs. search needs)
-    (λ c κs. search needs)
-    (λ c κs. search needs)
-    (λ c. search needs)
+    (λ c κs. search needs) (λ c κs. search needs) (λ c κs. search needs) (λ c κs. search needs) (λ c κs. search needs) (λ c. search needs)
     (λ c κs.
     let p = c .before .before .before .before .before .before .before .before .before .pre in
     let k = opposing-key (c .before .fact-key .ensures) (c .before .before .before .before .goal-fact .ensures) (c .before .before .other .ensures)

@@ -7,9 +7,7 @@ pub broken-spec : {M : Type 1} → statement M
 broken-spec =
     tie.close
     (tie.spec
-    (λ c. search needs)
-    (λ c κs. search needs)
-    (λ c. search needs)
+    (λ c. search needs) (λ c κs. search needs) (λ c. search needs)
     (λ c κs. (
       c .before .before .before .before .before .before .before .before .pre .0 .effects,
       rw (c .enum-told2 .given .1) at
@@ -34,8 +32,7 @@ broken-spec =
       counted = rw (c .enum-told5 .given .1) at
           (c .before .before .before .before .before .before .before .before .pre .1);
     })
-    (λ c. search needs)
-    (λ c κs. search needs)
+    (λ c. search needs) (λ c κs. search needs)
     (λ c. rw (c .before .enum-told .given .1) (c .moved .ensures))
     (λ c. rw (c .before .enum-told2 .given .1) (c .conflicts .ensures))
     (λ c. rw (c .before .enum-told3 .given .1) (c .condition-fails .ensures))

@@ -15,10 +15,7 @@ unfolding conditionFails
 condition-fails-spec =
     tie.close
     (tie.spec
-    (λ c κs. search needs)
-    (λ c κs. search needs)
-    (λ c κs. search needs)
-    (λ c κs. search needs)
+    (λ c κs. search needs) (λ c κs. search needs) (λ c κs. search needs) (λ c κs. search needs)
     (λ c κs.
     let p = c .before .before .before .before .before .before .before .before .pre in
     key-searched (p .0) _ (key-listed (p .0) _ _ (p .0 .form .conditionFact _ (p .1)) (p .0 .form .conditionValue _ (p .1))
@@ -28,8 +25,7 @@ condition-fails-spec =
     given-ready (p .0) _ _ (p .0 .form .conditionFact _ (p .1)) (p .0 .form .conditionValue _ (p .1)) _
     (c .before .fact-key .ensures .0 ∙ ap₂ factKey (c .before .before .before .before .condition-fact .ensures)
     (c .before .before .before .condition-value .ensures)) (c .place-from .ensures))
-    (λ c κs. search needs)
-    (λ c κs. search needs)
+    (λ c κs. search needs) (λ c κs. search needs)
     (λ c κs.
     let p = c .before .before .before .before .before .before .before .before .before .before .before .before .pre in
     key-searched (p .0) _ (key-listed (p .0) _ _ (p .0 .form .conditionFact _ (p .1)) (omega arith)

@@ -20,11 +20,7 @@ conflicts-spec =
     (tie.spec
     (λ s job starts ticks sorted e key tick p₀ p. Scanned ticks sorted key (spec.meets (view job s) (scheduleOf starts) e) tick p₀ p)
     (λ s job starts ticks sorted e key tick p₀ p. getD sorted (key + 1) 0 - p)
-    (λ c κs. search needs)
-    (λ c κs. search needs)
-    (λ c κs. search needs)
-    (λ c κs. search needs)
-    (λ c. search needs)
+    (λ c κs. search needs) (λ c κs. search needs) (λ c κs. search needs) (λ c κs. search needs) (λ c. search needs)
     (λ c. omega (
       arith,
       c .before .before .before .before .before .before .before .before .before .pre .1,
@@ -55,8 +51,7 @@ conflicts-spec =
     (c .before .before .before .before .before .before .before .effect-value .ensures) in
     let l = key-listed (p .0) _ _ (p .0 .form .effectFact _ (p .1)) (omega arith) (k .0) in
     (p .0 .ordered .size, place-low (p .0) _ l _ (omega (arith, c .if1 .taken, c .before .begin-of .ensures))))
-    (λ c. search needs)
-    (λ c. search needs)
+    (λ c. search needs) (λ c. search needs)
     (λ c.
     let p = c .before .before .before .before .before .before .before .before .before .before .before .before .before .before .before .pre in
     let k = opposing-key (c .before .before .before .before .before .before .before .fact-key .ensures)

@@ -24,7 +24,6 @@ first-breaking-spec =
           (arith, c .loop-test .taken, c .before .before .before .before .before .before .before .before .pre .1),
     ))
     (λ c. lowest-found _ _ _ (c .before .before .before .loop .inv .1) (c .before .before .loop-test .taken) (c .before .broken .ensures) (c .if1 .taken))
-    (λ c. search needs)
-    (λ c. search needs)
+    (λ c. search needs) (λ c. search needs)
     (λ c. (search needs, lowest-more _ _ (c .before .before .before .loop .inv .1) (c .before .broken .ensures) (c .if1 .left)))
     (λ c. lowest-end _ _ _ (c .before .loop .inv .1) (c .before .loop .inv .0) (c .loop-test .left)))

@@ -9,8 +9,7 @@ unfolding goalFails
 goal-fails-spec =
     tie.close
     (tie.spec
-    (λ c κs. search needs)
-    (λ c κs. search needs)
+    (λ c κs. search needs) (λ c κs. search needs)
     (λ c κs.
     let p = c .before .before .before .before .before .before .pre in (
       p .known,

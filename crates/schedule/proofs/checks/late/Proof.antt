@@ -14,9 +14,7 @@ late-spec =
     (tie.spec
     (λ c κs. search needs)
     (λ c. rw (eq-eqb _ _ (sym (c .before .goal-deadline .ensures .0) ∙ c .if1 .taken)))
-    (λ c κs. search needs)
-    (λ c κs. search needs)
-    (λ c. search needs)
+    (λ c κs. search needs) (λ c κs. search needs) (λ c. search needs)
     (λ c κs.
     let p = c .before .before .before .before .before .before .before .before .pre in
     (p .0, rw (c .before .goal-fact .ensures) (p .0 .form .goalFact _ (p .1)), rw (c .goal-value .ensures) (p .0 .form .goalValue _ (p .1))))

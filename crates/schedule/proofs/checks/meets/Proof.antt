@@ -23,11 +23,7 @@ meets-spec =
     (λ c.
     let p = c .before .before .before .before .before .before .before .pre in
     meets-apart _ _ _ _ (λ q. c .if1 .taken (p .0 .timed .at _ (p .1) ∙ q ∙ sym (p .0 .timed .at _ (p .2)))))
-    (λ c κs. search needs)
-    (λ c κs. search needs)
-    (λ c κs. search needs)
-    (λ c κs. search needs)
-    (λ c κs. search needs)
+    (λ c κs. search needs) (λ c κs. search needs) (λ c κs. search needs) (λ c κs. search needs) (λ c κs. search needs)
     (λ c.
     let p = c .before .before .before .before .before .before .before .before .before .before .before .before .pre in
     let a = c .before .before .before .before .before .before .before .before .before .before .before .before .args in

@@ -27,10 +27,7 @@ pub +put-decimal-spec : {M : Type 1} → statement M
 +put-decimal-spec =
     close μ-put-decimal λ t.
     put-decimal-lts.spec (put-digit-reads.Asked, put-digit-reads.Learnt, put-decimal-below t, put-decimal.Post) (put-decimal-at t) put-decimal.Post
-    (λ c κs. search needs)
-    (λ c κs. search needs)
-    (λ c κs. search needs)
-    (λ c. search needs)
+    (λ c κs. search needs) (λ c κs. search needs) (λ c κs. search needs) (λ c. search needs)
     (λ c. put-one _ (omega arith) (c .before .before .put-digit .ensures))
     (λ c. search needs)
     (λ c.

@@ -16,11 +16,7 @@ put-word-spec =
     (λ word at out₀ k₀ out k. (k ≤ length word) × Put out₀ at (take k word) out (at + k))
     (λ word at out₀ k₀ out k. length word - k)
     (λ c. (omega arith, record { bytes = refl; ends = refl }))
-    (λ c. search needs)
-    (λ c. search needs)
-    (λ c κs. search needs)
-    (λ c. search needs)
-    (λ c. search needs)
+    (λ c. search needs) (λ c. search needs) (λ c κs. search needs) (λ c. search needs) (λ c. search needs)
     (λ c.
     let put = c .before .before in
     (omega arith, word-more _ _ _ _ (put .before .before .before .before .loop .inv .1) (omega arith) (put .put-byte .ensures)))

@@ -15,26 +15,14 @@ pub lower-latest-spec : {M : Type 1} → statement M
 lower-latest-spec =
     tie.close
     (tie.spec
-    (λ c κs. search needs)
-    (λ c. search needs)
-    (λ c. search needs)
-    (λ c. search needs)
-    (λ c. search needs)
-    (λ c κs. search needs)
-    (λ c κs. search needs)
-    (λ c κs. search needs)
-    (λ c κs. search needs)
-    (λ c. search needs)
-    (λ c. search needs)
-    (λ c. search needs)
+    (λ c κs. search needs) (λ c. search needs) (λ c. search needs) (λ c. search needs) (λ c. search needs) (λ c κs. search needs)
+    (λ c κs. search needs) (λ c κs. search needs) (λ c κs. search needs) (λ c. search needs) (λ c. search needs) (λ c. search needs)
     (λ c.
     let t = c .before .before in
     let e = t .before .before .before in
     let b = e .before .before .before .before .before .before in
     omega (arith, ltb-true (e .effect-step .result) (b .args .job .count .steps) (search (and-l, and-r, t .if1 .taken)), b .pre .0 .form .stepCount))
-    (λ c κs. search needs)
-    (λ c. search needs)
-    (λ c. search needs)
+    (λ c κs. search needs) (λ c. search needs) (λ c. search needs)
     (λ c.
     let t = c .before .before .before .before in
     let e = t .before .before .before in
