@@ -11,7 +11,7 @@ use lib.Dec.{eqb}
 use lib.ListN.{length, getD, set, replicate, length-set, length-replicate, getD-replicate, List·getD-eq-default}
 use lib.Seq.{getD-set-same, getD-set-other}
 use Rattle.job.specs.Model.{Model, longest}
-use Rattle.timeline.specs.Sorted.{recordIn, tickIn, Rising, Parts}
+use Rattle.timeline.specs.Sorted.{recordIn, tickIn, Rising, Parts, tickLimit}
 use Rattle.orders.specs.Gaps.{strictly}
 use Rattle.gaps.specs.declared.rows.Groups.{Groups}
 use Rattle.gaps.specs.declared.rows.Point.{Point}
@@ -28,8 +28,8 @@ module _ {m : Model} {point : Point} {ticks sorted : List ℕ} {key : ℕ} (grou
   pub place-listed : r < length ticks
   place-listed = subst (λ k. k < length ticks) (sym there) (group .rising .known p from to)
 
-  pub place-timed : getD ticks r 0 < 8589934592
-  place-timed = subst (λ k. getD ticks k 0 < 8589934592) (sym there) (group .rising .early p from to)
+  pub place-timed : getD ticks r 0 < tickLimit
+  place-timed = subst (λ k. getD ticks k 0 < tickLimit) (sym there) (group .rising .early p from to)
 
   pub place-step : {step : ℕ} → step ≡ pointStep m point r → step < m .steps
   place-step e = subst (λ k. k < m .steps) (sym (e ∙ ap (pointStep m point) there)) (group .step p from to)

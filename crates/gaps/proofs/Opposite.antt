@@ -6,6 +6,7 @@ use native.Mathlib.Decide.{ℕ-discrete}
 use native.Mathlib.Omega.{arith}
 use borrow.Author.Tests.{eqb-true, eqb-false, not-true, eq-eqb, ne-eqb}
 use lib.Dec.{eqb}
+use Rattle.timeline.specs.Indexed.{keyCount}
 use Rattle.laws.proofs.Search.{and-both}
 use Rattle.points.specs.Keys.{factKey}
 use Rattle.gaps.specs.Points.{otherKey}
@@ -13,7 +14,7 @@ use Rattle.gaps.specs.Points.{otherKey}
 -- The key of a fact with a value, in a well-formed job: the value is its parity.
 key-is : (fact value : ℕ) → fact < 256 → value ≤ 1 → factKey fact value ≡ 2 * fact + value
 unfolding factKey
-key-is fact value f v = let key : (2 * fact + value) % 512 ≡ 2 * fact + value = omega arith in key
+key-is fact value f v = let key : (2 * fact + value) % keyCount ≡ 2 * fact + value = omega arith in key
 
 parity : (fact value : ℕ) → value ≤ 1 → (2 * fact + value) % 2 ≡ value
 parity fact value v =

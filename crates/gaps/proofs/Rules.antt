@@ -8,6 +8,7 @@ use native.Mathlib.Decide.{decLt}
 use native.Mathlib.Omega.{arith}
 use borrow.Author.Tests.{eqb-true, eqb-false, not-true, ltb-true, eq-eqb, lt-ltb}
 use lib.Dec.{eqb, ltb}
+use Rattle.timeline.specs.Indexed.{keyCount}
 use Rattle.laws.specs.Fold.{largest}
 use Rattle.laws.proofs.Fold.{largest-le}
 use Rattle.laws.proofs.Search.{and-both}
@@ -283,7 +284,7 @@ module _ {m : Model} {x : ℕ → ℕ} {ticks sorted : List ℕ} (uses : UsesKno
   level-at u h =
       let low : m .useLevel u < m .levels = uses .form .useLevel u h in
       let few : m .levels ≤ 16 = uses .form .levelCount in
-      let key : m .useLevel u % 512 ≡ m .useLevel u = omega arith in
+      let key : m .useLevel u % keyCount ≡ m .useLevel u = omega arith in
       key
 
   levels-rule : Rule m useList useList (λ key. key) 1 (λ u v. eqb (m .useLevel u) (m .useLevel v)) (λ u v. ltb (useTick m x u) (useTick m x v))

@@ -4,6 +4,7 @@ use mathlib.Core.Path.{_≡_, ap, _∙_}
 use mathlib.Core.Bool.{true, false}
 use native.Mathlib.Decide.{ℕ-discrete}
 use native.Mathlib.Omega.{arith}
+use Rattle.order_file.specs.Table.{rowWidth, tableSize}
 use Rattle.laws.specs.Fold.{largest}
 use Rattle.laws.specs.Nth.{count}
 use Rattle.laws.proofs.Fold.{largest-ge, largest-le, largest-cong}
@@ -30,10 +31,10 @@ module _ (m : Model) (x : ℕ → ℕ) (w : WellFormed m) where
   gap-filed : (i k : ℕ) → i < m .steps → k < m .steps → filedGap (fileOf m x) i k ≡ gapOf m x i k
   unfolding filedGap fileOf
   gap-filed i k h g =
-      let f : ℕ → ℕ = λ o. single (pairOf m x o / 64) (pairOf m x o % 64) (gapOf m x (pairOf m x o / 64) (pairOf m x o % 64)) i k in
-      let n : ℕ = count 4096 (ordered m x) in
+      let f : ℕ → ℕ = λ o. single (pairOf m x o / rowWidth) (pairOf m x o % rowWidth) (gapOf m x (pairOf m x o / rowWidth) (pairOf m x o % rowWidth)) i k in
+      let n : ℕ = count tableSize (ordered m x) in
       let most : largest n f ≤ gapOf m x i k =
-      largest-le f n (gapOf m x i k) (λ o _. single-le n (gapOf m x) i k (pairOf m x o / 64) (pairOf m x o % 64))
+      largest-le f n (gapOf m x i k) (λ o _. single-le n (gapOf m x) i k (pairOf m x o / rowWidth) (pairOf m x o % rowWidth))
       in
       elim (ℕ-discrete (gapOf m x i k) 0) [
         | yes z ↦ omega arith

@@ -8,6 +8,7 @@ use native.Mathlib.Omega.{arith}
 use borrow.Author.Tests.{lt-ltb, le-ltb}
 use lib.ListN.{getD}
 use lib.Dec.{ltb, eqb}
+use Rattle.order_file.specs.Table.{rowWidth, tableSize}
 use Rattle.laws.specs.Listed.{concatenate}
 use Rattle.little_endian.specs.Bytes.{u16Bytes}
 use Rattle.laws.specs.Nth.{count, nth}
@@ -62,34 +63,34 @@ module _
     (h : Holds m x rounds limits latest earliest gaps linked)
   where
     -- the place of an entry from its pair of steps
-    place : (q : ℕ) → 64 * (q / 64) + q % 64 ≡ q
+    place : (q : ℕ) → rowWidth * (q / rowWidth) + q % rowWidth ≡ q
     place q = omega arith
 
-    entry : (q : ℕ) → q / 64 < m .steps → q % 64 < m .steps → getD gaps q 0 ≡ gapOf m x (q / 64) (q % 64)
-    entry q a b = ap (λ k. getD gaps k 0) (sym (place q)) ∙ h .gapAt (q / 64) (q % 64) a b
+    entry : (q : ℕ) → q / rowWidth < m .steps → q % rowWidth < m .steps → getD gaps q 0 ≡ gapOf m x (q / rowWidth) (q % rowWidth)
+    entry q a b = ap (λ k. getD gaps k 0) (sym (place q)) ∙ h .gapAt (q / rowWidth) (q % rowWidth) a b
 
-    no-entry : (q : ℕ) → q < 4096 → (q / 64 < m .steps → q % 64 < m .steps → ⊥) → getD gaps q 0 ≡ 0
-    no-entry q l n = ap (λ k. getD gaps k 0) (sym (place q)) ∙ h .emptyAt (q / 64) (q % 64) (omega arith) (omega arith) n
+    no-entry : (q : ℕ) → q < tableSize → (q / rowWidth < m .steps → q % rowWidth < m .steps → ⊥) → getD gaps q 0 ≡ 0
+    no-entry q l n = ap (λ k. getD gaps k 0) (sym (place q)) ∙ h .emptyAt (q / rowWidth) (q % rowWidth) (omega arith) (omega arith) n
 
     -- the entries are the pairs that are ordered
-    entered-ordered : (q : ℕ) → q < 4096 → entered gaps q ≡ ordered m x q
+    entered-ordered : (q : ℕ) → q < tableSize → entered gaps q ≡ ordered m x q
     unfolding ordered
     entered-ordered q l =
-        elim (decLt (q / 64) (m .steps)) [
-          | yes a ↦ counted (decLt (q % 64) (m .steps)) a
-          | no a ↦ rw (no-entry q l (λ b _. a b), le-ltb (q / 64) (m .steps) (omega arith))
+        elim (decLt (q / rowWidth) (m .steps)) [
+          | yes a ↦ counted (decLt (q % rowWidth) (m .steps)) a
+          | no a ↦ rw (no-entry q l (λ b _. a b), le-ltb (q / rowWidth) (m .steps) (omega arith))
         ]
       where
         counted :
-            Dec (q % 64 < m .steps) → q / 64 < m .steps → not
-            (eqb (getD gaps q 0) 0) ≡ (ltb (q / 64) (m .steps) && ltb (q % 64) (m .steps) && not (eqb (gapOf m x (q / 64) (q % 64)) 0))
+            Dec (q % rowWidth < m .steps) → q / rowWidth < m .steps → not
+            (eqb (getD gaps q 0) 0) ≡ (ltb (q / rowWidth) (m .steps) && ltb (q % rowWidth) (m .steps) && not (eqb (gapOf m x (q / rowWidth) (q % rowWidth)) 0))
         counted (yes b) a = rw (entry q a b, lt-ltb _ _ a, lt-ltb _ _ b)
-        counted (no b) a = rw (no-entry q l (λ _ c. b c), lt-ltb _ _ a, le-ltb (q % 64) (m .steps) (omega arith))
+        counted (no b) a = rw (no-entry q l (λ _ c. b c), lt-ltb _ _ a, le-ltb (q % rowWidth) (m .steps) (omega arith))
 
-    same-pair : (o : ℕ) → nth 4096 (entered gaps) o ≡ pairOf m x o
-    same-pair o = nth-cong (entered gaps) (ordered m x) 4096 o entered-ordered
+    same-pair : (o : ℕ) → nth tableSize (entered gaps) o ≡ pairOf m x o
+    same-pair o = nth-cong (entered gaps) (ordered m x) tableSize o entered-ordered
 
-    same-gap : (o : ℕ) → o < count 4096 (ordered m x) → getD gaps (nth 4096 (entered gaps) o) 0 ≡ gapOf m x (pairOf m x o / 64) (pairOf m x o % 64)
+    same-gap : (o : ℕ) → o < count tableSize (ordered m x) → getD gaps (nth tableSize (entered gaps) o) 0 ≡ gapOf m x (pairOf m x o / rowWidth) (pairOf m x o % rowWidth)
     same-gap o l =
         let p = ordered-out m x (pairOf m x o) (pair-ordered m x o l) in
         ap (λ q. getD gaps q 0) (same-pair o) ∙ entry (pairOf m x o) (p .0) (p .1)
@@ -110,14 +111,14 @@ module _
     held-agrees =
         record {
           steps = refl;
-          orders = count-cong (entered gaps) (ordered m x) 4096 entered-ordered;
+          orders = count-cong (entered gaps) (ordered m x) tableSize entered-ordered;
           links = refl;
           rounds = h .roundCount;
           limit = h .limitAt;
           latest = h .latestAt;
           earliest = h .earliestAt;
-          first = λ o _. ap (λ q. q / 64) (same-pair o);
-          second = λ o _. ap (λ q. q % 64) (same-pair o);
+          first = λ o _. ap (λ q. q / rowWidth) (same-pair o);
+          second = λ o _. ap (λ q. q % rowWidth) (same-pair o);
           gap = same-gap;
           link = same-link;
         }

@@ -18,7 +18,7 @@ use Rattle.orders.specs.Gaps.{gapOf}
 use Rattle.orders.specs.Windows.{limitOf, latestOf}
 use Rattle.rounds.specs.Rounds.{rounds, earliest}
 use Rattle.order_file.specs.Contents.{gapBias}
-use Rattle.order_file.specs.Table.{gapIn, startIn}
+use Rattle.order_file.specs.Table.{gapIn, startIn, rowWidth, tableSize}
 use Rattle.laws.specs.Listed.{Filled}
 use Rattle.gaps.specs.Table.{TableOf}
 use Rattle.links.specs.LinkList.{LinksOf}
@@ -32,8 +32,8 @@ use Rattle.partialize.proofs.Filed.{held-file}
 -- a table of n steps has no order from a later one
 pub none-from : (n : ℕ) (gap : ℕ → ℕ → ℕ) (gaps : List ℕ) → TableOf n gap gaps → NoneFrom n gaps
 none-from n gap gaps t q h =
-    let e : q ≡ 64 * (q / 64) + q % 64 = omega arith in
-    ap (λ p. getD gaps p 0) e ∙ t .rest (q / 64) (q % 64) (omega arith) (λ l _. omega arith)
+    let e : q ≡ rowWidth * (q / rowWidth) + q % rowWidth = omega arith in
+    ap (λ p. getD gaps p 0) e ∙ t .rest (q / rowWidth) (q % rowWidth) (omega arith) (λ l _. omega arith)
 
 module _
     (m : Model) (x : ℕ → ℕ) (found : ℕ) (limits latest early gaps linked : List ℕ)
@@ -68,7 +68,7 @@ module _
 module _ (m : Model) (x : ℕ → ℕ) (w : WellFormed m) (found : ℕ) (limits latest early gaps linked : List ℕ)
     (holds : Holds m x found limits latest early gaps linked) where
   -- the length that the code sums is the file's
-  pub found-length : fileLength (m .steps) (count 4096 (entered gaps)) (m .conditions + m .goals) ≡ length (encode (fileOf m x))
+  pub found-length : fileLength (m .steps) (count tableSize (entered gaps)) (m .conditions + m .goals) ≡ length (encode (fileOf m x))
   unfolding heldIn
   found-length =
       sym (length-encode (heldIn (m .steps) (m .conditions + m .goals) found limits latest early gaps linked))

@@ -9,6 +9,7 @@ use borrow.Author.Tests.{eqb-true, eqb-false, not-true, eq-eqb, ne-eqb}
 use lib.Dec.{eqb}
 use lib.ListN.{length, set, getD, length-set}
 use lib.Seq.{getD-set-same, getD-set-other}
+use Rattle.timeline.specs.Indexed.{keyCount}
 use Rattle.laws.proofs.Search.{either, and-both, last-or-below}
 use Rattle.points.specs.declared.index.Linking.the-variants.{EffectsByFact}
 use Rattle.job.specs.Model.{Model}
@@ -71,7 +72,7 @@ module _ (m : Model) where
         let low : m .effectFact e < m .facts = form .effectFact e counted in
         let few : m .facts ≤ 256 = form .factCount in
         let bit : m .effectValue e ≤ 1 = form .effectValue e counted in
-        let key : (2 * m .effectFact e + m .effectValue e) % 512 ≡ (2 * fact + value) % 512 = q in
+        let key : (2 * m .effectFact e + m .effectValue e) % keyCount ≡ (2 * fact + value) % keyCount = q in
         (omega arith, omega arith)
 
     pub key-gives : (fact value : ℕ) → fact < 256 → value ≤ 1 → keyOf m EffectsByFact e ≡ factKey fact value → gives m e fact value ≡ true

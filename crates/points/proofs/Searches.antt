@@ -8,6 +8,7 @@ use native.Mathlib.Omega.{arith}
 use borrow.Author.Tests.{eq-eqb, ne-eqb, lt-ltb, le-ltb}
 use lib.Dec.{ltb, eqb}
 use lib.ListN.{length, getD}
+use Rattle.timeline.specs.Indexed.{keyCount, capacity, listSize}
 use Rattle.job.specs.Model.{Model}
 use Rattle.timeline.specs.Sorted.{recordIn, tickIn, Rising, Parts}
 use Rattle.timeline.proofs.Scanning.{key-rising, key-holds, latest-none, latest-some}
@@ -37,7 +38,7 @@ module _ {m : Model} {x : ℕ → ℕ} {ticks sorted : List ℕ} (known : Effect
   unfolding factKey
   key-listed fact value f b e = let few : m .facts ≤ 256 = known .form .factCount in omega (arith, e)
 
-  pub key-searched : (v : ℕ) → v < 2 * m .facts → (length sorted ≡ 1025) × (v < 512) × Rising ticks sorted (getD sorted v 0) (getD sorted (v + 1) 0)
+  pub key-searched : (v : ℕ) → v < 2 * m .facts → (length sorted ≡ listSize) × (v < keyCount) × Rising ticks sorted (getD sorted v 0) (getD sorted (v + 1) 0)
   key-searched v h = (
     known .ordered .size,
     omega (arith, known .form .factCount),
@@ -49,7 +50,7 @@ module _ {m : Model} {x : ℕ → ℕ} {ticks sorted : List ℕ} (known : Effect
   pub place-counted : (v : ℕ) → v < 2 * m .facts → (p : ℕ) → getD sorted v 0 ≤ p → p < getD sorted (v + 1) 0 → {k : ℕ} → k ≡ recordIn sorted p → k < m .effects
   place-counted v h p l r e = subst (λ j. j < m .effects) (sym e) (key-holds (known .ordered) v h p l r .0)
 
-  pub place-low : (v : ℕ) → v < 2 * m .facts → (p : ℕ) → p < getD sorted (v + 1) 0 → p < 512
+  pub place-low : (v : ℕ) → v < 2 * m .facts → (p : ℕ) → p < getD sorted (v + 1) 0 → p < capacity
   place-low v h p r =
       let ends : getD sorted (v + 1) 0 ≤ m .effects = known .ordered .ends v h in
       omega (arith, known .form .effectCount)
@@ -85,7 +86,7 @@ module _ {m : Model} {x : ℕ → ℕ} {ticks sorted : List ℕ} (known : Effect
     pub given-ready : PlaceKnown ticks sorted v r
     given-ready =
         let searched = key-searched v listed in
-        let ends : getD sorted (v + 1) 0 ≤ 512 = searched .2 .ends in
+        let ends : getD sorted (v + 1) 0 ≤ capacity = searched .2 .ends in
         let within : r ≤ getD sorted (v + 1) 0 = parts .to in
         record {
           size = searched .0;
@@ -95,7 +96,7 @@ module _ {m : Model} {x : ℕ → ℕ} {ticks sorted : List ℕ} (known : Effect
         }
 
 -- the key that the code makes of a fact and the other of a value
-pub opposing-key : {r a b v fact value : ℕ} → (r ≡ factKey a b) × (r < 512) → a ≡ fact → b ≡ 1 - v → v ≡ value → (r ≡ factKey fact (1 - value)) × (r < 512)
+pub opposing-key : {r a b v fact value : ℕ} → (r ≡ factKey a b) × (r < keyCount) → a ≡ fact → b ≡ 1 - v → v ≡ value → (r ≡ factKey fact (1 - value)) × (r < keyCount)
 opposing-key key f b v = (key .0 ∙ ap₂ factKey f (b ∙ ap (λ (k : ℕ). 1 - k) v), key .1)
 
 -- whether a fact has a value, by the last ticks at which it was given that value and the other

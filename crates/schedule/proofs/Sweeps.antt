@@ -10,10 +10,12 @@ use native.Mathlib.Omega.{arith}
 use borrow.Author.Tests.{eqb-true, eq-eqb, ltb-true, lt-ltb, le-leb, lt-leb}
 use lib.Dec.{ltb, leb, eqb}
 use lib.ListN.{getD}
+use Rattle.timeline.specs.Indexed.{keyCount, capacity}
 use Rattle.laws.specs.Fold.{sum}
 use Rattle.laws.proofs.Search.{and-both, and-l, either, any-found, any-none}
 use Rattle.laws.proofs.Fold.{sum-zero}
 use Rattle.points.specs.declared.index.Linking.the-variants.{UsesByLevel}
+use Rattle.little_endian.specs.Bytes.{signBias}
 use Rattle.job.specs.Model.{Model}
 use Rattle.points.specs.Keys.{levelKey, keyOf}
 use Rattle.timeline.specs.Sorted.{recordIn, tickIn, placed, Rising, Parts}
@@ -24,13 +26,13 @@ use Rattle.validity.specs.Ticks.{useTick}
 use Rattle.validity.specs.Levels.{rise, fall, usedBy, risesBefore, fallsBefore, aboveLeast, belowMost}
 use Rattle.validity.specs.Checks.{passes, levelFails}
 use Rattle.points.specs.Known.{UsesKnown}
-use Rattle.schedule.specs.Known.{Summed}
+use Rattle.schedule.specs.Known.{Summed, sumLimit}
 
 -- one more use is summed
 module _ (m : Model) (sorted : List ℕ) (l : ℕ) (sums : Changes) (so : Summed m sorted l sums) where
   pub summed-more :
-      (next : Changes) {u : ℕ} → u ≡ recordIn sorted (sums .place) → sums .place < getD sorted (l + 1) 0 → rise m u ≤ 2147483648 → fall m
-      u ≤ 2147483648 → (next .place ≡ sums .place + 1) × (next .rises ≡ sums .rises + rise m u) × (next .falls ≡ sums .falls + fall m u) → Summed m
+      (next : Changes) {u : ℕ} → u ≡ recordIn sorted (sums .place) → sums .place < getD sorted (l + 1) 0 → rise m u ≤ signBias → fall m
+      u ≤ signBias → (next .place ≡ sums .place + 1) × (next .rises ≡ sums .rises + rise m u) × (next .falls ≡ sums .falls + fall m u) → Summed m
       sorted l next
   unfolding sum
   summed-more next {u} here within ups downs sum-of =
@@ -53,7 +55,7 @@ module _ (m : Model) (sorted : List ℕ) (l : ℕ) (sums : Changes) (so : Summed
           (ap (λ b. cond b (g (recordIn sorted (sums .place))) 0) (le-leb (getD sorted l 0) (sums .place) (so .begins))) in
           q ∙ ap₂ _+_ e here-too ∙ ap (λ k. sum k (placed (getD sorted l 0) g sorted)) (sym (add-one (sums .place)) ∙ sym (sum-of .0))
 
-  pub summed-low : sums .place ≤ 512 → (sums .rises ≤ 1099511627776) × (sums .falls ≤ 1099511627776)
+  pub summed-low : sums .place ≤ capacity → (sums .rises ≤ sumLimit) × (sums .falls ≤ sumLimit)
   summed-low h = (omega (arith, so .few .0), omega (arith, so .few .1))
 
 module _ {m : Model} {x : ℕ → ℕ} {ticks sorted : List ℕ} (known : UsesKnown m x ticks sorted) (l : ℕ) (h : l < m .levels) where
@@ -70,7 +72,7 @@ module _ {m : Model} {x : ℕ → ℕ} {ticks sorted : List ℕ} (known : UsesKn
   own-level : (u : ℕ) → u < m .uses → keyOf m UsesByLevel u ≡ l → m .useLevel u ≡ l
   unfolding keyOf levelKey
   own-level u a e =
-      let key : m .useLevel u % 512 ≡ l = e in
+      let key : m .useLevel u % keyCount ≡ l = e in
       let low : m .useLevel u < m .levels = known .form .useLevel u a in
       let few : m .levels ≤ 16 = known .form .levelCount in
       omega arith
@@ -80,7 +82,7 @@ module _ {m : Model} {x : ℕ → ℕ} {ticks sorted : List ℕ} (known : UsesKn
   level-own u a e =
       let low : m .useLevel u < m .levels = known .form .useLevel u a in
       let few : m .levels ≤ 16 = known .form .levelCount in
-      let key : m .useLevel u % 512 ≡ l = omega arith in
+      let key : m .useLevel u % keyCount ≡ l = omega arith in
       key
 
   -- sums over the places before tick t are those of the uses before it

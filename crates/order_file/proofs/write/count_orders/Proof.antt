@@ -6,6 +6,7 @@ use mathlib.Core.Logic.{⊎-elim}
 use native.Mathlib.Omega.{arith}
 use denote.Ref.{now}
 use borrow.Author.Tests.{eq-eqb, ne-eqb}
+use Rattle.order_file.specs.Table.{tableSize}
 use Rattle.laws.specs.Nth.{count}
 use Rattle.laws.proofs.Nth.{count-start, count-more, count-same}
 use Rattle.order_file.specs.Held.{entered}
@@ -17,7 +18,7 @@ pub count-orders-spec : {M : Type 1} → statement M
 count-orders-spec =
     tie.close
     (tie.spec
-    (λ gaps steps end orders₀ q₀ orders q. (q ≤ 4096) × (orders ≤ q) × (orders ≡ count q (entered gaps)))
+    (λ gaps steps end orders₀ q₀ orders q. (q ≤ tableSize) × (orders ≤ q) × (orders ≡ count q (entered gaps)))
     (λ gaps steps end orders₀ q₀ orders q. end - q)
     (λ c. omega arith)
     (λ c. (omega arith, omega arith, count-start _))

@@ -5,6 +5,7 @@ use native.Mathlib.Omega.{arith}
 use borrow.Author.Tests.{lt-ltb, le-ltb}
 use lib.ListN.{getD}
 use borrow.Author.Needs.{needs}
+use Rattle.timeline.specs.Sorted.{tickLimit}
 use Rattle.points.proofs.values.given_before.Statement.{statement}
 use Rattle.points.proofs.values.given_before.Tie as tie
 
@@ -21,7 +22,7 @@ given-before-spec =
     ))
     (λ c. search (
       needs,
-      subst (λ k. getD (c .before .before .before .before .before .before .args .ticks .now) k 0 < 8589934592)
+      subst (λ k. getD (c .before .before .before .before .before .before .args .ticks .now) k 0 < tickLimit)
           (sym (c .before .record-at .ensures)) (c .before .before .before .before .before .before .pre .known
           (omega (arith, c .before .before .if1 .taken, c .before .before .before .begin-of .ensures)) .1),
     ))
