@@ -6,3 +6,4 @@ pub mod Counting
 pub mod Gathering
 pub mod Scanning
 pub mod Summing
+pub mod Words

@@ -2,3 +2,5 @@
 pub mod Indexed
 pub mod Sorted
 pub mod Sorting
+pub mod Words
+pub mod Placed
