@@ -7,3 +7,4 @@ pub mod Gathering
 pub mod Scanning
 pub mod Summing
 pub mod Words
+pub mod Walking

@@ -4,3 +4,4 @@ pub mod Sorted
 pub mod Sorting
 pub mod Words
 pub mod Placed
+pub mod Walking
