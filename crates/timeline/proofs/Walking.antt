@@ -8,7 +8,7 @@ use lib.ListN.{length}
 use Rattle.timeline.specs.declared.walk.Cursor.{Cursor}
 use Rattle.timeline.specs.Words.{tickAt, valueAt}
 use Rattle.timeline.specs.Placed.{Parted, Run}
-use Rattle.timeline.specs.Walking.{Walking}
+use Rattle.timeline.specs.Walking.{Walking, Alike}
 
 -- the point before place + 1 is that at the place
 last : (points : List ℕ) (place : ℕ) → valueAt points (place + 1 - 1) ≡ valueAt points place
@@ -78,4 +78,43 @@ module _ {points : List ℕ} {low high t place run : ℕ} (so : Walking points l
                   let h : t ≤ tickAt points place = late (omega arith) in
                   omega arith
             ];
+      }
+
+module _ {points : List ℕ} {low at run : ℕ} where
+  -- the last point is alike by itself
+  pub alike-start : low < at → run ≡ at - 1 → Alike points low at run
+  alike-start h e =
+      record {
+        from = omega arith;
+        some = omega arith;
+        alike = λ p l m. ap (valueAt points) (let q : p ≡ at - 1 = omega arith in q);
+      }
+
+  pub alike-more : low < run → valueAt points (run - 1) ≡ valueAt points (at - 1) → Alike points low at run → Alike points low at (run - 1)
+  alike-more h same so =
+      let some : run < at = so .some in
+      record {
+        from = omega arith;
+        some = omega arith;
+        alike = λ p l m.
+            elim (decLt p run) [
+              | yes g ↦ ap (valueAt points) (let q : p ≡ run - 1 = omega arith in q) ∙ same
+              | no g ↦ so .alike p (omega arith) m
+            ];
+      }
+
+  pub alike-run : (low < run → valueAt points (run - 1) ≡ valueAt points (at - 1) → ⊥) → Alike points low at run → Run points low at run
+  alike-run turned so =
+      let some : run < at = so .some in
+      record { from = so .from; to = omega arith; some = λ _. some; alike = so .alike; turned = turned }
+
+  -- a group of nothing has no run
+  pub run-none : low ≤ at → at ≤ low → run ≡ at → Run points low at run
+  run-none h l e =
+      record {
+        from = omega arith;
+        to = omega arith;
+        some = λ g. omega arith;
+        alike = λ p g i. absurd (omega arith);
+        turned = λ g _. omega arith;
       }

@@ -44,3 +44,22 @@ pub fn advance(points: &[u64], low: usize, high: usize, t: usize, from: Cursor) 
     }
     Cursor { place, run }
 }
+
+// Where the run of one value that ends a group begins.
+pub fn last_run(points: &[u64], low: usize, high: usize) -> usize
+    requires { ⌜ (low ≤ high) × (high ≤ length (now points)) ⌝ }
+    ensures { λ r. ⌜ Run (now (points .entry)) low high r ⌝ }
+{
+    if high <= low {
+        return high;
+    }
+    let value = value_of(points[high - 1]);
+    let mut run = high - 1;
+    while low < run {
+        if value_of(points[run - 1]) != value {
+            return run;
+        }
+        run -= 1;
+    }
+    run
+}
