@@ -1,3 +1,4 @@
--- What passes refusals 1 to 7 is well formed; the tests of refusal 7.
+-- What passes refusals 1 to 7 is well formed; the tests of refusal 7, and when it passes.
 pub mod WellFormed
 pub mod Steps
+pub mod Unopposed

@@ -1,8 +1,8 @@
--- A file that refusals 1 to 7 pass holds a well-formed job.
+-- A file that refusals 1 to 6 pass holds a job whose records are in range, and one that refusals 1 to 7 pass a well-formed job.
 use Prim.Native.Nat.{ℕ, _≤_, _<_}
-use mathlib.Core.Path.{_≡_, sym, ap, ap₂, subst, _∙_}
+use mathlib.Core.Path.{_≡_, sym, ap, ap₂, _∙_}
 use mathlib.Core.Bool.{Bool, true, false, not, _&&_, _||_}
-use mathlib.Core.List.{List, [], _∷_}
+use mathlib.Core.List.{List}
 use mathlib.Core.Logic.{_⊎_, inl, inr, ⊎-elim}
 use native.Mathlib.Omega.{arith}
 use borrow.Author.Tests.{ltb-true, ltb-false, leb-true, eqb-true, eqb-false, not-true, not-false, eq-eqb, le-leb, lt-ltb}
@@ -14,16 +14,14 @@ use Rattle.job.specs.declared.layout.Table.the-variants.{Facts, Levels, Steps, 
 use Rattle.verdict.specs.declared.Verdict.the-variants.{RecordOutOfRange}
 use Rattle.job.specs.declared.layout.Table.{Table}
 use Rattle.job.specs.declared.layout.Counts.{Counts}
-use Rattle.job.specs.declared.layout.Job.{Job}
-use Rattle.verdict.specs.Verdict.{number}
-use Rattle.job.specs.Layout.{mostUses, countsOf, countList, highest, jobOf, countTooHigh}
+use Rattle.verdict.specs.Verdict.{number, _then_}
+use Rattle.job.specs.Layout.{mostGoals, countsOf, countList, highest, jobOf, countTooHigh}
 use Rattle.job.specs.Model.{Model, modelOf, lastStart, longest, lastDeadline, noDeadline, lowestLevel, highestLevel, lowestAmount, highestAmount}
 use Rattle.form.specs.Ranges.{levelInRange, factOk, levelOk, stepOk, conditionOk, effectOk, useOk, goalOk, recordOk, recordBroken, countIn}
 use Rattle.form.specs.Against.{bothWays, usesTwice, opposesOwn, setBefore, usedBefore, opposesAny, bothWaysStep, usesTwiceStep, opposesOwnStep}
 use Rattle.form.specs.Header.{headerCheck}
-use Rattle.form.specs.Keys.{Linkable}
 use Rattle.form.specs.Refusals.{tableCheck, recordCheck, againstStep, stepCheck, formCheck}
-use Rattle.job.specs.WellFormed.{WellFormed}
+use Rattle.job.specs.WellFormed.{WellFormed, Ranged}
 use Rattle.verdict.proofs.Chain.{then-zero, refuse-zero, lowest-zero}
 
 -- once refusal 6 passes, every record of every table is in order
@@ -136,6 +134,47 @@ goal-in m k e =
     let a = and-both _ _ (b .0) in
     (ltb-true _ _ (a .0), leb-true _ _ (a .1), deadline (b .1))
 
+-- no count exceeds its highest
+counts : (c : Counts) → countTooHigh c ≡ false → (t : ℕ) → t < 7 → getD (countList c) t 0 ≤ getD highest t 0
+unfolding countTooHigh
+counts c e t h = ltb-false _ _ (any-false _ 7 e t h)
+
+-- the header, once refusals 1 to 5 pass
+header : (s : List ℕ) → number (headerCheck s) ≡ 0 → (u16At s 2 ≤ 1) × (countTooHigh (countsOf s) ≡ false)
+unfolding headerCheck
+header s e =
+    let a = then-zero _ _ e in
+    let b = then-zero _ _ (a .0) in
+    let c = then-zero _ _ (b .0) in (
+      ltb-false _ _ (or-both _ _ (refuse-zero _ _ (λ z. let y : _≡_ {A = ℕ} 3 0 = z in omega arith) (c .1)) .0),
+      refuse-zero _ _ (λ z. let y : _≡_ {A = ℕ} 4 0 = z in omega arith) (b .1),
+    )
+
+-- what refusals 1 to 6 leave
+pub ranged : (s : List ℕ) → number (headerCheck s then recordCheck (modelOf s)) ≡ 0 → Ranged (modelOf s)
+unfolding jobOf
+ranged s e =
+    let b = then-zero _ _ e in
+    let n = counts (countsOf s) (header s (b .0) .1) in
+    let m = modelOf s in
+    let ok = tables m (b .1) in record {
+      factCount = n 0 (lit< tt);
+      levelCount = n 1 (lit< tt);
+      stepCount = n 2 (lit< tt);
+      conditionCount = n 3 (lit< tt);
+      effectCount = n 4 (lit< tt);
+      useCount = n 5 (lit< tt);
+      initialValue = λ k l. fact-in m k (ok Facts k l);
+      conditionStep = λ k l. condition-in m k (ok Conditions k l) .0;
+      conditionFact = λ k l. condition-in m k (ok Conditions k l) .1;
+      conditionValue = λ k l. condition-in m k (ok Conditions k l) .4;
+      effectStep = λ k l. effect-in m k (ok Effects k l) .0;
+      effectFact = λ k l. effect-in m k (ok Effects k l) .1;
+      effectValue = λ k l. effect-in m k (ok Effects k l) .3;
+      useStep = λ k l. use-in m k (ok Uses k l) .0;
+      useLevel = λ k l. use-in m k (ok Uses k l) .1;
+    }
+
 module _ (m : Model) (ok : (t : Table) (k : ℕ) → k < countIn m t → recordOk m t k ≡ true) (no : m .steps ≤ againstStep m) where
   no-both-ways : m .steps ≤ bothWaysStep m
   unfolding againstStep
@@ -197,21 +236,18 @@ module _ (m : Model) (ok : (t : Table) (k : ℕ) → k < countIn m t → recordO
       contrary (ap₂ _&&_ (ap₂ _&&_ (ap₂ _&&_ (ap₂ _&&_ (eq-eqb _ _ s) (eq-eqb _ _ t)) (ap not x)) (le-leb _ _ a)) (lt-ltb _ _ b)) f)
       (either (eqb (m .effectValue e) (m .conditionValue c)))
 
-  all-parts :
-      m .serial ≤ 1
-      → ((t : ℕ) → t < 7 → getD (m .facts ∷ m .levels ∷ m .steps ∷ m .conditions ∷ m .effects ∷ m .uses ∷ m .goals ∷ []) t 0 ≤ getD highest t 0)
-      → WellFormed m
-  all-parts mark n =
+  all-parts : m .serial ≤ 1 → m .goals ≤ mostGoals → Ranged m → WellFormed m
+  all-parts mark goals r =
       record {
         serialMark = mark;
-        factCount = n 0 (lit< tt);
-        levelCount = n 1 (lit< tt);
-        stepCount = n 2 (lit< tt);
-        conditionCount = n 3 (lit< tt);
-        effectCount = n 4 (lit< tt);
-        useCount = n 5 (lit< tt);
-        goalCount = n 6 (lit< tt);
-        initialValue = λ k l. fact-in m k (ok Facts k l);
+        factCount = r .factCount;
+        levelCount = r .levelCount;
+        stepCount = r .stepCount;
+        conditionCount = r .conditionCount;
+        effectCount = r .effectCount;
+        useCount = r .useCount;
+        goalCount = goals;
+        initialValue = r .initialValue;
         levelFrom = λ k l. level-in m k (ok Levels k l) .0;
         levelLow = λ k l. level-in m k (ok Levels k l) .1;
         levelHigh = λ k l. level-in m k (ok Levels k l) .2;
@@ -219,17 +255,17 @@ module _ (m : Model) (ok : (t : Table) (k : ℕ) → k < countIn m t → recordO
         startRange = λ k l. step-in m k (ok Steps k l) .0;
         lengthRange = λ k l. step-in m k (ok Steps k l) .1;
         fixedMark = λ k l. step-in m k (ok Steps k l) .2;
-        conditionStep = λ k l. condition-in m k (ok Conditions k l) .0;
-        conditionFact = λ k l. condition-in m k (ok Conditions k l) .1;
+        conditionStep = r .conditionStep;
+        conditionFact = r .conditionFact;
         conditionSpan = λ k l. condition-in m k (ok Conditions k l) .2;
         conditionEnd = λ k l. condition-in m k (ok Conditions k l) .3;
-        conditionValue = λ k l. condition-in m k (ok Conditions k l) .4;
-        effectStep = λ k l. effect-in m k (ok Effects k l) .0;
-        effectFact = λ k l. effect-in m k (ok Effects k l) .1;
+        conditionValue = r .conditionValue;
+        effectStep = r .effectStep;
+        effectFact = r .effectFact;
         effectEnd = λ k l. effect-in m k (ok Effects k l) .2;
-        effectValue = λ k l. effect-in m k (ok Effects k l) .3;
-        useStep = λ k l. use-in m k (ok Uses k l) .0;
-        useLevel = λ k l. use-in m k (ok Uses k l) .1;
+        effectValue = r .effectValue;
+        useStep = r .useStep;
+        useLevel = r .useLevel;
         useEnd = λ k l. use-in m k (ok Uses k l) .2;
         useFrom = λ k l. use-in m k (ok Uses k l) .3;
         useTo = λ k l. use-in m k (ok Uses k l) .4;
@@ -242,35 +278,10 @@ module _ (m : Model) (ok : (t : Table) (k : ℕ) → k < countIn m t → recordO
         keepsOwn = keeps-own;
       }
 
--- no count exceeds its highest
-counts : (c : Counts) → countTooHigh c ≡ false → (t : ℕ) → t < 7 → getD (countList c) t 0 ≤ getD highest t 0
-unfolding countTooHigh
-counts c e t h = ltb-false _ _ (any-false _ 7 e t h)
-
--- the header, once refusals 1 to 5 pass
-header : (s : List ℕ) → number (headerCheck s) ≡ 0 → (u16At s 2 ≤ 1) × (countTooHigh (countsOf s) ≡ false)
-unfolding headerCheck
-header s e =
-    let a = then-zero _ _ e in
-    let b = then-zero _ _ (a .0) in
-    let c = then-zero _ _ (b .0) in (
-      ltb-false _ _ (or-both _ _ (refuse-zero _ _ (λ z. let y : _≡_ {A = ℕ} 3 0 = z in omega arith) (c .1)) .0),
-      refuse-zero _ _ (λ z. let y : _≡_ {A = ℕ} 4 0 = z in omega arith) (b .1),
-    )
-
--- so the records can be linked
-pub few-records : (s : List ℕ) (job : Job) → job ≡ jobOf s → number (headerCheck s) ≡ 0 → Linkable (job .count)
-unfolding jobOf
-few-records s job e z =
-    let n = counts (countsOf s) (header s z .1) in
-    let u : countsOf s .uses ≤ mostUses = n 5 (lit< tt) in
-    subst (λ (j : Job). Linkable (j .count)) (sym e)
-    (record { conditions = n 3 (lit< tt); effects = n 4 (lit< tt); uses = omega arith })
-
 pub well-formed : (s : List ℕ) → number (formCheck s) ≡ 0 → WellFormed (modelOf s)
 unfolding formCheck jobOf
 well-formed s e =
     let c = then-zero _ _ e in
     let b = then-zero _ _ (c .0) in
     let h = header s (b .0) in
-    all-parts (modelOf s) (tables (modelOf s) (b .1)) (steps-zero (modelOf s) (c .1)) (h .0) (counts (countsOf s) (h .1))
+    all-parts (modelOf s) (tables (modelOf s) (b .1)) (steps-zero (modelOf s) (c .1)) (h .0) (counts (countsOf s) (h .1) 6 (lit< tt)) (ranged s (c .0))

@@ -3,7 +3,6 @@ use Prim.Native.Nat.{ℕ, _+_, _*_, _%_, _≤_, _<_}
 use mathlib.Core.Path.{_≡_}
 use mathlib.Core.List.{List}
 use Rattle.timeline.specs.Indexed.{keyCount, capacity, Growing}
-use Rattle.job.specs.declared.layout.Counts.{Counts}
 use Rattle.job.specs.Model.{Model}
 
 -- the key of a step with a fact or level
@@ -19,12 +18,6 @@ conditionKey m k = stepKey (m .conditionStep k) (m .conditionFact k)
 
 abbrev pub useKey : Model → ℕ → ℕ
 useKey m k = stepKey (m .useStep k) (m .useLevel k)
-
--- counts for which an index has room
-pub record Linkable (n : Counts) : Type 0 where
-  pub conditions : n .conditions ≤ capacity
-  pub effects : n .effects ≤ capacity
-  pub uses : n .uses ≤ capacity
 
 -- a search back along the records of key f in an index that holds the first n; key is f as the code has it
 pub record SearchBack (keyOf : ℕ → ℕ) (n f key : ℕ) (index : List ℕ) : Type 0 where

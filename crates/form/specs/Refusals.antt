@@ -10,7 +10,7 @@ use Rattle.job.specs.declared.layout.Table.{Table}
 use Rattle.job.specs.declared.layout.Table.the-variants.{Facts, Levels, Steps, Conditions, Effects, Uses, Goals}
 use Rattle.job.specs.Layout.{jobOf}
 use Rattle.job.specs.Model.{Model, modelOf}
-use Rattle.job.specs.WellFormed.{WellFormed}
+use Rattle.job.specs.WellFormed.{WellFormed, Ranged}
 use Rattle.form.specs.declared.Form.{Form}
 use Rattle.form.specs.Header.{headerCheck}
 use Rattle.form.specs.Ranges.{countIn, recordBroken}
@@ -39,6 +39,12 @@ stepCheck m = refuseIf (ltb (againstStep m) (m .steps)) (StepAgainstItself (agai
 -- refusals 1 to 7
 unfoldable pub formCheck : List ℕ → Verdict
 formCheck s = headerCheck s then recordCheck (modelOf s) then stepCheck (modelOf s)
+
+-- what the check of the header and the records promises: its verdict, what it read of the header, and the ranges where it accepts
+pub record RecordsPromise (s : List ℕ) (r : Form) : Type 0 where
+  pub verdict : r .verdict ≡ (headerCheck s then recordCheck (modelOf s))
+  pub job : r .job ≡ jobOf s
+  pub ranged : number (r .verdict) ≡ 0 → Ranged (modelOf s)
 
 -- what the form check promises: its verdict, what it read of the header, and of an accepted file that it is well formed
 pub record FormPromise (s : List ℕ) (r : Form) : Type 0 where

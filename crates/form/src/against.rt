@@ -6,7 +6,8 @@ ghost use mathlib.Core.Bool.{_&&_, cond};
 ghost use Prim.Native.Nat.{ℕ, min, _≤_, _<_};
 ghost use lib.Dec.{ltb};
 ghost use Rattle.job.specs.Model.{view, effectOf};
-ghost use Rattle.form.specs.Keys.{stepKey, effectKey, conditionKey, useKey, Linkable, SearchBack};
+ghost use Rattle.job.specs.WellFormed.{Ranged};
+ghost use Rattle.form.specs.Keys.{stepKey, effectKey, conditionKey, useKey, SearchBack};
 ghost use Rattle.timeline.specs.Indexed.{keyCount, capacity, Growing};
 ghost use Rattle.form.specs.Against.{bothWays, usesTwice, opposesOwn, setBefore, usedBefore, opposesAny, bothWaysStep, usesTwiceStep};
 ghost use Rattle.form.specs.Against.{opposesOwnStep};
@@ -23,7 +24,7 @@ use verdict::Verdict;
 use verdict::refuse_if;
 
 // The key of a step with a fact or level.
-pub fn step_key(step: u16, what: u16) -> usize
+fn step_key(step: u16, what: u16) -> usize
     ensures { λ r. ⌜ (r ≡ stepKey step what) × (r < keyCount) ⌝ }
 {
     (8 * step as usize + what as usize) % KEYS
@@ -141,7 +142,7 @@ fn link_conditions(s: &[u8], job: Job, index: &mut [u16; INDEX_SIZE])
 // The lowest step that sets a fact both ways at one tick or opposes its own condition before its last tick, or the count of steps.
 // The effects before each are linked, and it is held against these.
 fn effects_against(s: &[u8], job: Job) -> u16
-    requires { ⌜ Linkable (job .count) ⌝ }
+    requires { ⌜ Ranged (view job (now s)) ⌝ }
     ensures { λ r. ⌜ r ≡ min (bothWaysStep (view job (now (s .entry)))) (opposesOwnStep (view job (now (s .entry)))) ⌝ }
 {
     let mut conditions = [UNLINKED; INDEX_SIZE];
@@ -166,7 +167,7 @@ fn effects_against(s: &[u8], job: Job) -> u16
 
 // The lowest step that uses a level twice at one tick, or the count of steps. Without uses no index is made.
 fn uses_against(s: &[u8], job: Job) -> u16
-    requires { ⌜ Linkable (job .count) ⌝ }
+    requires { ⌜ Ranged (view job (now s)) ⌝ }
     ensures { λ r. ⌜ r ≡ usesTwiceStep (view job (now (s .entry))) ⌝ }
 {
     let n = job.count.uses;
@@ -187,9 +188,9 @@ fn uses_against(s: &[u8], job: Job) -> u16
     best
 }
 
-// Refusal 7.
+// Refusal 7, of a file that refusals 1 to 6 pass.
 pub fn check_steps(s: &[u8], job: Job) -> Verdict
-    requires { ⌜ Linkable (job .count) ⌝ }
+    requires { ⌜ Ranged (view job (now s)) ⌝ }
     ensures { λ r. ⌜ r ≡ stepCheck (view job (now (s .entry))) ⌝ }
 {
     let effects = effects_against(s, job);

@@ -1,12 +1,11 @@
 // Whether a job file is well formed: refusals 1 to 7.
 ghost use mathlib.Core.Path.{_≡_};
 ghost use Rattle.job.specs.Model.{modelOf};
-ghost use Rattle.job.specs.Layout.{jobOf};
-ghost use Rattle.form.specs.Refusals.{formCheck, FormPromise};
+ghost use Rattle.form.specs.Refusals.{formCheck, RecordsPromise, FormPromise};
 ghost use Rattle.verdict.specs.Verdict.{number as numberOf};
 ghost use Rattle.job.specs.WellFormed.{WellFormed};
 
-mod against;
+pub mod against;
 mod header;
 mod ranges;
 mod tables;
@@ -15,34 +14,36 @@ use job::layout::Job;
 use verdict::Verdict;
 use verdict::number;
 
-// What the form check found, and what it read of the header on the way: for whoever goes on with the file.
+// What a check found, and what it read of the header on the way: for whoever goes on with the file.
 pub struct Form {
     pub verdict: Verdict,
     pub job: Job,
 }
 
-// Refusals 1 to 7 of a file whose header was read.
-fn check_read(s: &[u8], job: Job) -> Verdict
-    requires { ⌜ job ≡ jobOf (now s) ⌝ }
-    ensures { λ r. ⌜ r ≡ formCheck (now (s .entry)) ⌝ }
+// Reads the header, once for all, and checks it and the records: refusals 1 to 6.
+pub fn read_records(s: &[u8]) -> Form
+    ensures { λ r. ⌜ RecordsPromise (now (s .entry)) r ⌝ }
 {
-    let header = header::check_header(s, job);
-    if number(header) != 0 {
-        return header;
+    let job = Job::read(s);
+    let verdict = header::check_header(s, job);
+    if number(verdict) != 0 {
+        return Form { verdict, job };
     }
-    let records = tables::check_file(s, job);
-    if number(records) != 0 {
-        return records;
-    }
-    against::check_steps(s, job)
+    let verdict = tables::check_file(s, job);
+    Form { verdict, job }
 }
 
 // Reads the header, once for all, and checks the form.
 pub fn read_form(s: &[u8]) -> Form
     ensures { λ r. ⌜ FormPromise (now (s .entry)) r ⌝ }
 {
-    let job = Job::read(s);
-    let verdict = check_read(s, job);
+    let form = read_records(s);
+    let records = form.verdict;
+    if number(records) != 0 {
+        return form;
+    }
+    let job = form.job;
+    let verdict = against::check_steps(s, job);
     Form { verdict, job }
 }
 

@@ -3,6 +3,5 @@ pub mod Raised
 pub mod Reached
 pub mod Grouped
 pub mod Pairs
-pub mod Opposite
 pub mod Rules
 pub mod Supported

@@ -1,6 +1,6 @@
--- The orders that a rule makes between points are those between the groups of their keys: one law for every rule over pairs of points.
-use Prim.Native.Nat.{ℕ, _+_, _≤_, _<_}
-use mathlib.Core.Path.{_≡_, refl, sym, ap, subst, _∙_}
+-- The orders that a rule makes between points are those between their groups: one law for every rule over pairs of points.
+use Prim.Native.Nat.{ℕ, _+_, _%_, _≤_, _<_}
+use mathlib.Core.Path.{_≡_, refl, sym, ap, ap₂, _∙_}
 use mathlib.Core.Bool.{Bool, true, false, _&&_, cond}
 use mathlib.Core.List.{List}
 use native.Mathlib.Omega.{arith}
@@ -10,55 +10,77 @@ use lib.ListN.{getD}
 use Rattle.laws.specs.Fold.{largest}
 use Rattle.laws.proofs.Fold.{largest-le}
 use Rattle.job.specs.Model.{Model, longest}
-use Rattle.timeline.specs.Indexed.{keyCount, capacity}
-use Rattle.timeline.specs.Sorted.{recordIn, Sorted}
-use Rattle.timeline.proofs.Scanning.{key-rising}
-use Rattle.points.specs.Known.{TicksOf}
+use Rattle.timeline.specs.Words.{valueAt, tickAt, stepAt, numberAt, valueSpan}
+use Rattle.timeline.specs.Placed.{Placed}
 use Rattle.orders.specs.Gaps.{strictly}
 use Rattle.orders.proofs.Orders.{pairs-ge}
 use Rattle.gaps.specs.declared.rows.Groups.{Groups}
-use Rattle.gaps.specs.declared.rows.Point.{Point}
+use Rattle.gaps.specs.declared.rows.End.{End}
 use Rattle.gaps.specs.Raised.{Raised}
-use Rattle.gaps.specs.Points.{pointStep, pointAt, Group, GroupsKnown, Reached, Among, After, Between}
+use Rattle.gaps.specs.Points.{endOf, offsetAt, groupsAt, Group, GroupsKnown, Reached, Among, Between}
 use Rattle.gaps.proofs.Reached.{reached-raised}
 use Rattle.order_file.specs.Contents.{stepLimit}
 
--- Points of one kind, listed by key in the order of their ticks.
-pub record Listed (m : Model) : Type 0 where
-  pub point : Point
+-- Points of one kind, group by group in the order of their ticks.
+pub record Listed (m : Model) (x : ℕ → ℕ) (points begins : List ℕ) : Type 0 where
   pub count : ℕ
-  pub keys : ℕ
-  pub key : ℕ → ℕ
+  pub groups : ℕ
+  pub place : ℕ → ℕ
+  pub group : ℕ → ℕ
   pub tick : ℕ → ℕ
-  pub ticks : List ℕ
-  pub sorted : List ℕ
-  pub few : count ≤ capacity
-  pub fewKeys : keys ≤ keyCount
-  pub timed : TicksOf count tick ticks
-  pub ordered : Sorted count keys key ticks sorted
-  pub step : (k : ℕ) → k < count → pointStep m point k < m .steps
-  pub near : (k : ℕ) → k < count → pointAt m point k ≤ longest
+  pub value : ℕ → ℕ
+  pub step : ℕ → ℕ
+  pub at : ℕ → ℕ
+  pub placed :
+      (g : ℕ) → g < groups
+      → Placed (λ k. (k < count) × (group k ≡ g)) tick value step points (getD begins (place g) 0) (getD begins (place g + 1) 0)
+  pub within : (k : ℕ) → k < count → group k < groups
+  pub two : (k : ℕ) → k < count → value k ≤ 1
+  pub timed : (k : ℕ) → tick k ≡ x (step k) + at k
+  pub inside : (k : ℕ) → k < count → step k < m .steps
+  pub near : (k : ℕ) → k < count → at k ≤ longest
 
-group-of : {m : Model} (l : Listed m) (f : ℕ) → f < l .keys → Group m (l .point) (l .ticks) (l .sorted) f
-group-of l f h =
-    let o = l .ordered .each f h in
-    record {
-      low = omega (arith, l .fewKeys);
-      rising = key-rising (l .ordered) f h (l .few) (record { size = l .timed .size; low = l .timed .low });
-      step = λ p a b. l .step (recordIn (l .sorted) p) (o .holds p a b .0);
-      near = λ p a b. l .near (recordIn (l .sorted) p) (o .holds p a b .0);
-    }
+module _ {m : Model} {x : ℕ → ℕ} {points begins : List ℕ} (l : Listed m x points begins) (g : ℕ) (h : g < l .groups) where
+  -- the offset of a point, by its tick
+  pub listed-offset :
+      (p : ℕ) → getD begins (l .place g) 0 ≤ p → p < getD begins (l .place g + 1) 0
+      → (offsetAt x points p ≡ l .at (numberAt points p)) × (x (stepAt points p) ≤ tickAt points p)
+  listed-offset p a b =
+      let o = l .placed g h in
+      let start : x (stepAt points p) ≡ x (l .step (numberAt points p)) = ap x (o .steps p a b) in
+      (omega (arith, start, o .ticks p a b, l .timed (numberAt points p)), omega (arith, start, o .ticks p a b, l .timed (numberAt points p)))
 
--- A rule orders points of the first list before points of the second, where the key of the one is `other` of the other's and `wait`
--- ticks lie between them. It tests that by `fits` and `sooner`.
-pub record Rule (m : Model) (first second : Listed m) (other : ℕ → ℕ) (wait : ℕ) (fits sooner : ℕ → ℕ → Bool) : Type 0 where
+  listed-group : Group (m .steps) x points (getD begins (l .place g) 0) (getD begins (l .place g + 1) 0)
+  listed-group =
+      let o = l .placed g h in
+      record {
+        begins = o .begins;
+        ends = o .ends;
+        rises = o .rises;
+        step = λ p a b. omega (arith, o .steps p a b, l .inside (numberAt points p) (o .holds p a b .0));
+        begun = λ p a b. listed-offset p a b .1;
+        near = λ p a b. omega (arith, listed-offset p a b .0, l .near (numberAt points p) (o .holds p a b .0));
+      }
+
+-- A rule orders points of the first list, from an end of them, before points of the second in the group of the same number, where values
+-- differ by `turn` and `wait` ticks lie between them. It tests that by `fits` and `sooner`.
+pub record Rule (m : Model) (x : ℕ → ℕ) (points begins : List ℕ) (first second : Listed m x points begins) (from : End) (end : ℕ → ℕ) (wait turn : ℕ)
+    (fits sooner : ℕ → ℕ → Bool) : Type 0 where
   pub short : wait ≤ 1
-  pub keyed : (a : ℕ) → a < first .count → first .key a < first .keys
-  pub facing : (key : ℕ) → key < first .keys → other key < second .keys
-  pub fitting : (a b : ℕ) → a < first .count → b < second .count → second .key b ≡ other (first .key a) → fits a b ≡ true
-  pub fitted : (a b : ℕ) → a < first .count → b < second .count → fits a b ≡ true → second .key b ≡ other (first .key a)
+  pub turned : turn ≤ 1
+  pub facing : (g : ℕ) → g < first .groups → g < second .groups
+  pub ended :
+      (g p : ℕ) → g < first .groups → getD begins (first .place g) 0 ≤ p → p < getD begins (first .place g + 1) 0
+      → endOf m x from (getD points p 0) ≡ end (numberAt points p)
+  pub endNear : (a : ℕ) → a < first .count → end a ≤ longest
+  pub fitting :
+      (a b : ℕ) → a < first .count → b < second .count → second .group b ≡ first .group a → second .value b ≡ (first .value a + turn) % valueSpan
+      → fits a b ≡ true
+  pub fitted :
+      (a b : ℕ) → a < first .count → b < second .count → fits a b ≡ true
+      → (second .group b ≡ first .group a) × (second .value b ≡ (first .value a + turn) % valueSpan)
   pub waiting :
-      (a b : ℕ) → a < first .count → b < second .count → fits a b ≡ true → (pointStep m (first .point) a ≡ pointStep m (second .point) b → ⊥)
+      (a b : ℕ) → a < first .count → b < second .count → fits a b ≡ true → (first .step a ≡ second .step b → ⊥)
       → first .tick a + wait ≤ second .tick b
       → sooner a b ≡ true
   pub waited : (a b : ℕ) → a < first .count → b < second .count → sooner a b ≡ true → first .tick a + wait ≤ second .tick b
@@ -75,91 +97,110 @@ four-le true true false d v bound h = omega arith
 four-le true false c d v bound h = omega arith
 four-le false b c d v bound h = omega arith
 
-module _ {m : Model} {first second : Listed m} {other : ℕ → ℕ} {wait : ℕ} {fits sooner : ℕ → ℕ → Bool} (rule : Rule m first second other wait fits sooner) where
+module _ {m : Model} {x : ℕ → ℕ} {points begins : List ℕ} {first second : Listed m x points begins} {from : End} {end : ℕ → ℕ} {wait turn : ℕ}
+    {fits sooner : ℕ → ℕ → Bool} (rule : Rule m x points begins first second from end wait turn fits sooner) where
   abbrev pub groupsOf : ℕ → Groups
-  groupsOf key = record { from = first .point; key = key; to = second .point; other = other key; wait = wait }
+  groupsOf g = groupsAt begins from (first .place g) (second .place g) wait turn
 
-  -- the orders between two keys, and what the rule says of two points
-  abbrev pub KeyOrder : ℕ → ℕ → ℕ → ℕ → Type 0
-  KeyOrder key = Between m (groupsOf key) (first .ticks) (first .sorted) (second .ticks) (second .sorted)
+  -- the orders between two groups, and what the rule says of two points
+  abbrev pub GroupOrder : ℕ → ℕ → ℕ → ℕ → Type 0
+  GroupOrder g = Between m x points (groupsOf g)
 
   abbrev pub pairOrder : ℕ → ℕ → ℕ → ℕ → ℕ
-  pairOrder i k a b =
-      cond (eqb (pointStep m (first .point) a) i && eqb (pointStep m (second .point) b) k && fits a b && sooner a b)
-      (strictly (pointAt m (first .point) a) (pointAt m (second .point) b)) 0
+  pairOrder i k a b = cond (eqb (first .step a) i && eqb (second .step b) k && fits a b && sooner a b) (strictly (end a) (second .at b)) 0
 
-  pub groups-known :
-      (key : ℕ) → key < first .keys → m .steps ≤ stepLimit → GroupsKnown m (groupsOf key) (first .ticks) (first .sorted) (second .ticks)
-      (second .sorted)
-  groups-known key h few =
+  pub groups-known : (g : ℕ) → g < first .groups → m .steps ≤ stepLimit → GroupsKnown m x points (groupsOf g)
+  groups-known g h few =
       record {
-        first = group-of first key h;
-        second = group-of second (other key) (rule .facing key h);
+        first = listed-group first g h;
+        second = listed-group second g (rule .facing g h);
+        led = λ p a b. omega (arith, rule .ended g p h a b, rule .endNear (numberAt points p) (first .placed g h .holds p a b .0));
         few = few;
         short = rule .short;
+        turned = rule .turned;
       }
 
-  -- an order between keys is an order of two points
+  -- an order between groups is an order of two points
   pub rule-under :
-      (key i k gap bound : ℕ) → key < first .keys → (i ≡ k → ⊥) → KeyOrder key i k gap
+      (g i k gap bound : ℕ) → g < first .groups → (i ≡ k → ⊥) → GroupOrder g i k gap
       → ((a b : ℕ) → a < first .count → b < second .count → pairOrder i k a b ≤ bound)
       → gap ≤ bound
-  rule-under key i k gap bound h apart o all =
-      let a : ℕ = recordIn (first .sorted) (o .0) in
-      let b : ℕ = recordIn (second .sorted) (o .3 .0) in
-      let here = first .ordered .each key h .holds (o .0) (o .1) (o .2) in
-      let there = second .ordered .each (other key) (rule .facing key h) .holds (o .3 .0) (o .3 .1) (o .3 .2) in
-      let later = o .3 .3 in
-      let fit : fits a b ≡ true = rule .fitting a b (here .0) (there .0) (there .1 ∙ ap other (sym (here .1))) in
+  rule-under g i k gap bound h apart o all =
+      let p : ℕ = o .0 in
+      let q : ℕ = o .3 .0 in
+      let a : ℕ = numberAt points p in
+      let b : ℕ = numberAt points q in
+      let here = first .placed g h in
+      let there = second .placed g (rule .facing g h) in
+      let low = here .holds p (o .1) (o .2) in
+      let low' = there .holds q (o .3 .1) (o .3 .2) in
+      let onto = o .3 .3 in
+      let step : first .step a ≡ i = sym (here .steps p (o .1) (o .2)) ∙ onto .2 in
+      let step' : second .step b ≡ k = sym (there .steps q (o .3 .1) (o .3 .2)) ∙ onto .3 in
+      let value : second .value b ≡ (first .value a + turn) % valueSpan =
+      sym (there .values q (o .3 .1) (o .3 .2)) ∙ onto .0 ∙ ap (λ v. (v + turn) % valueSpan) (here .values p (o .1) (o .2))
+      in
+      let fit : fits a b ≡ true = rule .fitting a b (low .0) (low' .0) (low' .1 ∙ sym (low .1)) value in
       let soon : sooner a b ≡ true =
-      rule .waiting a b (here .0) (there .0) fit (λ q. apart (sym (later .1) ∙ q ∙ later .2))
-      (omega (arith, later .0, first .timed .at a (here .0), second .timed .at b (there .0)))
+      rule .waiting a b (low .0) (low' .0) fit (λ e. apart (sym step ∙ e ∙ step'))
+      (omega (arith, onto .1, here .ticks p (o .1) (o .2), there .ticks q (o .3 .1) (o .3 .2)))
       in
       omega (
         arith,
-        later .3,
-        four-pass (eqb (pointStep m (first .point) a) i) (eqb (pointStep m (second .point) b) k) (fits a b) (sooner a b)
-            (strictly (pointAt m (first .point) a) (pointAt m (second .point) b)) (eq-eqb _ _ (later .1)) (eq-eqb _ _ (later .2)) fit soon,
-        all a b (here .0) (there .0),
+        onto .4,
+        rule .ended g p h (o .1) (o .2),
+        listed-offset second g (rule .facing g h) q (o .3 .1) (o .3 .2) .0,
+        four-pass (eqb (first .step a) i) (eqb (second .step b) k) (fits a b) (sooner a b) (strictly (end a) (second .at b)) (eq-eqb _ _ step)
+            (eq-eqb _ _ step') fit soon,
+        all a b (low .0) (low' .0),
       )
 
   -- and the other way
   pub rule-over :
-      (i k bound : ℕ) → ((key gap : ℕ) → key < first .keys → KeyOrder key i k gap → gap ≤ bound)
+      (i k bound : ℕ) → ((g gap : ℕ) → g < first .groups → GroupOrder g i k gap → gap ≤ bound)
       → (a b : ℕ) → a < first .count → b < second .count
       → pairOrder i k a b ≤ bound
   rule-over i k bound all a b h l =
-      four-le (eqb (pointStep m (first .point) a) i) (eqb (pointStep m (second .point) b) k) (fits a b) (sooner a b)
-      (strictly (pointAt m (first .point) a) (pointAt m (second .point) b)) bound
-      (λ p q r t.
-      let key : ℕ = first .key a in
-      let here = first .ordered .each key (rule .keyed a h) .found a (h, refl) in
-      let there = second .ordered .each (other key) (rule .facing key (rule .keyed a h)) .found b (l, rule .fitted a b h l r) in
-      let gap : ℕ = strictly (pointAt m (first .point) a) (pointAt m (second .point) b) in
-      let late : getD (first .ticks) a 0 + wait ≤ getD (second .ticks) b 0 =
-      omega (arith, rule .waited a b h l t, first .timed .at a h, second .timed .at b l)
-      in
-      all key gap (rule .keyed a h) (
-        here .0,
-        here .1,
-        here .2,
-        subst (λ j. After m (second .point) (second .ticks) (second .sorted) (other key) (pointStep m (first .point) j) (pointAt m (first .point) j)
-            (getD (first .ticks) j 0 + wait) i k gap) (sym (here .3)) (
-              there .0,
-              there .1,
-              there .2,
-              subst (λ j. (getD (first .ticks) a 0 + wait ≤ getD (second .ticks) j 0) × (pointStep m (first .point) a ≡ i) × (pointStep m (second .point)
-                  j ≡ k) × (gap ≡ strictly (pointAt m (first .point) a) (pointAt m (second .point) j))) (sym (there .3))
-                  (late, eqb-true _ _ p, eqb-true _ _ q, refl),
-            ),
+      four-le (eqb (first .step a) i) (eqb (second .step b) k) (fits a b) (sooner a b) (strictly (end a) (second .at b)) bound
+      (λ s s' r t.
+      let g : ℕ = first .group a in
+      let in-g : g < first .groups = first .within a h in
+      let fit = rule .fitted a b h l r in
+      let here = first .placed g in-g in
+      let there = second .placed g (rule .facing g in-g) in
+      let f = here .found a (h, refl) in
+      let f' = there .found b (l, fit .0) in
+      let p : ℕ = f .0 in
+      let q : ℕ = f' .0 in
+      let tick : tickAt points p ≡ first .tick a = here .ticks p (f .1) (f .2) ∙ ap (first .tick) (f .3) in
+      let tick' : tickAt points q ≡ second .tick b = there .ticks q (f' .1) (f' .2) ∙ ap (second .tick) (f' .3) in
+      let value : valueAt points p ≡ first .value a = here .values p (f .1) (f .2) ∙ ap (first .value) (f .3) in
+      let value' : valueAt points q ≡ second .value b = there .values q (f' .1) (f' .2) ∙ ap (second .value) (f' .3) in
+      all g (strictly (end a) (second .at b)) in-g (
+        p,
+        f .1,
+        f .2,
+        (
+          q,
+          f' .1,
+          f' .2,
+          (
+            value' ∙ fit .1 ∙ ap (λ v. (v + turn) % valueSpan) (sym value),
+            omega (arith, tick, tick', rule .waited a b h l t),
+            here .steps p (f .1) (f .2) ∙ ap (first .step) (f .3) ∙ eqb-true _ _ s,
+            there .steps q (f' .1) (f' .2) ∙ ap (second .step) (f' .3) ∙ eqb-true _ _ s',
+            ap₂ strictly (sym (rule .ended g p in-g (f .1) (f .2) ∙ ap end (f .3)))
+                (sym (listed-offset second g (rule .facing g in-g) q (f' .1) (f' .2) .0 ∙ ap (second .at) (f' .3))),
+          ),
+        ),
       ))
 
-  -- a table raised to the orders of all keys is raised by the largest of each two steps
+  -- a table raised to the orders of all groups is raised by the largest of each two steps
   pub rule-raised :
-      (before after : List ℕ) → m .steps ≤ stepLimit → Reached (m .steps) (Among 0 (first .keys) KeyOrder) before after
+      (before after : List ℕ) → m .steps ≤ stepLimit → Reached (m .steps) (Among 0 (first .groups) GroupOrder) before after
       → Raised (m .steps) (λ i k. largest (first .count) (λ a. largest (second .count) (pairOrder i k a))) before after
   rule-raised before after few w =
-      reached-raised (m .steps) (Among 0 (first .keys) KeyOrder)
+      reached-raised (m .steps) (Among 0 (first .groups) GroupOrder)
       (λ i k. largest (first .count) (λ a. largest (second .count) (pairOrder i k a))) before after few w
       (λ i k gap apart o.
       rule-under (o .0) i k gap _ (o .2) (apart .2) (o .3)
@@ -167,4 +208,4 @@ module _ {m : Model} {first second : Listed m} {other : ℕ → ℕ} {wait : ℕ
       (λ i k bound apart all.
       largest-le (λ j. largest (second .count) (pairOrder i k j)) (first .count) bound
       (λ a h. largest-le (pairOrder i k a) (second .count) bound
-      (λ b l. rule-over i k bound (λ key gap low o. all gap (key, omega arith, low, o)) a b h l)))
+      (λ b l. rule-over i k bound (λ g gap low o. all gap (g, omega arith, low, o)) a b h l)))

@@ -1,7 +1,7 @@
 -- A table is raised by one order at a time. What a loop has raised is the largest of its orders so far, two rules one after the other
 -- raise by the larger of their gaps, and an empty table raised by all rules is the table of gaps.
 use Prim.Native.Nat.{ℕ, _+_, _*_, _≤_, _<_, max}
-use mathlib.Core.Path.{_≡_, refl, sym, ap, ap₂, _∙_}
+use mathlib.Core.Path.{_≡_, refl, sym, ap, ap₂, subst, _∙_}
 use mathlib.Core.Bool.{Bool, true, false, _&&_, cond, and-false}
 use mathlib.Core.List.{List}
 use native.Mathlib.Decide.{ℕ-discrete, decLt}
@@ -14,9 +14,9 @@ use lib.Seq.{getD-set-same, getD-set-other}
 use Rattle.laws.specs.Fold.{largest}
 use Rattle.laws.proofs.Fold.{largest-ge, largest-le}
 use Rattle.orders.proofs.Near.{counted-le}
-use Rattle.order_file.specs.Table.{gapIn, Gaps, rowWidth, tableSize}
+use Rattle.order_file.specs.Table.{gapIn, gapOfEntry, Gaps, rowWidth, tableSize, tableBias, emptyLimit}
 use Rattle.gaps.specs.Table.{single, TableOf}
-use Rattle.gaps.specs.Raised.{Raised}
+use Rattle.gaps.specs.Raised.{EntryKnown, Raised}
 use Rattle.laws.proofs.Chosen.{eqb-same}
 use Rattle.order_file.specs.Contents.{stepLimit, mostGap}
 
@@ -60,11 +60,14 @@ pub raised-none : (n : ℕ) (f : ℕ → ℕ → ℕ) (gaps : List ℕ) → ((i 
 raised-none n f gaps z = raised-still n f gaps (λ i k d. omega (arith, z i k))
 
 -- An order into a table: of one step with itself, no larger than what is there, or larger.
-module _ (gaps : List ℕ) (i k gap : ℕ) where
+module _ (gaps : List ℕ) (i k entry : ℕ) where
+  abbrev gap : ℕ
+  gap = gapOfEntry entry
+
   pub raised-own : i ≡ k → Raised rowWidth (single i k gap) gaps gaps
   raised-own e = raised-still rowWidth (single i k gap) gaps (λ a b d. omega (arith, single-off i k gap a b (λ s t. d (sym s ∙ e ∙ t))))
 
-  pub raised-less : gap ≤ gapIn gaps i k → Raised rowWidth (single i k gap) gaps gaps
+  pub raised-less : entry ≤ getD gaps (rowWidth * i + k) 0 → Raised rowWidth (single i k gap) gaps gaps
   raised-less h =
       raised-still rowWidth (single i k gap) gaps
       (λ a b d.
@@ -74,28 +77,35 @@ module _ (gaps : List ℕ) (i k gap : ℕ) where
       ])
 
   pub raised-set :
-      i < rowWidth → k < rowWidth → (i ≡ k → ⊥) → gapIn gaps i k < gap → gap ≤ mostGap → length gaps ≡ tableSize
-      → Raised rowWidth (single i k gap) gaps (set gaps (rowWidth * i + k) gap)
-  raised-set h small d l m n =
+      i < rowWidth → k < rowWidth → (i ≡ k → ⊥) → getD gaps (rowWidth * i + k) 0 < entry → EntryKnown entry → length gaps ≡ tableSize
+      → Raised rowWidth (single i k gap) gaps (set gaps (rowWidth * i + k) entry)
+  raised-set h small d l known n =
       record {
-        whole = λ g. record { size = length-set gaps (rowWidth * i + k) gap ∙ n; most = most g };
+        whole = λ g. record {
+          size = length-set gaps (rowWidth * i + k) entry ∙ n;
+          most = λ p. either p (λ v. v ≤ mostGap + tableBias) (known .most) (g .most p);
+          low = λ p. either p (λ v. v ≤ tableBias → v ≤ emptyLimit) (known .low) (g .low p);
+        };
         below = below;
-        rest = λ a b r w. getD-set-other gaps (rowWidth * i + k) (rowWidth * a + b) gap 0 (λ q. w (omega arith) (omega arith));
+        rest =
+            λ a b r w.
+            ap gapOfEntry (getD-set-other gaps (rowWidth * i + k) (rowWidth * a + b) entry 0 (λ q. w (omega arith) (omega arith)));
       }
     where
-      here : getD (set gaps (rowWidth * i + k) gap) (rowWidth * i + k) 0 ≡ gap
-      here = getD-set-same gaps (rowWidth * i + k) gap 0 (omega arith)
+      here : getD (set gaps (rowWidth * i + k) entry) (rowWidth * i + k) 0 ≡ entry
+      here = getD-set-same gaps (rowWidth * i + k) entry 0 (omega arith)
 
-      most : Gaps gaps → (p : ℕ) → getD (set gaps (rowWidth * i + k) gap) p 0 ≤ mostGap
-      most g p =
+      -- what holds of the entry and of what was there holds
+      either : (p : ℕ) (P : ℕ → Type 0) → P entry → P (getD gaps p 0) → P (getD (set gaps (rowWidth * i + k) entry) p 0)
+      either p P e o =
           elim (ℕ-discrete p (rowWidth * i + k)) [
-            | yes q ↦ rw q (omega (arith, here))
-            | no q ↦ omega (arith, getD-set-other gaps (rowWidth * i + k) p gap 0 q, g .most p)
+            | yes q ↦ subst P (sym (ap (λ j. getD (set gaps (rowWidth * i + k) entry) j 0) q ∙ here)) e
+            | no q ↦ subst P (sym (getD-set-other gaps (rowWidth * i + k) p entry 0 q)) o
           ]
 
       below :
           (a b : ℕ) → a < rowWidth → b < rowWidth
-          → gapIn (set gaps (rowWidth * i + k) gap) a b ≡ max (gapIn gaps a b) (cond (eqb a b) 0 (single i k gap a b))
+          → gapIn (set gaps (rowWidth * i + k) entry) a b ≡ max (gapIn gaps a b) (cond (eqb a b) 0 (single i k gap a b))
       below a b r s =
           elim (ℕ-discrete (rowWidth * a + b) (rowWidth * i + k)) [
             | yes q ↦
@@ -103,7 +113,7 @@ module _ (gaps : List ℕ) (i k gap : ℕ) where
                 let v : b ≡ k = omega arith in
                 rw (u, v, ne-eqb i k d, single-at i k gap) (omega (arith, here))
             | no q ↦
-                getD-set-other gaps (rowWidth * i + k) (rowWidth * a + b) gap 0 q
+                ap gapOfEntry (getD-set-other gaps (rowWidth * i + k) (rowWidth * a + b) entry 0 q)
                 ∙ keeps _ _ (eqb a b) (omega (arith, single-off i k gap a b (λ s t. q (omega arith))))
           ]
 
@@ -206,7 +216,7 @@ module _ (n : ℕ) (gap : ℕ → ℕ → ℕ) (a b : ℕ) where
 
 -- an empty table, and what it is when it was raised
 pub empty-gaps : (gaps : List ℕ) → length gaps ≡ tableSize → ((p : ℕ) → getD gaps p 0 ≡ 0) → Gaps gaps
-empty-gaps gaps l z = record { size = l; most = λ p. omega (arith, z p) }
+empty-gaps gaps l z = record { size = l; most = λ p. omega (arith, z p); low = λ p _. omega (arith, z p) }
 
 pub table-of :
     (n : ℕ) (f : ℕ → ℕ → ℕ) (before after : List ℕ) → Raised n f before after → length before ≡ tableSize
@@ -216,5 +226,5 @@ table-of n f before after w l z =
     record {
       whole = w .whole (empty-gaps before l z);
       below = λ i k h g. omega (arith, w .below i k h g, z (rowWidth * i + k));
-      rest = λ i k h d. w .rest i k h d ∙ z (rowWidth * i + k);
+      rest = λ i k h d. omega (arith, w .rest i k h d, z (rowWidth * i + k));
     }

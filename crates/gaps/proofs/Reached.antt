@@ -29,16 +29,16 @@ reached-none n Order gaps none =
 
 pub reached-is :
     (n : ℕ) (P Q : ℕ → ℕ → ℕ → Type 0) (before after : List ℕ) → Reached n P before after
-    → ((i k gap : ℕ) → P i k gap → (gap ≡ 0) ⊎ Q i k gap)
-    → ((i k gap : ℕ) → Q i k gap → (more : ℕ) × (gap ≤ more) × P i k more)
+    → ((i k gap : ℕ) → Apart n i k → P i k gap → (gap ≡ 0) ⊎ Q i k gap)
+    → ((i k gap : ℕ) → Apart n i k → Q i k gap → (more : ℕ) × (gap ≤ more) × P i k more)
     → Reached n Q before after
 reached-is n P Q before after w to from =
     record {
       whole = w .whole;
       rest = w .rest;
       rises = w .rises;
-      reaches = λ i k gap a o. let m = from i k gap o in omega (arith, m .1, w .reaches i k (m .0) a (m .2));
-      least = λ i k bound a h all. w .least i k bound a h (λ gap o. ⊎-elim (λ (z : gap ≡ 0). omega arith) (λ (q : Q i k gap). all gap q) (to i k gap o));
+      reaches = λ i k gap a o. let m = from i k gap a o in omega (arith, m .1, w .reaches i k (m .0) a (m .2));
+      least = λ i k bound a h all. w .least i k bound a h (λ gap o. ⊎-elim (λ (z : gap ≡ 0). omega arith) (λ (q : Q i k gap). all gap q) (to i k gap a o));
     }
 
 -- first the orders P, then the orders Q
@@ -143,7 +143,7 @@ pub reached-one :
 reached-one n a b gap before after m h l w =
     reached-is n (λ i k g. g ≡ single a b gap i k) (λ i k g. (a ≡ i) × (b ≡ k) × (g ≡ gap)) before after
     (raised-reached n (single a b gap) before after m (raised-one n (single a b gap) a b gap before after m h l w (λ i k. refl)))
-    (λ i k g e.
+    (λ i k g apart e.
     elim (ℕ-discrete a i) [
       | yes p ↦
           elim (ℕ-discrete b k) [
@@ -152,7 +152,7 @@ reached-one n a b gap before after m h l w =
           ]
       | no p ↦ inl (e ∙ single-off a b gap i k (λ s _. p s))
     ])
-    (λ i k g o. (gap, omega (arith, o .2), sym (single-is a b gap i k (o .0) (o .1))))
+    (λ i k g apart o. (gap, omega (arith, o .2), sym (single-is a b gap i k (o .0) (o .1))))
 
 -- a table raised to orders is raised by f, if none is larger than f says and f is no larger than one of them
 pub reached-raised :

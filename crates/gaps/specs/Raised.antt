@@ -8,12 +8,18 @@ use lib.ListN.{length}
 use Rattle.laws.specs.Fold.{largest}
 use Rattle.job.specs.Model.{Model}
 use Rattle.job.specs.WellFormed.{WellFormed}
-use Rattle.points.specs.Known.{EffectsKnown, ConditionsKnown}
+use Rattle.points.specs.Points.{PointsKnown}
 use Rattle.validity.specs.Valid.{Valid}
 use Rattle.links.specs.LinkList.{LinksOf, Named}
 use Rattle.orders.specs.Gaps.{serialGap}
-use Rattle.order_file.specs.Table.{gapIn, Gaps, rowWidth}
+use Rattle.order_file.specs.Contents.{mostGap}
+use Rattle.order_file.specs.Table.{gapIn, Gaps, rowWidth, tableBias, emptyLimit}
 use Rattle.gaps.specs.Table.{single}
+
+-- what an entry of the table can be
+pub record EntryKnown (entry : ℕ) : Type 0 where
+  pub most : entry ≤ mostGap + tableBias
+  pub low : entry ≤ tableBias → entry ≤ emptyLimit
 
 -- a table raised by f: between different steps below n the larger of before and f stays, and nothing else changes
 pub record Raised (n : ℕ) (f : ℕ → ℕ → ℕ) (before after : List ℕ) : Type 0 where
@@ -32,10 +38,10 @@ pub record SupportKnown (m : Model) (links gaps : List ℕ) : Type 0 where
 abbrev pub RaisedByLinks : Model → List ℕ → (Model → (ℕ → ℕ) → ℕ → ℕ → ℕ) → List ℕ → List ℕ → Type 0
 RaisedByLinks m links rule before after = (x : ℕ → ℕ) → LinksOf m x links → Raised (m .steps) (rule m x) before after
 
--- rule 3 orders the effects and the conditions of a valid schedule
-pub record OpposersKnown (m : Model) (x : ℕ → ℕ) (ticks sorted firsts conditions : List ℕ) : Type 0 where
-  pub effects : EffectsKnown m x ticks sorted
-  pub wanted : ConditionsKnown m x firsts conditions
+-- rules 2, 3 and 4 order the points of a valid schedule
+pub record ValidPoints (m : Model) (x : ℕ → ℕ) (points begins : List ℕ) : Type 0 where
+  pub form : WellFormed m
+  pub known : PointsKnown m x points begins
   pub valid : Valid m x
 
 -- rule 5 of one step: its gaps to all others

@@ -6,7 +6,8 @@ use mathlib.Core.List.{List}
 use lib.Dec.{eqb}
 use lib.ListN.{length, getD}
 use Rattle.job.specs.Model.{Model}
-use Rattle.points.specs.Known.{EffectsKnown, UsesKnown}
+use Rattle.job.specs.WellFormed.{WellFormed}
+use Rattle.points.specs.Points.{PointsKnown}
 use Rattle.validity.specs.Valid.{Valid}
 use Rattle.links.specs.LinkList.{LinksOf}
 use Rattle.order_file.specs.Table.{gapIn, Gaps, rowWidth, tableSize}
@@ -16,9 +17,9 @@ abbrev pub single : ℕ → ℕ → ℕ → ℕ → ℕ → ℕ
 single i k gap a b = cond (eqb i a && eqb k b) gap 0
 
 -- a valid schedule whose points are listed and whose links are found, and an empty table
-pub record Fillable (m : Model) (x : ℕ → ℕ) (ticks facts useTicks levels links gaps : List ℕ) : Type 0 where
-  pub effects : EffectsKnown m x ticks facts
-  pub uses : UsesKnown m x useTicks levels
+pub record Fillable (m : Model) (x : ℕ → ℕ) (points begins links gaps : List ℕ) : Type 0 where
+  pub form : WellFormed m
+  pub known : PointsKnown m x points begins
   pub valid : Valid m x
   pub linked : LinksOf m x links
   pub room : m .conditions + m .goals ≤ length links

@@ -1,19 +1,17 @@
 // The table of gaps, filled rule by rule (orders, rules 1 to 5). Of several gaps for one entry the largest stays.
 ghost use mathlib.Core.Path.{_≡_};
-ghost use Prim.Native.Nat.{_≤_, _<_};
+ghost use Prim.Native.Nat.{_+_, _<_};
+ghost use lib.ListN.{length};
 ghost use Rattle.job.specs.Model.{view};
 ghost use Rattle.job.specs.WellFormed.{WellFormed};
-ghost use Rattle.timeline.specs.Indexed.{keyCount};
 ghost use Rattle.validity.specs.Ticks.{scheduleOf};
-ghost use Rattle.points.specs.Known.{EffectsKnown, UsesKnown};
 ghost use Rattle.orders.specs.Gaps.{supportOrder, supportGap, opposingGap, conditionGap, levelGap, serialFirst, serialGap, gapOf};
-ghost use Rattle.order_file.specs.Table.{Gaps};
+ghost use Rattle.order_file.specs.Table.{gapOfEntry, Gaps};
 ghost use Rattle.gaps.specs.Table.{Fillable, TableOf};
-ghost use Rattle.gaps.specs.Raised.{Raised, SupportKnown, RaisedByLinks, OpposersKnown, serialRow};
-ghost use Rattle.gaps.specs.Points.{oppositeGroups};
-ghost use Rattle.order_file.specs.Contents.{mostGap};
+ghost use Rattle.gaps.specs.Raised.{EntryKnown, Raised, SupportKnown, RaisedByLinks, ValidPoints, serialRow};
+ghost use Rattle.gaps.specs.Points.{groupsAt};
+use crate::rows::End;
 use crate::rows::Groups;
-use crate::rows::Point;
 use crate::rows::raise;
 use crate::rows::raise_group;
 use crate::rows::strictly;
@@ -24,14 +22,11 @@ use job::records::effect_at;
 use job::records::effect_step;
 use job::records::step_length;
 use order_file::layout::INITIAL_STATE;
-use order_file::table::BIAS;
+use order_file::table::ENTRY_BIAS;
 use order_file::table::NO_ORDER;
-use points::listed::list_conditions;
 use points::ticks::finish;
-use points::ticks::first_ticks;
 use points::ticks::start_of;
-use timeline::index::CAPACITY;
-use timeline::index::LIST_SIZE;
+use timeline::word::begin_at;
 
 // Rule 1 for condition c, by its link.
 fn raise_support(s: &[u8], job: Job, links: &[u16], c: u16, gaps: &mut [u32])
@@ -44,11 +39,11 @@ fn raise_support(s: &[u8], job: Job, links: &[u16], c: u16, gaps: &mut [u32])
     if link == INITIAL_STATE {
         return;
     }
-    let gap = strictly(effect_at(s, job, link), condition_from(s, job, c));
+    let entry = strictly(effect_at(s, job, link), condition_from(s, job, c));
     raise(
         effect_step(s, job, link),
         condition_step(s, job, c),
-        gap,
+        entry,
         gaps,
     )
 }
@@ -66,96 +61,91 @@ fn fill_support(s: &[u8], job: Job, links: &[u16], gaps: &mut [u32])
     }
 }
 
-// A fact with a value against the same with the other value.
-fn opposite(from: Point, key: usize, to: Point, wait: usize) -> Groups
-    requires { ⌜ key < keyCount ⌝ }
-    ensures { λ r. ⌜ r ≡ oppositeGroups from key to wait ⌝ }
+// Two groups, by their numbers.
+fn groups_at(
+    begins: &[u16],
+    from: End,
+    group: usize,
+    other: usize,
+    wait: usize,
+    turn: u16,
+) -> Groups
+    requires { ⌜ (group + 1 < length (now begins)) × (other + 1 < length (now begins)) ⌝ }
+    ensures { λ r. ⌜ r ≡ groupsAt (now (begins .entry)) from group other wait turn ⌝ }
 {
-    let other = key + 1 - 2 * (key % 2);
     Groups {
         from,
-        key,
-        to,
-        other,
+        low: begin_at(begins, group),
+        high: begin_at(begins, group + 1),
+        after: begin_at(begins, other),
+        until: begin_at(begins, other + 1),
         wait,
+        turn,
     }
 }
 
-// Rule 2 for each fact and value.
+// Rule 2 for each fact.
 fn fill_opposing(
     s: &[u8],
     job: Job,
     starts: &[u32],
-    ticks: &[usize],
-    sorted: &[u16],
+    points: &[u64],
+    begins: &[u16],
     gaps: &mut [u32],
 )
-    requires { ⌜ EffectsKnown (view job (now s)) (scheduleOf (now starts)) (now ticks) (now sorted) × Gaps (now gaps) ⌝ }
+    requires { ⌜ ValidPoints (view job (now s)) (scheduleOf (now starts)) (now points) (now begins) × Gaps (now gaps) ⌝ }
     ensures { λ _. ⌜ Raised (job .count .steps) (opposingGap (view job (now (s .entry))) (scheduleOf (now (starts .entry))))
         (now (gaps .entry)) (now (gaps .exit)) ⌝ }
 {
-    let n = 2 * job.count.facts as usize;
-    let mut key = 0;
-    while key < n {
-        let groups = opposite(Point::Effect, key, Point::Effect, 1);
-        raise_group(s, job, groups, ticks, sorted, ticks, sorted, gaps);
-        key += 1;
+    let n = job.count.facts as usize;
+    let mut f = 0;
+    while f < n {
+        let groups = groups_at(begins, End::First, f, f, 1, 1);
+        raise_group(s, job, starts, points, groups, gaps);
+        f += 1;
     }
 }
 
-// Rule 3 for each fact and value. A condition's last tick is looked for from its first: what opposes it and is not before the one is
-// after the other, as the schedule is valid.
+// Rule 3 for each fact. A condition's last tick is looked for from its first: what opposes it and is not before the one is after the
+// other, as the schedule is valid.
 fn fill_conditions(
     s: &[u8],
     job: Job,
     starts: &[u32],
-    ticks: &[usize],
-    sorted: &[u16],
-    firsts: &[usize],
-    conditions: &[u16],
+    points: &[u64],
+    begins: &[u16],
     gaps: &mut [u32],
 )
-    requires { ⌜ OpposersKnown (view job (now s)) (scheduleOf (now starts)) (now ticks) (now sorted) (now firsts) (now conditions)
-        × Gaps (now gaps) ⌝ }
+    requires { ⌜ ValidPoints (view job (now s)) (scheduleOf (now starts)) (now points) (now begins) × Gaps (now gaps) ⌝ }
     ensures { λ _. ⌜ Raised (job .count .steps) (conditionGap (view job (now (s .entry))) (scheduleOf (now (starts .entry))))
         (now (gaps .entry)) (now (gaps .exit)) ⌝ }
 {
-    let n = 2 * job.count.facts as usize;
-    let mut key = 0;
-    while key < n {
-        let before = opposite(Point::Effect, key, Point::First, 1);
-        raise_group(s, job, before, ticks, sorted, firsts, conditions, gaps);
-        let after = opposite(Point::Last, key, Point::Effect, 0);
-        raise_group(s, job, after, firsts, conditions, ticks, sorted, gaps);
-        key += 1;
+    let n = job.count.facts as usize;
+    let mut f = 0;
+    while f < n {
+        let wanted = n + f;
+        let before = groups_at(begins, End::First, f, wanted, 1, 1);
+        raise_group(s, job, starts, points, before, gaps);
+        let after = groups_at(begins, End::Last, wanted, f, 0, 1);
+        raise_group(s, job, starts, points, after, gaps);
+        f += 1;
     }
 }
 
 // Rule 4 for each level.
-fn fill_levels(
-    s: &[u8],
-    job: Job,
-    starts: &[u32],
-    ticks: &[usize],
-    sorted: &[u16],
-    gaps: &mut [u32],
-)
-    requires { ⌜ UsesKnown (view job (now s)) (scheduleOf (now starts)) (now ticks) (now sorted) × Gaps (now gaps) ⌝ }
+fn fill_levels(s: &[u8], job: Job, starts: &[u32], points: &[u64], begins: &[u16], gaps: &mut [u32])
+    requires { ⌜ ValidPoints (view job (now s)) (scheduleOf (now starts)) (now points) (now begins) × Gaps (now gaps) ⌝ }
     ensures { λ _. ⌜ Raised (job .count .steps) (levelGap (view job (now (s .entry))) (scheduleOf (now (starts .entry))))
         (now (gaps .entry)) (now (gaps .exit)) ⌝ }
 {
+    let facts = job.count.facts as usize;
     let n = job.count.levels as usize;
-    let mut key = 0;
-    while key < n {
-        let groups = Groups {
-            from: Point::Use,
-            key,
-            to: Point::Use,
-            other: key,
-            wait: 1,
-        };
-        raise_group(s, job, groups, ticks, sorted, ticks, sorted, gaps);
-        key += 1;
+    let mut l = 0;
+    while l < n {
+        let used = facts + facts + l;
+        let groups = groups_at(begins, End::First, used, used, 1, 0);
+        raise_group(s, job, starts, points, groups, gaps);
+        l += 1;
     }
 }
 
@@ -167,13 +157,13 @@ fn precedes(s: &[u8], job: Job, starts: &[u32], i: u16, k: u16) -> bool
     (job.serial == 1) & (finish(s, job, starts, i) <= start_of(starts, k)) & (!back | (i < k))
 }
 
-// The gap from step i to step k of a serial job.
-fn serial_gap(s: &[u8], job: Job, starts: &[u32], i: u16, k: u16) -> u32
+// The entry from step i to step k of a serial job.
+fn serial_entry(s: &[u8], job: Job, starts: &[u32], i: u16, k: u16) -> u32
     requires { ⌜ WellFormed (view job (now s)) × (i < job .count .steps) ⌝ }
-    ensures { λ r. ⌜ (r ≡ serialGap (view job (now (s .entry))) (scheduleOf (now (starts .entry))) i k) × (r ≤ mostGap) ⌝ }
+    ensures { λ r. ⌜ (gapOfEntry r ≡ serialGap (view job (now (s .entry))) (scheduleOf (now (starts .entry))) i k) × EntryKnown r ⌝ }
 {
     if precedes(s, job, starts, i, k) {
-        step_length(s, job, i) as u32 + BIAS
+        step_length(s, job, i) as u32 + ENTRY_BIAS
     } else {
         NO_ORDER
     }
@@ -188,8 +178,8 @@ fn raise_serial(s: &[u8], job: Job, starts: &[u32], i: u16, gaps: &mut [u32])
     let n = job.count.steps;
     let mut k = 0;
     while k < n {
-        let gap = serial_gap(s, job, starts, i, k);
-        raise(i, k, gap, gaps);
+        let entry = serial_entry(s, job, starts, i, k);
+        raise(i, k, entry, gaps);
         k += 1;
     }
 }
@@ -216,23 +206,17 @@ pub fn fill_gaps(
     s: &[u8],
     job: Job,
     starts: &[u32],
-    ticks: &[usize],
-    facts: &[u16],
-    uses: &[usize],
-    levels: &[u16],
+    points: &[u64],
+    begins: &[u16],
     links: &[u16],
     gaps: &mut [u32],
 )
-    requires { ⌜ Fillable (view job (now s)) (scheduleOf (now starts)) (now ticks) (now facts) (now uses) (now levels) (now links) (now gaps) ⌝ }
+    requires { ⌜ Fillable (view job (now s)) (scheduleOf (now starts)) (now points) (now begins) (now links) (now gaps) ⌝ }
     ensures { λ _. ⌜ TableOf (job .count .steps) (gapOf (view job (now (s .entry))) (scheduleOf (now (starts .entry)))) (now (gaps .exit)) ⌝ }
 {
     fill_support(s, job, links, gaps);
-    fill_opposing(s, job, starts, ticks, facts, gaps);
-    let mut firsts = [0; CAPACITY];
-    first_ticks(s, job, starts, &mut firsts);
-    let mut conditions = [0; LIST_SIZE];
-    list_conditions(s, job, starts, &firsts, &mut conditions);
-    fill_conditions(s, job, starts, ticks, facts, &firsts, &conditions, gaps);
-    fill_levels(s, job, starts, uses, levels, gaps);
+    fill_opposing(s, job, starts, points, begins, gaps);
+    fill_conditions(s, job, starts, points, begins, gaps);
+    fill_levels(s, job, starts, points, begins, gaps);
     fill_serial(s, job, starts, gaps);
 }

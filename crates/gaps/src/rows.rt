@@ -1,235 +1,233 @@
 // Orders between two groups of points, into the table of gaps: pair by pair, or a whole row of the table for each point of the first
 // group. Going back in time over it, what of the second lies far enough ahead only grows, and of a step only its largest lead matters.
 ghost use mathlib.Core.Path.{_≡_};
-ghost use mathlib.Core.Bool.{cond};
-ghost use Prim.Native.Nat.{ℕ, _+_, _-_, _≤_, _<_};
-ghost use lib.Dec.{eqb};
+ghost use Prim.Native.Nat.{ℕ, _≤_, _<_};
 ghost use lib.ListN.{getD};
 ghost use Rattle.job.specs.Model.{view, longest};
+ghost use Rattle.validity.specs.Ticks.{scheduleOf};
+ghost use Rattle.timeline.specs.Words.{wordStep, wordTick};
 ghost use Rattle.orders.specs.Gaps as spec;
-ghost use Rattle.order_file.specs.Table.{Gaps, rowWidth};
+ghost use Rattle.order_file.specs.Table.{gapOfEntry, Gaps, rowWidth};
 ghost use Rattle.gaps.specs.Table.{single};
-ghost use Rattle.gaps.specs.Raised.{Raised};
-ghost use Rattle.gaps.specs.Points.{pointStep, pointAt, Group, GroupsKnown, Reached, After, GroupsRaised, Noting, Noted, Ahead};
-ghost use Rattle.order_file.specs.Contents.{stepLimit, mostGap, gapBias};
+ghost use Rattle.gaps.specs.Raised.{EntryKnown, Raised};
+ghost use Rattle.gaps.specs.Points.{offsetOf, endOf, originOf, OriginKnown, GroupsKnown, Reached, Onto, From, GroupsRaised};
+ghost use Rattle.gaps.specs.Points.{Notable, Noting, Noted, leadsWith, LeadKnown, Ahead};
+ghost use Rattle.order_file.specs.Contents.{stepLimit};
 use job::layout::Job;
-use job::records::condition_from;
-use job::records::condition_step;
 use job::records::condition_to;
-use job::records::effect_at;
-use job::records::effect_step;
-use job::records::use_at;
-use job::records::use_step;
-use order_file::layout::GAP_BIAS;
+use order_file::table::ENTRY_BIAS;
 use order_file::table::WIDTH;
 use order_file::table::higher;
-use timeline::begin_of;
-use timeline::place_from;
-use timeline::record_at;
+use points::ticks::start_of;
+use timeline::word::VALUE_SPAN;
+use timeline::word::number_of;
+use timeline::word::step_of;
+use timeline::word::tick_of;
+use timeline::word::value_of;
 
-// The gap of "strictly before" between two points that both lie at their step's start, plus the bias.
-const AT_START: usize = GAP_BIAS + 1;
+// The entry of "strictly before" between two points that both lie at their step's start.
+const AT_START: usize = ENTRY_BIAS as usize + 1;
+
+// A lead for each value and step.
+const LEADS: usize = VALUE_SPAN as usize * WIDTH;
 
 // From how many points on a row is cheaper than the pairs.
 const MANY: usize = 8;
 
-// What is ordered: an effect, a use, the first or the last tick of a condition.
-pub enum Point {
-    Effect,
-    Use,
+// What orders lead from: a point's own tick, which is the first of a condition, or the last tick of its condition.
+pub enum End {
     First,
     Last,
 }
 
-// Two groups: points of one kind and key, and points of another that are at least `wait` ticks later.
+// Two groups of points: the first from place `low` up to `high`, the second from `after` up to `until`. A point of the second is ordered
+// after one of the first that lies at least `wait` ticks before it and has the other value (`turn` 1) or the same (`turn` 0).
 pub struct Groups {
-    pub from: Point,
-    pub key: usize,
-    pub to: Point,
-    pub other: usize,
+    pub from: End,
+    pub low: usize,
+    pub high: usize,
+    pub after: usize,
+    pub until: usize,
     pub wait: usize,
+    pub turn: u16,
 }
 
-fn step_of(s: &[u8], job: Job, point: Point, k: u16) -> u16
-    ensures { λ r. ⌜ r ≡ pointStep (view job (now (s .entry))) point k ⌝ }
+// What orders lead from, `at` into a step, and which points they lead to: those with a value, from a tick on.
+pub struct Origin {
+    pub step: u16,
+    pub at: usize,
+    pub value: u16,
+    pub tick: usize,
+}
+
+// How far into its step a point lies.
+fn offset_of(starts: &[u32], word: u64) -> usize
+    requires { ⌜ scheduleOf (now starts) (wordStep word) ≤ wordTick word ⌝ }
+    ensures { λ r. ⌜ r ≡ offsetOf (scheduleOf (now (starts .entry))) word ⌝ }
 {
-    match point {
-        Point::Effect => effect_step(s, job, k),
-        Point::Use => use_step(s, job, k),
-        Point::First => condition_step(s, job, k),
-        Point::Last => condition_step(s, job, k),
+    tick_of(word) - start_of(starts, step_of(word))
+}
+
+fn end_of(s: &[u8], job: Job, starts: &[u32], from: End, word: u64) -> usize
+    requires { ⌜ scheduleOf (now starts) (wordStep word) ≤ wordTick word ⌝ }
+    ensures { λ r. ⌜ r ≡ endOf (view job (now (s .entry))) (scheduleOf (now (starts .entry))) from word ⌝ }
+{
+    match from {
+        End::First => offset_of(starts, word),
+        End::Last => condition_to(s, job, number_of(word)),
     }
 }
 
-fn at_of(s: &[u8], job: Job, point: Point, k: u16) -> usize
-    ensures { λ r. ⌜ r ≡ pointAt (view job (now (s .entry))) point k ⌝ }
+// The origin of the orders from a point of the first group.
+fn origin_of(s: &[u8], job: Job, starts: &[u32], groups: Groups, word: u64) -> Origin
+    requires { ⌜ (scheduleOf (now starts) (wordStep word) ≤ wordTick word) × (groups .wait ≤ 1) × (groups .turn ≤ 1) ⌝ }
+    ensures { λ r. ⌜ r ≡ originOf (view job (now (s .entry))) (scheduleOf (now (starts .entry))) groups word ⌝ }
 {
-    match point {
-        Point::Effect => effect_at(s, job, k),
-        Point::Use => use_at(s, job, k),
-        Point::First => condition_from(s, job, k),
-        Point::Last => condition_to(s, job, k),
+    let from = groups.from;
+    Origin {
+        step: step_of(word),
+        at: end_of(s, job, starts, from, word),
+        value: (value_of(word) + groups.turn) % VALUE_SPAN as u16,
+        tick: tick_of(word) + groups.wait,
     }
 }
 
-// The gap of "p strictly before q", plus the bias.
+// The entry of "p strictly before q".
 pub fn strictly(p: usize, q: usize) -> u32
     requires { ⌜ (p ≤ longest) × (q ≤ longest) ⌝ }
-    ensures { λ r. ⌜ (r ≡ spec.strictly p q) × (r ≤ mostGap) ⌝ }
+    ensures { λ r. ⌜ (gapOfEntry r ≡ spec.strictly p q) × EntryKnown r ⌝ }
 {
     (p + AT_START - q) as u32
 }
 
-// Keeps the larger of a gap and the one in the table; only different steps are ordered.
-pub fn raise(i: u16, k: u16, gap: u32, gaps: &mut [u32])
-    requires { ⌜ Gaps (now gaps) × (i < rowWidth) × (k < rowWidth) × (gap ≤ mostGap) ⌝ }
-    ensures { λ _. ⌜ Raised rowWidth (single i k gap) (now (gaps .entry)) (now (gaps .exit)) ⌝ }
+// Keeps the larger of an entry and the one in the table; only different steps are ordered.
+pub fn raise(i: u16, k: u16, entry: u32, gaps: &mut [u32])
+    requires { ⌜ Gaps (now gaps) × (i < rowWidth) × (k < rowWidth) × EntryKnown entry ⌝ }
+    ensures { λ _. ⌜ Raised rowWidth (single i k (gapOfEntry entry)) (now (gaps .entry)) (now (gaps .exit)) ⌝ }
 {
     if i == k {
         return;
     }
     let at = WIDTH * i as usize + k as usize;
-    if gaps[at] < gap {
-        gaps[at] = gap;
+    if gaps[at] < entry {
+        gaps[at] = entry;
     }
 }
 
-// Orders what lies `at` into step `first` before the points of a key from tick t on.
+// Orders a point after the origin, if it has the value and is not before the tick.
+fn raise_onto(starts: &[u32], origin: Origin, word: u64, gaps: &mut [u32])
+    requires { ⌜ Gaps (now gaps) × OriginKnown rowWidth origin × Notable (scheduleOf (now starts)) word ⌝ }
+    ensures { λ _. ⌜ ((n : ℕ) → n ≤ stepLimit → origin .step < n → wordStep word < n
+        → Reached n (Onto (scheduleOf (now (starts .entry))) origin word) (now (gaps .entry)) (now (gaps .exit))) ⌝ }
+{
+    if (value_of(word) == origin.value) & (origin.tick <= tick_of(word)) {
+        let entry = strictly(origin.at, offset_of(starts, word));
+        raise(origin.step, step_of(word), entry, gaps);
+    }
+}
+
+// Orders the points of the second group after the one at place p.
 fn raise_after(
     s: &[u8],
     job: Job,
-    first: u16,
-    at: usize,
-    to: Point,
-    ticks: &[usize],
-    sorted: &[u16],
-    key: usize,
-    t: usize,
+    starts: &[u32],
+    points: &[u64],
+    groups: Groups,
+    p: usize,
     gaps: &mut [u32],
 )
-    requires { ⌜ Group (view job (now s)) to (now ticks) (now sorted) key × Gaps (now gaps) × (job .count .steps ≤ stepLimit)
-        × (first < job .count .steps) × (at ≤ longest) ⌝ }
-    ensures { λ _. ⌜ Reached (job .count .steps)
-        (After (view job (now (s .entry))) to (now (ticks .entry)) (now (sorted .entry)) key first at t) (now (gaps .entry)) (now (gaps .exit)) ⌝ }
+    requires { ⌜ GroupsKnown (view job (now s)) (scheduleOf (now starts)) (now points) groups × Gaps (now gaps) × (groups .low ≤ p)
+        × (p < groups .high) ⌝ }
+    ensures { λ _. ⌜ Reached (job .count .steps) (From (view job (now (s .entry))) (scheduleOf (now (starts .entry))) (now (points .entry)) groups p)
+        (now (gaps .entry)) (now (gaps .exit)) ⌝ }
 {
-    let mut p = place_from(ticks, sorted, key, t);
-    while p < begin_of(sorted, key + 1) {
-        let k = record_at(sorted, p);
-        let gap = strictly(at, at_of(s, job, to, k));
-        raise(first, step_of(s, job, to, k), gap, gaps);
-        p += 1;
+    let origin = origin_of(s, job, starts, groups, points[p]);
+    let mut q = groups.after;
+    while q < groups.until {
+        raise_onto(starts, origin, points[q], gaps);
+        q += 1;
     }
 }
 
 // Each point of the first group in turn.
-fn raise_pairs(
-    s: &[u8],
-    job: Job,
-    groups: Groups,
-    ticks: &[usize],
-    sorted: &[u16],
-    others: &[usize],
-    against: &[u16],
-    gaps: &mut [u32],
-)
-    requires { ⌜ GroupsKnown (view job (now s)) groups (now ticks) (now sorted) (now others) (now against) × Gaps (now gaps) ⌝ }
-    ensures { λ _. ⌜ GroupsRaised (view job (now (s .entry))) groups (now (ticks .entry)) (now (sorted .entry)) (now (others .entry))
-        (now (against .entry)) (now (gaps .entry)) (now (gaps .exit)) ⌝ }
+fn raise_pairs(s: &[u8], job: Job, starts: &[u32], points: &[u64], groups: Groups, gaps: &mut [u32])
+    requires { ⌜ GroupsKnown (view job (now s)) (scheduleOf (now starts)) (now points) groups × Gaps (now gaps) ⌝ }
+    ensures { λ _. ⌜ GroupsRaised (view job (now (s .entry))) (scheduleOf (now (starts .entry))) (now (points .entry)) groups (now (gaps .entry))
+        (now (gaps .exit)) ⌝ }
 {
-    let from = groups.from;
-    let to = groups.to;
-    let other = groups.other;
-    let mut p = begin_of(sorted, groups.key);
-    while p < begin_of(sorted, groups.key + 1) {
-        let k = record_at(sorted, p);
-        let step = step_of(s, job, from, k);
-        let at = at_of(s, job, from, k);
-        let t = ticks[k as usize] + groups.wait;
-        raise_after(s, job, step, at, to, others, against, other, t, gaps);
+    let mut p = groups.low;
+    while p < groups.high {
+        raise_after(s, job, starts, points, groups, p, gaps);
         p += 1;
     }
 }
 
-// Notes the points of a key back to tick t: each step's largest lead.
+// Notes a point: the largest lead of its value and step.
+fn note(starts: &[u32], word: u64, leads: &mut [u32; LEADS])
+    requires { ⌜ Notable (scheduleOf (now starts)) word ⌝ }
+    ensures { λ _. ⌜ now (leads .exit) ≡ leadsWith (scheduleOf (now (starts .entry))) word (now (leads .entry)) ⌝ }
+{
+    let k = WIDTH * value_of(word) as usize + step_of(word) as usize;
+    leads[k] = higher(leads[k], (AT_START - offset_of(starts, word)) as u32);
+}
+
+// Notes the points of a group back to tick t.
 fn note_from(
-    s: &[u8],
-    job: Job,
-    to: Point,
-    ticks: &[usize],
-    sorted: &[u16],
-    key: usize,
+    starts: &[u32],
+    points: &[u64],
+    low: usize,
     noted: usize,
     t: usize,
-    leads: &mut [u32; WIDTH],
+    leads: &mut [u32; LEADS],
 ) -> usize
-    requires { ⌜ Noting (view job (now s)) to (now ticks) (now sorted) key noted t (now leads) ⌝ }
-    ensures { λ r. ⌜ Noted (view job (now (s .entry))) to (now (ticks .entry)) (now (sorted .entry)) key t r (now (leads .exit)) ⌝ }
+    requires { ⌜ ((high : ℕ) × Noting (scheduleOf (now starts)) (now points) low high noted t (now leads)) ⌝ }
+    ensures { λ r. ⌜ ((high : ℕ) → Noting (scheduleOf (now (starts .entry))) (now (points .entry)) low high noted t (now (leads .entry))
+        → Noted (scheduleOf (now (starts .entry))) (now (points .entry)) low high t r (now (leads .exit))) ⌝ }
 {
     let mut p = noted;
-    while begin_of(sorted, key) < p {
-        let k = record_at(sorted, p - 1);
-        if ticks[k as usize] < t {
+    while low < p {
+        let word = points[p - 1];
+        if tick_of(word) < t {
             return p;
         }
-        let step = step_of(s, job, to, k) as usize;
-        leads[step] = higher(leads[step], (AT_START - at_of(s, job, to, k)) as u32);
+        note(starts, word, leads);
         p -= 1;
     }
     p
 }
 
-// The gap by a lead; 0 for none.
-fn due(lead: u32, at: u32) -> u32
-    requires { ⌜ (lead ≤ gapBias + 1) × (at ≤ longest) ⌝ }
-    ensures { λ r. ⌜ r ≡ cond (eqb lead 0) 0 (at + lead) ⌝ }
+// Raises the row of an origin's step by the leads of its value; the step's own entry stays.
+fn raise_row(n: usize, origin: Origin, leads: &[u32; LEADS], gaps: &mut [u32])
+    requires { ⌜ Gaps (now gaps) × (n ≤ stepLimit) × OriginKnown n origin × ((k : ℕ) → LeadKnown (getD (now leads) k 0)) ⌝ }
+    ensures { λ _. ⌜ Reached n (Ahead origin (now (leads .entry))) (now (gaps .entry)) (now (gaps .exit)) ⌝ }
 {
-    if lead == 0 { 0 } else { at + lead }
-}
-
-// Raises the row of a step by the leads of all steps; the step's own entry stays.
-fn raise_row(n: usize, step: usize, at: u32, leads: &[u32; WIDTH], gaps: &mut [u32])
-    requires { ⌜ Gaps (now gaps) × (n ≤ stepLimit) × (step < n) × (at ≤ longest) × ((k : ℕ) → getD (now leads) k 0 ≤ gapBias + 1) ⌝ }
-    ensures { λ _. ⌜ Reached n (Ahead step at (now (leads .entry))) (now (gaps .entry)) (now (gaps .exit)) ⌝ }
-{
+    let step = origin.step as usize;
+    let at = origin.at as u32;
+    let ahead = WIDTH * origin.value as usize;
     let row = WIDTH * step;
     let own = gaps[row + step];
     let mut k = 0;
     while k < n {
-        gaps[row + k] = higher(gaps[row + k], due(leads[k], at));
+        gaps[row + k] = higher(gaps[row + k], leads[ahead + k] + at);
         k += 1;
     }
     gaps[row + step] = own;
 }
 
 // Each point of the first group, the latest first, by a row.
-fn raise_rows(
-    s: &[u8],
-    job: Job,
-    groups: Groups,
-    ticks: &[usize],
-    sorted: &[u16],
-    others: &[usize],
-    against: &[u16],
-    gaps: &mut [u32],
-)
-    requires { ⌜ GroupsKnown (view job (now s)) groups (now ticks) (now sorted) (now others) (now against) × Gaps (now gaps) ⌝ }
-    ensures { λ _. ⌜ GroupsRaised (view job (now (s .entry))) groups (now (ticks .entry)) (now (sorted .entry)) (now (others .entry))
-        (now (against .entry)) (now (gaps .entry)) (now (gaps .exit)) ⌝ }
+fn raise_rows(s: &[u8], job: Job, starts: &[u32], points: &[u64], groups: Groups, gaps: &mut [u32])
+    requires { ⌜ GroupsKnown (view job (now s)) (scheduleOf (now starts)) (now points) groups × Gaps (now gaps) ⌝ }
+    ensures { λ _. ⌜ GroupsRaised (view job (now (s .entry))) (scheduleOf (now (starts .entry))) (now (points .entry)) groups (now (gaps .entry))
+        (now (gaps .exit)) ⌝ }
 {
-    let from = groups.from;
-    let to = groups.to;
-    let other = groups.other;
-    let mut leads = [0u32; WIDTH];
-    let mut noted = begin_of(against, other + 1);
-    let mut p = begin_of(sorted, groups.key + 1);
-    while begin_of(sorted, groups.key) < p {
+    let mut leads = [0u32; LEADS];
+    let mut noted = groups.until;
+    let mut p = groups.high;
+    while groups.low < p {
         p -= 1;
-        let k = record_at(sorted, p);
-        let t = ticks[k as usize] + groups.wait;
-        noted = note_from(s, job, to, others, against, other, noted, t, &mut leads);
-        let step = step_of(s, job, from, k) as usize;
-        let at = at_of(s, job, from, k) as u32;
-        raise_row(job.count.steps as usize, step, at, &leads, gaps);
+        let origin = origin_of(s, job, starts, groups, points[p]);
+        noted = note_from(starts, points, groups.after, noted, origin.tick, &mut leads);
+        raise_row(job.count.steps as usize, origin, &leads, gaps);
     }
 }
 
@@ -237,25 +235,18 @@ fn raise_rows(
 pub fn raise_group(
     s: &[u8],
     job: Job,
+    starts: &[u32],
+    points: &[u64],
     groups: Groups,
-    ticks: &[usize],
-    sorted: &[u16],
-    others: &[usize],
-    against: &[u16],
     gaps: &mut [u32],
 )
-    requires { ⌜ GroupsKnown (view job (now s)) groups (now ticks) (now sorted) (now others) (now against) × Gaps (now gaps) ⌝ }
-    ensures { λ _. ⌜ GroupsRaised (view job (now (s .entry))) groups (now (ticks .entry)) (now (sorted .entry)) (now (others .entry))
-        (now (against .entry)) (now (gaps .entry)) (now (gaps .exit)) ⌝ }
+    requires { ⌜ GroupsKnown (view job (now s)) (scheduleOf (now starts)) (now points) groups × Gaps (now gaps) ⌝ }
+    ensures { λ _. ⌜ GroupsRaised (view job (now (s .entry))) (scheduleOf (now (starts .entry))) (now (points .entry)) groups (now (gaps .entry))
+        (now (gaps .exit)) ⌝ }
 {
-    let begin = begin_of(against, groups.other);
-    let end = begin_of(against, groups.other + 1);
-    if end <= begin {
-        return;
-    }
-    if end - begin < MANY {
-        raise_pairs(s, job, groups, ticks, sorted, others, against, gaps);
+    if groups.until - groups.after < MANY {
+        raise_pairs(s, job, starts, points, groups, gaps);
     } else {
-        raise_rows(s, job, groups, ticks, sorted, others, against, gaps);
+        raise_rows(s, job, starts, points, groups, gaps);
     }
 }

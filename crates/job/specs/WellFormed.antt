@@ -60,3 +60,21 @@ pub record WellFormed (m : Model) : Type 0 where
       → m .conditionFrom c ≤ m .effectAt e
       → m .effectAt e < m .conditionTo c
       → m .effectValue e ≡ m .conditionValue c
+
+-- what refusals 1 to 6 leave of it that the points of a job rely on
+pub record Ranged (m : Model) : Type 0 where
+  pub factCount : m .facts ≤ mostFacts
+  pub levelCount : m .levels ≤ mostLevels
+  pub stepCount : m .steps ≤ mostSteps
+  pub conditionCount : m .conditions ≤ mostConditions
+  pub effectCount : m .effects ≤ mostEffects
+  pub useCount : m .uses ≤ mostUses
+  pub initialValue : (k : ℕ) → k < m .facts → m .initial k ≤ 1
+  pub conditionStep : (k : ℕ) → k < m .conditions → m .conditionStep k < m .steps
+  pub conditionFact : (k : ℕ) → k < m .conditions → m .conditionFact k < m .facts
+  pub conditionValue : (k : ℕ) → k < m .conditions → m .conditionValue k ≤ 1
+  pub effectStep : (k : ℕ) → k < m .effects → m .effectStep k < m .steps
+  pub effectFact : (k : ℕ) → k < m .effects → m .effectFact k < m .facts
+  pub effectValue : (k : ℕ) → k < m .effects → m .effectValue k ≤ 1
+  pub useStep : (k : ℕ) → k < m .uses → m .useStep k < m .steps
+  pub useLevel : (k : ℕ) → k < m .uses → m .useLevel k < m .levels

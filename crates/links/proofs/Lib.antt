@@ -1,3 +1,5 @@
--- The supporter is the first producer; what a list of links says.
-pub mod Supporters
+-- The link by the run of a value; how a list of links grows, along a fact, fact by fact and goal by goal; what such a list says.
+pub mod Supported
+pub mod Putting
+pub mod Linking
 pub mod LinkList

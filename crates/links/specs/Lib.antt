@@ -1,3 +1,4 @@
--- What callers believe of a list of links (LinkList), and what this crate's functions rely on: producers of rule 1.
-pub mod Producers
+-- What callers believe of a list of links (LinkList) and of how it is found (Linkable), and what this crate's functions leave step by step.
 pub mod LinkList
+pub mod Linkable
+pub mod Linking

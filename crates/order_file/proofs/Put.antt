@@ -1,5 +1,5 @@
 -- Bytes put one part behind the other: two parts, three, the header's numbers, one more record of a table.
-use Prim.Native.Nat.{ℕ, zero, suc, _+_, _*_, _≤_, _<_}
+use Prim.Native.Nat.{ℕ, zero, suc, _+_, _*_, _-_, _/_, _%_, _≤_, _<_}
 use mathlib.Core.Path.{_≡_, refl, sym, ap, _∙_}
 use mathlib.Core.Bool.{Bool, true, false, cond, not}
 use mathlib.Core.List.{List, _++_}
@@ -9,15 +9,16 @@ use borrow.Author.Tests.{eq-eqb, ne-eqb}
 use lib.ListN.{length, getD, length-append}
 use lib.Seq.{sets}
 use Rattle.laws.specs.Listed.{concatenate}
-use Rattle.little_endian.specs.Bytes.{u16Bytes, u32Bytes}
+use Rattle.little_endian.specs.Bytes.{values, u16Bytes, u32Bytes}
 use Rattle.laws.specs.Nth.{count}
 use Rattle.laws.proofs.Listed.{concatenate-more}
 use Rattle.laws.proofs.Nth.{count-more, count-same, nth-is}
 use Rattle.little_endian.proofs.Sets.{sets-behind}
-use Rattle.order_file.specs.Encode.{headerWith, windowWith}
+use Rattle.order_file.specs.Contents.{gapBias}
+use Rattle.order_file.specs.Encode.{headerWith, windowWith, gapBits}
 use Rattle.order_file.specs.Layout.{fileEdition, windowsAt, ordersAt, linksAt}
 use Rattle.order_file.proofs.Stands.{length-parts}
-use Rattle.order_file.specs.Table.{rowWidth, tableSize, startIn}
+use Rattle.order_file.specs.Table.{rowWidth, tableSize, entryBias, tableBias, noOrder, gapOfEntry, gapAt, startIn}
 use Rattle.order_file.specs.Held.{entered, windowIn, entryBytes, orderIn, linkIn, NoneFrom}
 
 -- three parts, each where the one before it ends
@@ -81,6 +82,19 @@ length-link : (linked : List ℕ) (j : ℕ) → length (linkIn linked j) ≡ 2
 unfolding linkIn u16Bytes
 length-link linked j = refl
 
+-- the numbers of an order, one behind the other
+pub put-order :
+    (l : List ℕ) {a b c : List ℕ} (at q entry : ℕ) → tableBias < entry
+    → a ≡ sets l at (u16Bytes (q / rowWidth))
+    → b ≡ sets a (at + 2) (u16Bytes (q % rowWidth))
+    → c ≡ sets b (at + 4) (u32Bytes ((entry + (values - entryBias)) % values))
+    → c ≡ sets l at (entryBytes q entry)
+unfolding entryBytes u32Bytes u16Bytes
+put-order l at q entry h ea eb ec =
+    let e : entry + (values - entryBias) ≡ gapOfEntry entry + (values - gapBias) = omega arith in
+    rw (ec, eb, ea, e)
+    (put-three l (u16Bytes (q / rowWidth)) (u16Bytes (q % rowWidth)) (u32Bytes (gapBits (gapOfEntry entry))) at (at + 2) (at + 4) refl (omega arith))
+
 -- one more window, one more link
 pub windows-more :
     (limits latest earliest before : List ℕ) (from i at : ℕ) {now next : List ℕ}
@@ -98,6 +112,13 @@ pub links-more :
     → next ≡ sets before from (concatenate (i + 1) (linkIn linked))
 unfolding linkIn
 links-more linked = put-more (linkIn linked) 2 (length-link linked)
+
+-- an entry above the bias is an order, and no other
+pub entered-above : (gaps : List ℕ) (q : ℕ) → tableBias < getD gaps q 0 → entered gaps q ≡ true
+entered-above gaps q h = ap not (ne-eqb (gapAt gaps q) noOrder (λ e. absurd (omega arith)))
+
+pub entered-below : (gaps : List ℕ) (q : ℕ) → getD gaps q 0 ≤ tableBias → entered gaps q ≡ false
+entered-below gaps q h = ap not (eq-eqb (gapAt gaps q) noOrder (omega arith))
 
 -- indexes that do not pass at the end of a count add nothing
 count-rest : (p : ℕ → Bool) (m n : ℕ) → m ≤ n → ((q : ℕ) → m ≤ q → p q ≡ false) → count m p ≡ count n p
@@ -136,10 +157,10 @@ module _ (gaps before : List ℕ) (from : ℕ) where
 
   module _ (q at : ℕ) (bytes : List ℕ) (w : OrdersPut gaps before from q at bytes) (h : q < tableSize) where
     pub orders-more :
-        {place : ℕ} {next : List ℕ} → (getD gaps q 0 ≡ 0 → ⊥) → place ≡ at + 8 → next ≡ sets bytes at (entryBytes q (getD gaps q 0))
+        {place : ℕ} {next : List ℕ} → tableBias < getD gaps q 0 → place ≡ at + 8 → next ≡ sets bytes at (entryBytes q (getD gaps q 0))
         → OrdersPut gaps before from (q + 1) place next
     orders-more n a e =
-        let t : entered gaps q ≡ true = ap not (ne-eqb _ _ n) in
+        let t = entered-above gaps q n in
         let m : count q (entered gaps) + 1 ≡ count (q + 1) (entered gaps) = count-more (entered gaps) q refl refl t in
         record {
           entries = omega arith;
@@ -151,9 +172,9 @@ module _ (gaps before : List ℕ) (from : ℕ) where
               ∙ ap (λ o. sets before from (concatenate o (orderIn gaps))) m;
         }
 
-    pub orders-same : {place : ℕ} {next : List ℕ} → getD gaps q 0 ≡ 0 → place ≡ at → next ≡ bytes → OrdersPut gaps before from (q + 1) place next
+    pub orders-same : {place : ℕ} {next : List ℕ} → getD gaps q 0 ≤ tableBias → place ≡ at → next ≡ bytes → OrdersPut gaps before from (q + 1) place next
     orders-same z a e =
-        let m : count q (entered gaps) ≡ count (q + 1) (entered gaps) = count-same (entered gaps) q refl refl (ap not (eq-eqb _ _ z)) in
+        let m : count q (entered gaps) ≡ count (q + 1) (entered gaps) = count-same (entered gaps) q refl refl (entered-below gaps q z) in
         record {
           entries = omega arith;
           fewer = omega (arith, w .fewer);

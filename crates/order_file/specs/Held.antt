@@ -11,15 +11,15 @@ use Rattle.order_file.specs.declared.write.Header.{Header}
 use Rattle.order_file.specs.Contents.{Contents, stepLimit, linkLimit}
 use Rattle.order_file.specs.Layout.{fileLength}
 use Rattle.order_file.specs.Encode.{windowWith, orderWith}
-use Rattle.order_file.specs.Table.{rowWidth, tableSize, noOrder, startIn}
+use Rattle.order_file.specs.Table.{rowWidth, tableSize, noOrder, gapOfEntry, gapAt, startIn}
 
 -- whether an entry of the table of gaps is an order
 abbrev pub entered : List ℕ → ℕ → Bool
-entered gaps q = not (eqb (getD gaps q 0) noOrder)
+entered gaps q = not (eqb (gapAt gaps q) noOrder)
 
 -- a table without an order from step n or a later one
 abbrev pub NoneFrom : ℕ → List ℕ → Type 0
-NoneFrom n gaps = (q : ℕ) → rowWidth * n ≤ q → getD gaps q 0 ≡ noOrder
+NoneFrom n gaps = (q : ℕ) → rowWidth * n ≤ q → gapAt gaps q ≡ noOrder
 
 -- the contents that so many steps, links and rounds and the lists of them hold
 unfoldable pub heldIn : ℕ → ℕ → ℕ → List ℕ → List ℕ → List ℕ → List ℕ → List ℕ → Contents
@@ -34,7 +34,7 @@ heldIn steps links rounds limits latest earliest gaps linked =
       earliest = startIn earliest;
       first = λ o. nth tableSize (entered gaps) o / rowWidth;
       second = λ o. nth tableSize (entered gaps) o % rowWidth;
-      gap = λ o. getD gaps (nth tableSize (entered gaps) o) 0;
+      gap = λ o. gapAt gaps (nth tableSize (entered gaps) o);
       link = λ j. getD linked j 0;
     }
 
@@ -43,7 +43,7 @@ unfoldable pub windowIn : List ℕ → List ℕ → List ℕ → ℕ → List �
 windowIn limits latest earliest k = windowWith (startIn limits k) (startIn latest k) (startIn earliest k)
 
 unfoldable pub entryBytes : ℕ → ℕ → List ℕ
-entryBytes q gap = orderWith (q / rowWidth) (q % rowWidth) gap
+entryBytes q entry = orderWith (q / rowWidth) (q % rowWidth) (gapOfEntry entry)
 
 unfoldable pub orderIn : List ℕ → ℕ → List ℕ
 orderIn gaps o = let q = nth tableSize (entered gaps) o in entryBytes q (getD gaps q 0)

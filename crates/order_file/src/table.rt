@@ -9,11 +9,14 @@ pub const WIDTH: usize = MOST_STEPS;
 
 pub const ENTRIES: usize = WIDTH * WIDTH;
 
-// An entry for no order.
+// An entry for no order, of which an empty table consists.
 pub const NO_ORDER: u32 = 0;
 
-// What an entry has more than the paper's gap.
-pub const BIAS: u32 = GAP_BIAS as u32;
+// What the entry of an order has more than the paper's gap: so much that an entry for no order, added to a start, demands nothing.
+pub const ENTRY_BIAS: u32 = 16777216;
+
+// What it has more than the gap plus `GAP_BIAS`; an entry of at most this is no order.
+pub const TABLE_BIAS: u32 = ENTRY_BIAS - GAP_BIAS as u32;
 
 pub fn higher(a: u32, b: u32) -> u32
     ensures { λ r. ⌜ r ≡ max a b ⌝ }

@@ -7,21 +7,22 @@ ghost use Rattle.laws.specs.Listed.{concatenate};
 ghost use Rattle.laws.specs.Nth.{count};
 ghost use Rattle.order_file.specs.Contents.{stepLimit, linkLimit};
 ghost use Rattle.order_file.specs.Layout.{windowsAt};
-ghost use Rattle.order_file.specs.Table.{tableSize};
+ghost use Rattle.order_file.specs.Table.{tableSize, tableBias};
 ghost use Rattle.order_file.specs.Encode.{headerWith, windowWith, encode};
 ghost use Rattle.order_file.specs.Held.{entered, heldIn, windowIn, entryBytes, orderIn, linkIn, over, NoneFrom, Roomy};
 use crate::layout;
 use crate::layout::FILE_WIDTHS;
 use crate::layout::LINK;
 use crate::layout::ORDER;
-use crate::table::NO_ORDER;
+use crate::table::ENTRY_BIAS;
+use crate::table::TABLE_BIAS;
 use crate::table::WIDTH;
 use little_endian::VALUES;
 use little_endian::put_u16;
 use little_endian::put_u32;
 
-// What takes the bias off a gap of the table, counted round below 0.
-const UNBIASED: usize = VALUES - layout::GAP_BIAS;
+// What takes the bias off an entry of the table, counted round below 0.
+const UNBIASED: usize = VALUES - ENTRY_BIAS as usize;
 
 // The counts of a file, and its rounds.
 pub struct Header {
@@ -31,21 +32,21 @@ pub struct Header {
     pub rounds: usize,
 }
 
-// How many orders the table of the first steps holds.
+// How many orders the table of the first steps holds, counted in as many bits as an entry has: the compiler takes several at a time.
 pub fn count_orders(gaps: &[u32], steps: usize) -> usize
     requires { ⌜ (length (now gaps) ≡ tableSize) × (steps ≤ stepLimit) × NoneFrom steps (now gaps) ⌝ }
     ensures { λ r. ⌜ (r ≡ count tableSize (entered (now (gaps .entry)))) × (r ≤ tableSize) ⌝ }
 {
     let end = WIDTH * steps;
-    let mut orders = 0;
+    let mut orders = 0u32;
     let mut q = 0;
     while q < end {
-        if gaps[q] != NO_ORDER {
+        if TABLE_BIAS < gaps[q] {
             orders += 1;
         }
         q += 1;
     }
-    orders
+    orders as usize
 }
 
 // Puts the counts, the rounds and the tables' offsets.
@@ -95,13 +96,13 @@ fn write_windows(steps: usize, limits: &[u32], latest: &[u32], earliest: &[u32],
 }
 
 // Puts the order at an entry of the table of gaps: its steps, and the gap's bits.
-fn write_order(at: usize, q: usize, gap: usize, out: &mut [u8])
-    requires { ⌜ (at < 2000000) × (gap < 4294967296) ⌝ }
-    ensures { λ _. ⌜ now (out .exit) ≡ sets (now (out .entry)) at (entryBytes q gap) ⌝ }
+fn write_order(at: usize, q: usize, entry: usize, out: &mut [u8])
+    requires { ⌜ (at < 2000000) × (tableBias < entry) × (entry < 4294967296) ⌝ }
+    ensures { λ _. ⌜ now (out .exit) ≡ sets (now (out .entry)) at (entryBytes q entry) ⌝ }
 {
     put_u16(at, q / WIDTH, out);
     put_u16(at + 2, q % WIDTH, out);
-    put_u32(at + 4, (gap + UNBIASED) % VALUES, out);
+    put_u32(at + 4, (entry + UNBIASED) % VALUES, out);
 }
 
 // Puts every order that the table of the first steps holds, ascending.
@@ -114,7 +115,7 @@ fn write_orders(from: usize, gaps: &[u32], steps: usize, out: &mut [u8])
     let mut at = from;
     let mut q = 0;
     while q < end {
-        if gaps[q] != NO_ORDER {
+        if TABLE_BIAS < gaps[q] {
             write_order(at, q, gaps[q] as usize, out);
             at += FILE_WIDTHS[ORDER];
         }

@@ -8,7 +8,7 @@ use native.Mathlib.Omega.{arith}
 use borrow.Author.Tests.{lt-ltb, le-ltb}
 use lib.ListN.{getD}
 use lib.Dec.{ltb, eqb}
-use Rattle.order_file.specs.Table.{rowWidth, tableSize}
+use Rattle.order_file.specs.Table.{rowWidth, tableSize, gapAt}
 use Rattle.laws.specs.Listed.{concatenate}
 use Rattle.little_endian.specs.Bytes.{u16Bytes}
 use Rattle.laws.specs.Nth.{count, nth}
@@ -66,11 +66,11 @@ module _
     place : (q : ℕ) → rowWidth * (q / rowWidth) + q % rowWidth ≡ q
     place q = omega arith
 
-    entry : (q : ℕ) → q / rowWidth < m .steps → q % rowWidth < m .steps → getD gaps q 0 ≡ gapOf m x (q / rowWidth) (q % rowWidth)
-    entry q a b = ap (λ k. getD gaps k 0) (sym (place q)) ∙ h .gapAt (q / rowWidth) (q % rowWidth) a b
+    entry : (q : ℕ) → q / rowWidth < m .steps → q % rowWidth < m .steps → gapAt gaps q ≡ gapOf m x (q / rowWidth) (q % rowWidth)
+    entry q a b = ap (gapAt gaps) (sym (place q)) ∙ h .gapAt (q / rowWidth) (q % rowWidth) a b
 
-    no-entry : (q : ℕ) → q < tableSize → (q / rowWidth < m .steps → q % rowWidth < m .steps → ⊥) → getD gaps q 0 ≡ 0
-    no-entry q l n = ap (λ k. getD gaps k 0) (sym (place q)) ∙ h .emptyAt (q / rowWidth) (q % rowWidth) (omega arith) (omega arith) n
+    no-entry : (q : ℕ) → q < tableSize → (q / rowWidth < m .steps → q % rowWidth < m .steps → ⊥) → gapAt gaps q ≡ 0
+    no-entry q l n = ap (gapAt gaps) (sym (place q)) ∙ h .emptyAt (q / rowWidth) (q % rowWidth) (omega arith) (omega arith) n
 
     -- the entries are the pairs that are ordered
     entered-ordered : (q : ℕ) → q < tableSize → entered gaps q ≡ ordered m x q
@@ -83,17 +83,17 @@ module _
       where
         counted :
             Dec (q % rowWidth < m .steps) → q / rowWidth < m .steps → not
-            (eqb (getD gaps q 0) 0) ≡ (ltb (q / rowWidth) (m .steps) && ltb (q % rowWidth) (m .steps) && not (eqb (gapOf m x (q / rowWidth) (q % rowWidth)) 0))
+            (eqb (gapAt gaps q) 0) ≡ (ltb (q / rowWidth) (m .steps) && ltb (q % rowWidth) (m .steps) && not (eqb (gapOf m x (q / rowWidth) (q % rowWidth)) 0))
         counted (yes b) a = rw (entry q a b, lt-ltb _ _ a, lt-ltb _ _ b)
         counted (no b) a = rw (no-entry q l (λ _ c. b c), lt-ltb _ _ a, le-ltb (q % rowWidth) (m .steps) (omega arith))
 
     same-pair : (o : ℕ) → nth tableSize (entered gaps) o ≡ pairOf m x o
     same-pair o = nth-cong (entered gaps) (ordered m x) tableSize o entered-ordered
 
-    same-gap : (o : ℕ) → o < count tableSize (ordered m x) → getD gaps (nth tableSize (entered gaps) o) 0 ≡ gapOf m x (pairOf m x o / rowWidth) (pairOf m x o % rowWidth)
+    same-gap : (o : ℕ) → o < count tableSize (ordered m x) → gapAt gaps (nth tableSize (entered gaps) o) ≡ gapOf m x (pairOf m x o / rowWidth) (pairOf m x o % rowWidth)
     same-gap o l =
         let p = ordered-out m x (pairOf m x o) (pair-ordered m x o l) in
-        ap (λ q. getD gaps q 0) (same-pair o) ∙ entry (pairOf m x o) (p .0) (p .1)
+        ap (gapAt gaps) (same-pair o) ∙ entry (pairOf m x o) (p .0) (p .1)
 
     same-link : (j : ℕ) → j < m .conditions + m .goals → getD linked j 0 ≡ nthLink m x j
     unfolding nthLink

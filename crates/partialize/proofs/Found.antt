@@ -5,7 +5,7 @@ use mathlib.Core.List.{List}
 use native.Mathlib.Omega.{arith}
 use native.Mathlib.Nat.{add-sub-cancel-left}
 use borrow.Author.Tests.{le-leb, lt-leb, lt-ltb, le-ltb}
-use lib.ListN.{length, getD}
+use lib.ListN.{length}
 use Rattle.laws.specs.Nth.{count}
 use Rattle.job.specs.Model.{Model}
 use Rattle.job.specs.WellFormed.{WellFormed}
@@ -18,7 +18,7 @@ use Rattle.orders.specs.Gaps.{gapOf}
 use Rattle.orders.specs.Windows.{limitOf, latestOf}
 use Rattle.rounds.specs.Rounds.{rounds, earliest}
 use Rattle.order_file.specs.Contents.{gapBias}
-use Rattle.order_file.specs.Table.{gapIn, startIn, rowWidth, tableSize}
+use Rattle.order_file.specs.Table.{gapAt, gapIn, startIn, rowWidth, tableSize}
 use Rattle.laws.specs.Listed.{Filled}
 use Rattle.gaps.specs.Table.{TableOf}
 use Rattle.links.specs.LinkList.{LinksOf}
@@ -33,7 +33,7 @@ use Rattle.partialize.proofs.Filed.{held-file}
 pub none-from : (n : ℕ) (gap : ℕ → ℕ → ℕ) (gaps : List ℕ) → TableOf n gap gaps → NoneFrom n gaps
 none-from n gap gaps t q h =
     let e : q ≡ rowWidth * (q / rowWidth) + q % rowWidth = omega arith in
-    ap (λ p. getD gaps p 0) e ∙ t .rest (q / rowWidth) (q % rowWidth) (omega arith) (λ l _. omega arith)
+    ap (gapAt gaps) e ∙ t .rest (q / rowWidth) (q % rowWidth) (omega arith) (λ l _. omega arith)
 
 module _
     (m : Model) (x : ℕ → ℕ) (found : ℕ) (limits latest early gaps linked : List ℕ)

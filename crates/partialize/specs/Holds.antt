@@ -1,12 +1,10 @@
--- Inner: points of a valid schedule, lists of links and gaps to be filed, and lists that hold what is filed.
+-- Inner: lists of links and gaps to be filed, and lists that hold what is filed.
 use Prim.Native.Nat.{ℕ, _+_, _<_}
 use mathlib.Core.Path.{_≡_}
 use mathlib.Core.List.{List}
 use lib.ListN.{length, getD}
 use Rattle.job.specs.Model.{Model}
 use Rattle.job.specs.WellFormed.{WellFormed}
-use Rattle.validity.specs.Valid.{Valid}
-use Rattle.points.specs.Known.{EffectsKnown, UsesKnown}
 use Rattle.order_file.specs.Contents.{linkLimit}
 use Rattle.order_file.specs.Table.{rowWidth, gapIn, startIn, Gaps}
 use Rattle.order_file.specs.Held.{NoneFrom}
@@ -30,12 +28,6 @@ pub record Holds (m : Model) (x : ℕ → ℕ) (rounds : ℕ) (limits latest ear
   pub emptyAt : (i k : ℕ) → i < rowWidth → k < rowWidth → (i < m .steps → k < m .steps → ⊥) → gapIn gaps i k ≡ 0
   pub conditionAt : (c : ℕ) → c < m .conditions → getD linked c 0 ≡ conditionLink m x c
   pub goalAt : (g : ℕ) → g < m .goals → getD linked (m .conditions + g) 0 ≡ goalLink m x g
-
--- points of a valid schedule in the order of their ticks
-pub record ValidPoints (m : Model) (x : ℕ → ℕ) (ticks facts uses levels : List ℕ) : Type 0 where
-  pub effects : EffectsKnown m x ticks facts
-  pub used : UsesKnown m x uses levels
-  pub valid : Valid m x
 
 -- links and gaps of a well-formed job that can be filed
 pub record Fileable (m : Model) (links gaps : List ℕ) : Type 0 where

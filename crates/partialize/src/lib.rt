@@ -2,8 +2,10 @@
 ghost use Rattle.job.specs.Model.{view};
 ghost use Rattle.validity.specs.Ticks.{scheduleOf};
 ghost use Rattle.orders.specs.File.{fileOf};
+ghost use Rattle.schedule.specs.Opened.{Planned};
+ghost use Rattle.gaps.specs.Raised.{ValidPoints};
 ghost use Rattle.partialize.specs.Formed.{Formed};
-ghost use Rattle.partialize.specs.Holds.{ValidPoints, Fileable, FiledOf};
+ghost use Rattle.partialize.specs.Holds.{Fileable, FiledOf};
 ghost use Rattle.partialize.specs.Demands.{Filing, Promise};
 
 pub mod answer;
@@ -19,13 +21,10 @@ use order_file::table::NO_ORDER;
 use order_file::write::Header;
 use order_file::write::count_orders;
 use order_file::write::write_file;
-use points::listed::list_effects;
-use points::listed::list_uses;
-use points::ticks::effect_ticks;
 use points::ticks::planned_starts;
-use points::ticks::use_ticks;
-use timeline::index::CAPACITY;
-use timeline::index::LIST_SIZE;
+use points::words::MOST_GROUPS;
+use points::words::MOST_POINTS;
+use points::words::list_points;
 use verdict::number;
 use windows::starts;
 use windows::window;
@@ -59,55 +58,54 @@ fn file_found(s: &[u8], job: Job, links: &[u16], gaps: &[u32], out: &mut [u8]) -
     Answer::Filed(length as u32)
 }
 
-// Finds the links and the gaps of a valid schedule whose points are listed, and files them.
+// Finds the links and the gaps of a valid schedule whose points are in order, and files them.
 fn file_schedule(
     s: &[u8],
     job: Job,
     starts: &[u32],
-    ticks: &[usize],
-    facts: &[u16],
-    uses: &[usize],
-    levels: &[u16],
+    points: &[u64],
+    begins: &[u16],
     out: &mut [u8],
 ) -> Answer
-    requires { ⌜ ValidPoints (view job (now s)) (scheduleOf (now starts)) (now ticks) (now facts) (now uses) (now levels) ⌝ }
+    requires { ⌜ ValidPoints (view job (now s)) (scheduleOf (now starts)) (now points) (now begins) ⌝ }
     ensures { λ r. ⌜ Filing (fileOf (view job (now (s .entry))) (scheduleOf (now (starts .entry)))) (now (out .entry)) (now (out .exit)) r ⌝ }
 {
     let mut links = [0u16; MOST_LINKS];
-    support::find_links(s, job, starts, ticks, facts, &mut links);
+    support::find_links(s, job, points, begins, &mut links);
     let mut gaps = [NO_ORDER; ENTRIES];
-    fill::fill_gaps(
-        s,
-        job,
-        starts,
-        ticks,
-        facts,
-        uses,
-        levels,
-        &links,
-        &mut gaps,
-    );
+    fill::fill_gaps(s, job, starts, points, begins, &links, &mut gaps);
     file_found(s, job, &links, &gaps, out)
 }
 
-// Checks the planned starts of a job of good form, and files them. What is listed of the points serves the check and the file.
+// Checks a job of good form whose points at its planned starts are in order, and files it.
+fn loosen_ordered(
+    s: &[u8],
+    job: Job,
+    starts: &[u32],
+    points: &[u64],
+    begins: &[u16],
+    out: &mut [u8],
+) -> Answer
+    requires { ⌜ Planned (now s) job (now starts) (now points) (now begins) ⌝ }
+    ensures { λ r. ⌜ Promise (now (s .entry)) (now (out .entry)) (now (out .exit)) r ⌝ }
+{
+    let v = schedule::check_planned(s, job, starts, points, begins);
+    if number(v) != 0 {
+        return Answer::Refused(v);
+    }
+    file_schedule(s, job, starts, points, begins, out)
+}
+
+// Puts the points of a job of good form in order, once for the check and the file.
 fn loosen(s: &[u8], job: Job, starts: &[u32], out: &mut [u8]) -> Answer
     requires { ⌜ Formed (now s) job (now starts) ⌝ }
     ensures { λ r. ⌜ Promise (now (s .entry)) (now (out .entry)) (now (out .exit)) r ⌝ }
 {
-    let mut ticks = [0; CAPACITY];
-    effect_ticks(s, job, starts, &mut ticks);
-    let mut facts = [0; LIST_SIZE];
-    list_effects(s, job, starts, &ticks, &mut facts);
-    let mut uses = [0; Job::USES as usize];
-    use_ticks(s, job, starts, &mut uses);
-    let mut levels = [0; LIST_SIZE];
-    list_uses(s, job, starts, &uses, &mut levels);
-    let v = schedule::check_planned(s, job, starts, &ticks, &facts, &uses, &levels);
-    if number(v) != 0 {
-        return Answer::Refused(v);
-    }
-    file_schedule(s, job, starts, &ticks, &facts, &uses, &levels, out)
+    let mut spare = [0u64; MOST_POINTS];
+    let mut points = [0u64; MOST_POINTS];
+    let mut begins = [0u16; MOST_GROUPS + 2];
+    list_points(s, job, starts, &mut spare, &mut points, &mut begins);
+    loosen_ordered(s, job, starts, &points, &begins, out)
 }
 
 // Loosens a job into an order file: the file's length, with the file at the front of the buffer and every byte past it as it was; or

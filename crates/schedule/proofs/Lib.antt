@@ -1,3 +1,10 @@
--- What the code's tests and sums say of the definitions.
-pub mod Searches
-pub mod Sweeps
+-- How the refusals chain.
+pub mod Chained
+pub mod Overlap
+pub mod LevelSweeps
+pub mod GoalRuns
+pub mod Against
+pub mod Breaks
+pub mod Conflicts
+pub mod Noted
+pub mod Walked

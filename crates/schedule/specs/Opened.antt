@@ -11,7 +11,7 @@ use Rattle.form.specs.declared.Form.{Form}
 use Rattle.form.specs.Refusals.{formCheck}
 use Rattle.validity.specs.Ticks.{scheduleOf, plannedStarts}
 use Rattle.validity.specs.Promise.{JobPromise}
-use Rattle.points.specs.Known.{EffectsKnown, UsesKnown}
+use Rattle.points.specs.Points.{PointsKnown}
 
 -- what the form check found of a file: the header, and the job check's refusal or a well-formed job
 pub record Opened (s : List ℕ) (r : Form) : Type 0 where
@@ -21,9 +21,9 @@ pub record Opened (s : List ℕ) (r : Form) : Type 0 where
   pub wellFormed : number (r .verdict) ≡ 0 → WellFormed (modelOf s)
 
 -- a file of good form, and its points at its written starts in the order of their ticks
-pub record Planned (s : List ℕ) (job : Job) (starts ticks facts uses levels : List ℕ) : Type 0 where
+pub record Planned (s : List ℕ) (job : Job) (starts points begins : List ℕ) : Type 0 where
   pub form : number (formCheck s) ≡ 0
+  pub wellFormed : WellFormed (view job s)
   pub header : job ≡ jobOf s
   pub written : starts ≡ plannedStarts (view job s)
-  pub effects : EffectsKnown (view job s) (scheduleOf starts) ticks facts
-  pub used : UsesKnown (view job s) (scheduleOf starts) uses levels
+  pub known : PointsKnown (view job s) (scheduleOf starts) points begins

@@ -8,3 +8,8 @@ pub mod Scanning
 pub mod Summing
 pub mod Words
 pub mod Walking
+pub mod Ranks
+pub mod Permuting
+pub mod Arranging
+pub mod Dealing
+pub mod PlacedSums

@@ -5,3 +5,5 @@ pub mod Sorting
 pub mod Words
 pub mod Placed
 pub mod Walking
+pub mod Sortable
+pub mod Dealing

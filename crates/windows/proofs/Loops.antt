@@ -4,21 +4,35 @@ use mathlib.Core.Path.{_≡_, refl, sym, ap, ap₂, _∙_}
 use mathlib.Core.Bool.{Bool, true, false}
 use mathlib.Core.List.{List}
 use native.Mathlib.Numerals.{add-one}
+use native.Mathlib.Decide.{decLt}
 use native.Mathlib.Omega.{arith}
-use lib.ListN.{replicate, getD-replicate}
+use borrow.Author.Tests.{eq-eqb, ne-eqb}
+use lib.ListN.{getD, replicate, getD-replicate}
 use lib.Dec.{eqb}
 use Rattle.laws.specs.Search.{all, lowest}
 use Rattle.laws.proofs.Search.{all-cong, lowest-start, lowest-more, lowest-found, lowest-end}
+use Rattle.job.specs.Model.{lastStart}
 use Rattle.order_file.specs.Contents.{noLatest, gapBias, mostGap}
-use Rattle.order_file.specs.Table.{rowWidth, gapIn, startIn, Gaps}
+use Rattle.order_file.specs.Table.{rowWidth, entryBias, tableBias, gapIn, startIn, Gaps}
 use Rattle.windows.specs.Starts.{Bounded}
 use Rattle.laws.specs.Listed.{Filled}
 use Rattle.rounds.specs.Rounds.{demand, raised, after, unchanged, rounds, earliest}
 use Rattle.windows.specs.Loops.{aboveStarts, Given}
 use Rattle.rounds.proofs.Rounds.{demand-most, raised-zero, raised-more, raised-ge, raised-demand, raised-le, raised-cong, after-most}
 
--- the higher of a start and a demand, both with the bias, and without it
-pub unbiased : (a b d e r : ℕ) → a ≡ b → d - gapBias ≡ e → r ≡ max (a + gapBias) d → r - gapBias ≡ max b e
+-- what a start and an entry demand with the bias of the entries, and without it
+pub demand-entry :
+    (gaps : List ℕ) (i k t : ℕ) → Gaps gaps → t < aboveStarts
+    → t + getD gaps (rowWidth * i + k) 0 - entryBias ≡ demand (gapIn gaps) gapBias i k t
+unfolding demand
+demand-entry gaps i k t g h =
+    elim (decLt tableBias (getD gaps (rowWidth * i + k) 0)) [
+      | yes l ↦ rw (ne-eqb (gapIn gaps i k) 0 (λ e. absurd (omega arith))) (omega arith)
+      | no l ↦ rw (eq-eqb (gapIn gaps i k) 0 (omega arith)) (omega (arith, g .low (rowWidth * i + k) (omega arith)))
+    ]
+
+-- the higher of a start and a demand, both with the bias of the entries, and without it
+pub unbiased : (a b d e r : ℕ) → a ≡ b → d - entryBias ≡ e → r ≡ max (a + entryBias) d → r - entryBias ≡ max b e
 unbiased a b d e r p q w = omega arith
 
 -- A loop over the rows of the table has raised the starts by the orders from the first i steps.
@@ -60,6 +74,9 @@ module _ (n : ℕ) (gap : ℕ → ℕ → ℕ) (bias : ℕ) (before : List ℕ) 
     pub rows-end : i ≤ n → n ≤ i → Filled n (raised n gap bias (startIn before)) before at
     rows-end h g = let q : i ≡ n = omega arith in rw q at w
 
+gap-most : (gaps : List ℕ) → Gaps gaps → (i k : ℕ) → gapIn gaps i k ≤ mostGap
+gap-most gaps g i k = omega (arith, g .most (rowWidth * i + k))
+
 -- no row raises by more than the largest gap
 pub rows-bounded :
     (n : ℕ) (gaps before : List ℕ) (i : ℕ) (at : List ℕ) → Gaps gaps → Bounded n (aboveStarts - 1) before → i ≤ n
@@ -77,14 +94,14 @@ rows-bounded n gaps before i at g b l w =
                   arith,
                   b .most j (omega arith),
                   demand-most (gapIn gaps) gapBias (mostGap - gapBias) j k (startIn before j)
-                      (g .most (rowWidth * j + k)),
+                      (gap-most gaps g j k),
                 )),
           );
     }
 
 -- The rows that a round may skip: none in the first, and what a round has given stays.
 pub given-start :
-    (n : ℕ) (gap : ℕ → ℕ → ℕ) (bias : ℕ) (limits : List ℕ) → Bounded n 1000000 limits → n ≤ rowWidth
+    (n : ℕ) (gap : ℕ → ℕ → ℕ) (bias : ℕ) (limits : List ℕ) → Bounded n lastStart limits → n ≤ rowWidth
     → Given n gap bias (startIn (replicate rowWidth noLatest)) (startIn limits)
 given-start n gap bias limits b m =
     record { given = λ i k l h e. absurd (omega (arith, b .most i l, getD-replicate {A = ℕ} rowWidth i noLatest 0 (omega arith))) }
@@ -170,9 +187,9 @@ module _ (n : ℕ) (gap : ℕ → ℕ → ℕ) (bias : ℕ) (before : List ℕ) 
         in
         (e, filled-earliest (r + 1) next e filled-next)
 
--- as many rounds as steps, from limits of at most 1,000,000, stay far below what a u32 holds
+-- as many rounds as steps, from limits of at most 1,000,000, stay below the bound
 pub reached-bounded :
-    (n : ℕ) (gaps before : List ℕ) (r : ℕ) (starts : List ℕ) → Gaps gaps → Bounded n 1000000 before → n ≤ rowWidth
+    (n : ℕ) (gaps before : List ℕ) (r : ℕ) (starts : List ℕ) → Gaps gaps → Bounded n lastStart before → n ≤ rowWidth
     → Reached n (gapIn gaps) gapBias before r starts
     → Bounded n (aboveStarts - 1) starts
 reached-bounded n gaps before r starts g b h w =
@@ -183,6 +200,6 @@ reached-bounded n gaps before r starts g b h w =
             arith,
             w .count,
             w .filled .below k l,
-            after-most n (gapIn gaps) gapBias (startIn before) 1000000 (mostGap - gapBias) (b .most) (λ i j l. g .most (rowWidth * i + j)) r k l,
+            after-most n (gapIn gaps) gapBias (startIn before) lastStart (mostGap - gapBias) (b .most) (λ i j l. gap-most gaps g i j) r k l,
           );
     }

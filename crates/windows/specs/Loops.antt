@@ -14,9 +14,10 @@ use Rattle.links.specs.LinkList.{LinksOf}
 use Rattle.rounds.specs.Rounds.{demand}
 use Rattle.orders.specs.Windows.{allowed}
 
--- a number above every start in a round: as many rounds as steps, from limits of at most 1,000,000, stay far below it
+-- a number above every start in a round: as many rounds as steps, from limits of at most 1,000,000, stay below it; and so low that no
+-- start with an entry for no order reaches the bias of the entries
 abbrev pub aboveStarts : ℕ
-aboveStarts = 4000000000
+aboveStarts = 8388608
 
 -- starts x that give every step what those steps demand which start as they did before the last round, in last
 pub record Given (n : ℕ) (gap : ℕ → ℕ → ℕ) (bias : ℕ) (last x : ℕ → ℕ) : Type 0 where

@@ -3,8 +3,7 @@ ghost use mathlib.Core.Path.{_≡_};
 ghost use Prim.Native.Nat.{max, _+_, _-_, _≤_, _<_};
 ghost use lib.Dec.{eqb};
 use order_file::layout::NO_LATEST;
-use order_file::table::BIAS;
-use order_file::table::NO_ORDER;
+use order_file::table::ENTRY_BIAS;
 use order_file::table::WIDTH;
 use order_file::table::higher;
 ghost use Rattle.laws.specs.Search.{all};
@@ -12,7 +11,7 @@ ghost use Rattle.job.specs.Model.{lastStart};
 ghost use Rattle.rounds.specs.Rounds.{demand, raised, rounds, earliest};
 ghost use Rattle.windows.specs.Loops.{aboveStarts, Given};
 ghost use Rattle.order_file.specs.Contents.{gapBias};
-ghost use Rattle.order_file.specs.Table.{rowWidth, gapIn, startIn, Gaps};
+ghost use Rattle.order_file.specs.Table.{rowWidth, entryBias, gapIn, startIn, Gaps};
 ghost use Rattle.windows.specs.Starts.{Bounded};
 ghost use Rattle.laws.specs.Listed.{Filled};
 
@@ -30,13 +29,12 @@ pub struct Earliest {
     pub rounds: usize,
 }
 
-// What the order from i, which starts at t, demands of k, plus the bias; 0 for no order.
+// What the order from i, which starts at t, demands of k, plus the bias of an entry; less than the bias for no order.
 fn demanded(gaps: &[u32], i: usize, k: usize, t: u32) -> u32
     requires { ⌜ Gaps (now gaps) × (i < rowWidth) × (k < rowWidth) × (t < aboveStarts) ⌝ }
-    ensures { λ r. ⌜ r - gapBias ≡ demand (gapIn (now (gaps .entry))) gapBias i k t ⌝ }
+    ensures { λ r. ⌜ r - entryBias ≡ demand (gapIn (now (gaps .entry))) gapBias i k t ⌝ }
 {
-    let gap = gaps[WIDTH * i + k];
-    if gap == NO_ORDER { 0 } else { t + gap }
+    t + gaps[WIDTH * i + k]
 }
 
 // Raises the first n starts to what the orders from i, which starts at t, demand.
@@ -47,7 +45,7 @@ fn raise_starts(n: usize, gaps: &[u32], i: usize, t: u32, at: &mut [u32; WIDTH])
 {
     let mut k = 0;
     while k < n {
-        at[k] = higher(at[k] + BIAS, demanded(gaps, i, k, t)) - BIAS;
+        at[k] = higher(at[k] + ENTRY_BIAS, demanded(gaps, i, k, t)) - ENTRY_BIAS;
         k += 1;
     }
 }

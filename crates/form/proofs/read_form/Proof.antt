@@ -1,17 +1,31 @@
--- The header, then the checks; what passes is well formed.
-use mathlib.Core.Path.{sym, ap, _∙_}
+-- The records, then the steps, chained as in `formCheck`; what passes is well formed.
+use Prim.Native.Nat.{ℕ}
+use mathlib.Core.Path.{_≡_, sym, ap, _∙_}
+use mathlib.Core.List.{List}
 use Rattle.verdict.specs.Verdict.{number}
+use Rattle.job.specs.Layout.{jobOf}
+use Rattle.form.specs.declared.Form.{Form}
+use Rattle.form.specs.Refusals.{formCheck, FormPromise}
 use Rattle.form.proofs.WellFormed.{well-formed}
+use Rattle.form.proofs.Unopposed.{read-ranged, read-refused, read-passed}
 use borrow.Author.Needs.{needs}
 use Rattle.form.proofs.read_form.Statement.{statement}
 use Rattle.form.proofs.read_form.Tie as tie
+
+-- what is well formed follows from the verdict
+promise : (s : List ℕ) {r : Form} → r .verdict ≡ formCheck s → r .job ≡ jobOf s → FormPromise s r
+promise s v j = record { verdict = v; job = j; wellFormed = λ z. well-formed s (sym (ap number v) ∙ z) }
 
 pub read-form-spec : {M : Type 1} → statement M
 read-form-spec =
     tie.close
     (tie.spec
-    (λ c κs. search needs)
-    (λ c κs. c .read .ensures)
+    (λ c κs. search needs) (λ c κs. search needs)
     (λ c.
-    let v = c .check-read .ensures in
-    record { verdict = v; job = c .before .read .ensures; wellFormed = λ z. well-formed _ (sym (ap number v) ∙ z) }))
+    let p = c .before .before .read-records .ensures in
+    promise _ (read-refused p (λ z. c .if1 .taken (c .before .number .ensures ∙ z))) (p .job))
+    (λ c κs. let b = c .before .before in read-ranged (b .before .read-records .ensures) (sym (b .number .ensures) ∙ c .before .if1 .left))
+    (λ c.
+    let b = c .before .before .before in
+    let p = b .before .read-records .ensures in
+    promise _ (c .check-steps .ensures ∙ read-passed p (sym (b .number .ensures) ∙ c .before .before .if1 .left)) (p .job)))

@@ -25,29 +25,43 @@ pub file-schedule-spec : {M : Type 1} → statement M
 file-schedule-spec =
     tie.close
     (tie.spec
-    (λ c. search needs) (λ c κs. search needs) (λ c. search needs) (λ c. search needs)
+    (λ c. search needs)
     (λ c κs.
-    let p = c .before .before .before .before .before .before .before .before .before .before .before .before .pre in
-    let f = c .before .before .before .find-links .ensures in
+    let start = c .before .before .before .before .before .before in
+    let p = start .pre in
     record {
-      effects = p .effects;
-      uses = p .used;
+      form = p .form;
+      some = (scheduleOf (now (start .args .starts)), p .known, p .valid);
+      room = omega (arith, length-replicate {A = ℕ} linkLimit 0, p .form .conditionCount, p .form .goalCount);
+    })
+    (λ c. search needs) (λ c. search needs)
+    (λ c κs.
+    let start = c .before .before .before .before .before .before .before .before .before .before in
+    let p = start .pre in
+    let f = c .before .before .before .find-links .ensures (scheduleOf (now (start .args .starts))) (p .known) (p .valid) in
+    record {
+      form = p .form;
+      known = p .known;
       valid = p .valid;
       linked = record { each = f .below };
-      room = omega (arith, f .size, length-replicate {A = ℕ} linkLimit 0, p .effects .form .conditionCount, p .effects .form .goalCount);
+      room = omega (arith, f .size, length-replicate {A = ℕ} linkLimit 0, p .form .conditionCount, p .form .goalCount);
       size = refl;
       empty = zeros;
     })
     (λ c. search needs) (λ c. search needs)
-    (λ c κs. record {
-      form =
-          c .before .before .before .before .before .before .before .before .before .before .before .before .before .before .before .before .before .pre .effects .form;
-      table = c .before .before .before .before .fill-gaps .ensures .whole;
+    (λ c κs.
+    let filled = c .before .before .before .before in
+    record {
+      form = c .before .before .before .before .before .before .before .before .before .before .before .before .before .before .before .pre .form;
+      table = filled .fill-gaps .ensures .whole;
       linkCount = search needs;
-      rows = none-from _ _ _ (c .before .before .before .before .fill-gaps .ensures);
+      rows = none-from _ _ _ (filled .fill-gaps .ensures);
     })
     (λ c. search needs)
-    (λ c. c .before .before .file-found .ensures
-    (scheduleOf (now (c .before .before .before .before .before .before .before .before .before .before .before .before .before .before .before .before .before .before .before .before .args .starts)))
-    (record { each = c .before .before .before .before .before .before .before .before .before .before .before .find-links .ensures .below })
+    (λ c.
+    let start = c .before .before .before .before .before .before .before .before .before .before .before .before .before .before .before .before .before .before in
+    let p = start .pre in
+    let x = scheduleOf (now (start .args .starts)) in
+    let linked = c .before .before .before .before .before .before .before .before .before .before .before in
+    c .before .before .file-found .ensures x (record { each = linked .find-links .ensures x (p .known) (p .valid) .below })
     (c .before .before .before .before .before .before .before .fill-gaps .ensures)))

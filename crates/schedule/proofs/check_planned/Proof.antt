@@ -16,12 +16,12 @@ unfolding jobCheck
 check-planned-spec =
     tie.close
     (tie.spec
-    (λ c κs. let p = c .before .before .before .before .before .before .pre in (p .effects, p .used))
+    (λ c κs. let p = c .before .before .before .before .pre in record { form = p .wellFormed; known = p .known })
     (λ c.
-    let d = c .before .before .before .before .before .before .before in
+    let d = c .before .before .before .before .before in
     let s = now (d .args .s) in
     let m = view (d .args .job) s in
     job-promise s
     (decides refl refl (d .pre .form)
-    (c .check-listed .ensures ∙ ap (startsCheck m) (d .pre .written) ∙ planned-check m
+    (c .check-ordered .ensures ∙ ap (startsCheck m) (d .pre .written) ∙ planned-check m
     ∙ ap (λ (j : Job). timingCheck (view j s) (planned (view j s))) (d .pre .header)))))

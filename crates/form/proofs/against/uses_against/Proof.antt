@@ -29,20 +29,20 @@ uses-against-spec =
     let l = c .before .before .before .before in
     let k = c .before .step-key .ensures in record {
       growing = l .before .loop .inv .1;
-      few = omega (arith, l .loop-test .taken, l .before .before .before .before .pre .uses);
+      few = omega (arith, l .loop-test .taken, l .before .before .before .before .pre .useCount);
       same = k .0 ∙ ap₂ stepKey (c .before .before .before .use-step .ensures) (c .before .before .use-level .ensures);
       low = k .1;
     })
     (λ c κs. search needs)
     (λ c κs.
     let l = c .before .before .before .before .before .before .before in
-    (c .before .before .before .before .step-key .ensures .1, omega (arith, l .loop-test .taken, l .before .before .before .before .pre .uses)))
+    (c .before .before .before .before .step-key .ensures .1, omega (arith, l .loop-test .taken, l .before .before .before .before .pre .useCount)))
     (λ c. search needs) (λ c. search needs)
     (λ c.
     let l = c .before .before .before .before .before .before .before .before in
     let k = c .before .before .before .before .before .step-key .ensures in (
       search needs,
-      growing-more _ _ _ _ (omega (arith, l .loop-test .taken, l .before .before .before .before .pre .uses))
+      growing-more _ _ _ _ (omega (arith, l .loop-test .taken, l .before .before .before .before .pre .useCount))
           (k .0 ∙ ap₂ stepKey (c .before .before .before .before .before .before .before .use-step .ensures)
           (c .before .before .before .before .before .before .use-level .ensures)) (k .1) (l .before .loop .inv .1) (c .link .ensures),
       owner-more _ _ _ _ (l .before .loop .inv .2) (c .before .before .before .used-before .ensures)

@@ -1,9 +1,8 @@
 -- The rules one after the other.
 use native.Mathlib.Omega.{arith}
 use Rattle.orders.specs.Gaps.{gapOf}
-use Rattle.gaps.proofs.Raised.{raised-then, empty-gaps, table-of}
 use Rattle.links.proofs.LinkList.{valid-named}
-use borrow.Author.Needs.{needs}
+use Rattle.gaps.proofs.Raised.{raised-then, empty-gaps, table-of}
 use Rattle.gaps.proofs.fill.fill_gaps.Statement.{statement}
 use Rattle.gaps.proofs.fill.fill_gaps.Tie as tie
 
@@ -13,64 +12,80 @@ fill-gaps-spec =
     tie.close
     (tie.spec
     (λ c κs.
-    let d = c .before .before .before .before .before .before .before .before .before in
+    let d = c .before .before .before .before .before .before .before in
+    let w = d .pre in
     record {
-      form = d .pre .effects .form;
-      named = valid-named _ _ _ (d .pre .linked) (d .pre .effects .form) (d .pre .valid);
-      room = d .pre .room;
-      whole = empty-gaps _ (d .pre .size) (d .pre .empty);
+      form = w .form;
+      named = valid-named _ _ _ (w .linked) (w .form) (w .valid);
+      room = w .room;
+      whole = empty-gaps _ (w .size) (w .empty);
     })
     (λ c κs.
-    let d = c .before .before .before .before .before .before .before .before .before .before .before .before .before in
-    (d .pre .effects, ((c .before .before .before .fill-support .ensures _ (d .pre .linked)) .whole (empty-gaps _ (d .pre .size) (d .pre .empty)))))
-    (λ c. search needs) (λ c κs. search needs) (λ c. search needs) (λ c. search needs) (λ c κs. search needs) (λ c. search needs)
-    (λ c. search needs)
+    let support = c .before .before .before in
+    let d = support .before .before .before .before .before .before .before .before in
+    let w = d .pre in
+    let none = empty-gaps _ (w .size) (w .empty) in
+    let whole1 = support .fill-support .ensures _ (w .linked) .whole none in
+    (record { form = w .form; known = w .known; valid = w .valid }, whole1))
     (λ c κs.
-    let d = c .before .before .before .before .before .before .before .before .before .before .before .before .before .before .before .before .before .before .before .before .before .before .before .before .before .before in (
-      record { effects = d .pre .effects; wanted = c .before .before .before .before .list-conditions .ensures; valid = d .pre .valid },
-      (c .before .before .before .before .before .before .before .before .before .before .before .before .fill-opposing .ensures .whole
-          ((c .before .before .before .before .before .before .before .before .before .before .before .before .before .before .before .before .fill-support .ensures
-          _ (d .pre .linked)) .whole (empty-gaps _ (d .pre .size) (d .pre .empty)))),
-    ))
+    let opposing = c .before .before .before in
+    let support = opposing .before .before .before .before in
+    let d = support .before .before .before .before .before .before .before .before in
+    let w = d .pre in
+    let none = empty-gaps _ (w .size) (w .empty) in
+    let whole1 = support .fill-support .ensures _ (w .linked) .whole none in
+    let whole2 = opposing .fill-opposing .ensures .whole whole1 in
+    (record { form = w .form; known = w .known; valid = w .valid }, whole2))
     (λ c κs.
-    let d = c .before .before .before .before .before .before .before .before .before .before .before .before .before .before .before .before .before .before .before .before .before .before .before .before .before .before .before .before .before .before in (
-      d .pre .uses,
-      c .before .before .before .fill-conditions .ensures .whole
-          (c .before .before .before .before .before .before .before .before .before .before .before .before .before .before .before .before .fill-opposing .ensures .whole
-          ((c .before .before .before .before .before .before .before .before .before .before .before .before .before .before .before .before .before .before .before .before .fill-support .ensures
-          _ (d .pre .linked)) .whole (empty-gaps _ (d .pre .size) (d .pre .empty)))),
-    ))
+    let conditions = c .before .before .before in
+    let opposing = conditions .before .before .before .before in
+    let support = opposing .before .before .before .before in
+    let d = support .before .before .before .before .before .before .before .before in
+    let w = d .pre in
+    let none = empty-gaps _ (w .size) (w .empty) in
+    let whole1 = support .fill-support .ensures _ (w .linked) .whole none in
+    let whole2 = opposing .fill-opposing .ensures .whole whole1 in
+    let whole3 = conditions .fill-conditions .ensures .whole whole2 in
+    (record { form = w .form; known = w .known; valid = w .valid }, whole3))
     (λ c κs.
-    let d = c .before .before .before .before .before .before .before .before .before .before .before .before .before .before .before .before .before .before .before .before .before .before .before .before .before .before .before .before .before .before .before .before .before .before in (
-      d .pre .effects .form,
-      c .before .before .before .fill-levels .ensures .whole
-          (c .before .before .before .before .before .before .before .fill-conditions .ensures .whole
-          (c .before .before .before .before .before .before .before .before .before .before .before .before .before .before .before .before .before .before .before .before .fill-opposing .ensures .whole
-          ((c .before .before .before .before .before .before .before .before .before .before .before .before .before .before .before .before .before .before .before .before .before .before .before .before .fill-support .ensures
-          _ (d .pre .linked)) .whole (empty-gaps _ (d .pre .size) (d .pre .empty))))),
-    ))
+    let levels = c .before .before .before in
+    let conditions = levels .before .before .before .before in
+    let opposing = conditions .before .before .before .before in
+    let support = opposing .before .before .before .before in
+    let d = support .before .before .before .before .before .before .before .before in
+    let w = d .pre in
+    let none = empty-gaps _ (w .size) (w .empty) in
+    let whole1 = support .fill-support .ensures _ (w .linked) .whole none in
+    let whole2 = opposing .fill-opposing .ensures .whole whole1 in
+    let whole3 = conditions .fill-conditions .ensures .whole whole2 in
+    let whole4 = levels .fill-levels .ensures .whole whole3 in
+    (w .form, whole4))
     (λ c.
-    let far = c .before .before .before .before .before .before .before .before .before .before .before .before .before .before .before .before .before .before in
-    let d = far .before .before .before .before .before .before .before .before .before .before .before .before .before .before .before .before .before .before .before in
-    omega (
-      arith,
-      c .before .before .fill-serial .ensures .whole
-          (c .before .before .before .before .before .before .fill-levels .ensures .whole
-          (c .before .before .before .before .before .before .before .before .before .before .fill-conditions .ensures .whole
-          (c .before .before .before .before .before .before .before .before .before .before .before .before .before .before .before .before .before .before .before .before .before .before .before .fill-opposing .ensures .whole
-          ((c .before .before .before .before .before .before .before .before .before .before .before .before .before .before .before .before .before .before .before .before .before .before .before .before .before .before .before .fill-support .ensures
-          _ (d .pre .linked)) .whole (empty-gaps _ (d .pre .size) (d .pre .empty)))))) .size,
-      d .pre .size,
-    ))
+    let serial = c .before .before in
+    let levels = serial .before .before .before .before in
+    let conditions = levels .before .before .before .before in
+    let opposing = conditions .before .before .before .before in
+    let support = opposing .before .before .before .before in
+    let d = support .before .before .before .before .before .before .before .before in
+    let w = d .pre in
+    let none = empty-gaps _ (w .size) (w .empty) in
+    let whole1 = support .fill-support .ensures _ (w .linked) .whole none in
+    let whole2 = opposing .fill-opposing .ensures .whole whole1 in
+    let whole3 = conditions .fill-conditions .ensures .whole whole2 in
+    let whole4 = levels .fill-levels .ensures .whole whole3 in
+    let whole5 = serial .fill-serial .ensures .whole whole4 in
+    omega (arith, whole5 .size, w .size))
     (λ c.
-    let far = c .before .before .before .before .before .before .before .before .before .before .before .before .before .before .before .before .before .before in
-    let d = far .before .before .before .before .before .before .before .before .before .before .before .before .before .before .before .before .before .before .before in
-    table-of _ _ _ _ (raised-then _ _ _ _ _ _
-    (raised-then _ _ _ _ _ _ (raised-then _ _ _ _ _ _
+    let serial = c .before .before in
+    let levels = serial .before .before .before .before in
+    let conditions = levels .before .before .before .before in
+    let opposing = conditions .before .before .before .before in
+    let support = opposing .before .before .before .before in
+    let d = support .before .before .before .before .before .before .before .before in
+    let w = d .pre in
+    table-of _ _ _ _
     (raised-then _ _ _ _ _ _
-    (c .before .before .before .before .before .before .before .before .before .before .before .before .before .before .before .before .before .before .before .before .before .before .before .before .before .before .before .fill-support .ensures
-    _ (d .pre .linked))
-    (c .before .before .before .before .before .before .before .before .before .before .before .before .before .before .before .before .before .before .before .before .before .before .before .fill-opposing .ensures))
-    (c .before .before .before .before .before .before .before .before .before .before .fill-conditions .ensures))
-    (c .before .before .before .before .before .before .fill-levels .ensures)) (c .before .before .fill-serial .ensures)) (d .pre .size)
-    (d .pre .empty)))
+    (raised-then _ _ _ _ _ _
+    (raised-then _ _ _ _ _ _
+    (raised-then _ _ _ _ _ _ (support .fill-support .ensures _ (w .linked)) (opposing .fill-opposing .ensures))
+    (conditions .fill-conditions .ensures)) (levels .fill-levels .ensures)) (serial .fill-serial .ensures)) (w .size) (w .empty)))

@@ -1,12 +1,14 @@
--- Each fact and value in turn.
+-- Each fact in turn.
 use Prim.Native.Nat.{_-_, _≤_}
 use mathlib.Core.Path.{refl}
 use native.Mathlib.Omega.{arith}
+use borrow.Author.Needs.{needs}
+use denote.Ref.{now}
 use Rattle.job.specs.Model.{view}
+use Rattle.validity.specs.Ticks.{scheduleOf}
 use Rattle.gaps.specs.Points.{Reached, Among}
 use Rattle.gaps.proofs.Reached.{within-up, within-all, within-empty}
 use Rattle.gaps.proofs.Rules.{OpposingOrder, given-known, given-reached, opposing-known, opposing-raised}
-use borrow.Author.Needs.{needs}
 use Rattle.gaps.proofs.fill.fill_opposing.Statement.{statement}
 use Rattle.gaps.proofs.fill.fill_opposing.Tie as tie
 
@@ -14,34 +16,46 @@ pub fill-opposing-spec : {M : Type 1} → statement M
 fill-opposing-spec =
     tie.close
     (tie.spec
-    (λ s job starts ticks sorted gaps₀ n key₀ gaps key. (key ≤ n) × Reached (job .count .steps)
-    (Among 0 key (OpposingOrder (view job s) ticks sorted)) gaps₀ gaps)
-    (λ s job starts ticks sorted gaps₀ n key₀ gaps key. n - key)
-    (λ c. search needs) (λ c. search needs)
+    (λ s job starts points begins gaps₀ n f₀ gaps f. (f ≤ n) × Reached (job .count .steps)
+    (Among 0 f (OpposingOrder (view job s) (scheduleOf starts) points begins)) gaps₀ gaps)
+    (λ s job starts points begins gaps₀ n f₀ gaps f. n - f)
+    (λ c. search needs)
     (λ c. (omega arith, within-empty _ _ _ _ _ (omega arith)))
-    (λ c κs. omega (arith, c .loop-test .taken, c .before .before .before .before .before .before .before .before .pre .0 .form .factCount))
     (λ c κs.
-    let d = c .before .before .before .before .before .before .before .before .before .before in
-    let e = c .before .opposite .ensures in
-    (given-known e (opposing-known (d .pre .0) _ (c .before .before .loop-test .taken)), c .before .before .before .loop .inv .1 .whole (d .pre .1)))
-    (λ c. omega (
-      arith,
-      c .before .before .before .before .before .loop-test .taken,
-      c .before .before .before .before .before .before .before .before .before .before .before .before .before .pre .0 .form .factCount,
-    ))
-    (λ c. omega (arith, c .before .before .before .before .before .loop-test .taken))
-    (λ c.
-    let d = c .before .before .before .before .before .before .before .before .before .before .before .before .before in (
-      omega (arith, c .before .before .before .before .before .loop-test .taken),
-      within-up _ _ _ _ _ _ _ (omega arith)
-          (c .before .before .before .before .before .before .loop .inv .1)
-          (given-reached (c .before .before .before .before .opposite .ensures) _ (view (d .args .job) (d .args .s .now)) (d .args .ticks .now)
-          (d .args .sorted .now) (d .args .ticks .now) (d .args .sorted .now) _ _ (c .before .before .raise-group .ensures)),
-    ))
-    (λ c.
     let d = c .before .before .before .before .before .before .before .before in
-    omega (arith, c .before .loop .inv .1 .whole (d .pre .1) .size, d .pre .1 .size))
+    let room = d .pre .0 .known .room in
+    (omega (arith, room, c .loop-test .taken), omega (arith, room, c .loop-test .taken)))
+    (λ c κs.
+    let made = c .before in
+    let test = made .before in
+    let l = test .before in
+    let d = l .before .before .before .before .before .before .before in
+    (given-known (made .groups-at .ensures) (opposing-known (d .pre .0) _ (test .loop-test .taken)), l .loop .inv .1 .whole (d .pre .1)))
     (λ c.
-    let d = c .before .before .before .before .before .before .before .before in
-    opposing-raised (d .pre .0) _ _ (within-all _ _ _ _ _ _ _ _ refl (omega (arith, c .before .loop .inv .0, c .loop-test .left))
-    (c .before .loop .inv .1))))
+    let test = c .before .before .before .before .before in
+    let d = test .before .before .before .before .before .before .before .before in
+    omega (arith, test .loop-test .taken, d .pre .0 .form .factCount))
+    (λ c.
+    let test = c .before .before .before .before .before in
+    omega (arith, test .loop-test .taken))
+    (λ c.
+    let raised = c .before .before in
+    let made = raised .before .before in
+    let test = made .before in
+    let l = test .before in
+    let d = l .before .before .before .before .before .before .before in
+    let a = d .args in (
+      omega (arith, test .loop-test .taken),
+      within-up _ _ _ _ _ _ _ (omega arith) (l .loop .inv .1)
+          (given-reached (made .groups-at .ensures) _ (view (a .job) (now (a .s))) (scheduleOf (now (a .starts))) (now (a .points)) _ _
+          (raised .raise-group .ensures)),
+    ))
+    (λ c.
+    let l = c .before in
+    let d = l .before .before .before .before .before .before .before in
+    omega (arith, l .loop .inv .1 .whole (d .pre .1) .size, d .pre .1 .size))
+    (λ c.
+    let l = c .before in
+    let d = l .before .before .before .before .before .before .before in
+    let i = l .loop .inv in
+    opposing-raised (d .pre .0) _ _ (within-all _ _ _ _ _ _ _ _ refl (omega (arith, i .0, c .loop-test .left)) (i .1))))

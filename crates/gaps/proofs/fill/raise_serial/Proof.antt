@@ -26,7 +26,7 @@ raise-serial-spec =
       omega (arith, d .pre .2, d .pre .0 .stepCount),
       omega
           (arith, c .before .before .loop-test .taken, d .pre .0 .stepCount),
-      c .before .serial-gap .ensures .1,
+      c .before .serial-entry .ensures .1,
     ))
     (λ c. omega arith)
     (λ c. omega arith)
@@ -35,7 +35,7 @@ raise-serial-spec =
       omega arith,
       raised-order _ _ _ _ _ _ _ _ _ (c .before .before .before .before .before .before .loop .inv .1) (d .pre .0 .stepCount) (d .pre .2)
           (c .before .before .before .before .before .loop-test .taken) (c .before .before .raise .ensures)
-          (λ a b. rw (c .before .before .before .before .serial-gap .ensures .0)),
+          (λ a b. rw (c .before .before .before .before .serial-entry .ensures .0)),
     ))
     (λ c. let d = c .before .before .before .before .before in omega (arith, c .before .loop .inv .1 .whole (d .pre .1) .size, d .pre .1 .size))
     (λ c. raised-end _ _ _ _ _ _ (c .before .loop .inv .1) (c .before .loop .inv .0) (c .loop-test .left)))

@@ -1,14 +1,13 @@
--- Each point of the key from the place on where tick t parts it.
-use Prim.Native.Nat.{ℕ, _+_, _-_, _≤_, _<_}
+-- Each point of the second group in turn.
+use Prim.Native.Nat.{_-_}
 use mathlib.Core.Path.{refl}
 use native.Mathlib.Omega.{arith}
-use lib.ListN.{getD}
-use Rattle.job.specs.Model.{view}
-use Rattle.timeline.specs.Sorted.{tickIn}
-use Rattle.gaps.specs.Points.{Reached, Among, Later}
-use Rattle.gaps.proofs.Reached.{within-up, within-all}
-use Rattle.gaps.proofs.Grouped.{place-step, place-near, after-start, later-one}
 use borrow.Author.Needs.{needs}
+use denote.Ref.{now}
+use Rattle.validity.specs.Ticks.{scheduleOf}
+use Rattle.gaps.specs.Points.{Ordering}
+use Rattle.gaps.proofs.Reached.{within-up, within-all, within-empty}
+use Rattle.gaps.proofs.Grouped.{group-notable, origin-known, origin-wide, after-given}
 use Rattle.gaps.proofs.rows.raise_after.Statement.{statement}
 use Rattle.gaps.proofs.rows.raise_after.Tie as tie
 
@@ -16,79 +15,76 @@ pub raise-after-spec : {M : Type 1} → statement M
 raise-after-spec =
     tie.close
     (tie.spec
-    (λ s job first at to ticks sorted key t gaps₀ p₀ gaps p.
-    (getD sorted key 0 ≤ p) × (p ≤ getD sorted (key + 1) 0) × ((q : ℕ) → p ≤ q → q < getD sorted (key + 1) 0 → t ≤ tickIn ticks sorted q) × Reached
-    (job .count .steps) (Among (getD sorted key 0) p (Later (view job s) to ticks sorted first at t)) gaps₀ gaps)
-    (λ s job first at to ticks sorted key t gaps₀ p₀ gaps p. getD sorted (key + 1) 0 - p)
-    (λ c κs. let d = c .before .before .before .before in (d .pre .0 .rising .size, d .pre .0 .low, d .pre .0 .rising))
-    (λ c. let q = c .place-from .ensures in (q .from, q .to, q .after, after-start _ _ _ _ _ _ _ _ _ _ _ q))
-    (λ c. search (needs, c .before .before .before .before .before .before .pre .0 .low))
-    (λ c κs. let d = c .before .before .before .before .before .before in (d .pre .0 .rising .size, omega (arith, d .pre .0 .low)))
+    (λ s starts points groups p gaps₀ origin q₀ gaps q. Ordering (scheduleOf starts) points groups origin gaps₀ q gaps)
+    (λ s starts points groups p gaps₀ origin q₀ gaps q. groups .until - q)
+    (λ c.
+    let d = c .before .before .before .before in
+    search (needs, d .pre .3, d .pre .0 .first .ends))
+    (λ c.
+    let d = c .before .before .before .before .before in
+    omega (arith, d .pre .3, d .pre .0 .first .ends))
     (λ c κs.
-    let d = c .before .before .before .before .before .before .before .before in
-    (d .pre .0 .rising .size, omega (arith, c .if1 .taken, c .before .begin-of .ensures, d .pre .0 .rising .ends)))
-    (λ c κs. search needs)
+    let d = c .before .before .before .before .before in
+    (d .pre .0 .first .begun _ (d .pre .2) (d .pre .3), d .pre .0 .short, d .pre .0 .turned))
+    (λ c.
+    let d = c .before .before .before .before .before .before in
+    record {
+      from = omega arith;
+      upto = d .pre .0 .second .begins;
+      reached = λ n few step group. within-empty _ _ _ _ _ (omega arith);
+    })
+    (λ c.
+    let l = c .before .before in
+    let d = l .before .before .before .before .before .before .before in
+    search (needs, l .loop .inv .upto, d .pre .0 .second .ends))
+    (λ c.
+    let d = c .before .before .before .before .before .before .before .before .before .before in
+    omega (arith, c .before .if1 .taken, d .pre .0 .second .ends))
     (λ c κs.
-    let d = c .before .before .before .before .before .before .before .before .before .before in (
-      d .pre .4,
-      place-near (d .pre .0) _ (c .before .before .before .before .loop .inv .0)
-          (omega (arith, c .before .before .if1 .taken, c .before .before .before .begin-of .ensures)) (c .before .record-at .ensures) (c .at-of .ensures),
-    ))
-    (λ c κs. search needs)
-    (λ c κs.
-    let d = c .before .before .before .before .before .before .before .before .before .before .before .before .before in (
-      c .before .before .before .before .before .before .before .loop .inv .3 .whole (d .pre .1),
-      omega (arith, d .pre .2, d .pre .3),
-      omega (
-        arith,
-        d .pre .2,
-        place-step (d .pre .0) _ (c .before .before .before .before .before .before .before .loop .inv .0)
-            (omega (arith, c .before .before .before .before .before .if1 .taken, c .before .before .before .before .before .before .begin-of .ensures))
-            (c .before .before .before .before .record-at .ensures) (c .before .step-of .ensures),
-      ),
-      c .before .before .strictly .ensures .1,
-    ))
-    (λ c. search (
-      needs,
-      c .before .before .before .before .before .before .before .before .before .before .loop .inv .1,
-      c .before .before .before .before .before .before .before .before .before .before .before .before .before .before .before .before .pre .0 .rising .ends,
-    ))
-    (λ c. omega (
-      arith,
-      c .before .before .before .before .before .before .before .before .if1 .taken,
-      c .before .before .before .before .before .before .before .before .before .begin-of .ensures,
+    let test = c .before .before in
+    let l = test .before .before in
+    let made = l .before in
+    let d = made .before .before .before .before .before .before in
+    let k = d .pre .0 in
+    let i = l .loop .inv in
+    let e = made .origin-of .ensures in (
+      i .reached _ (k .few) (origin-known k _ (d .pre .2) (d .pre .3) e .step) (k .second) .whole (d .pre .1),
+      origin-wide k _ (d .pre .2) (d .pre .3) e,
+      group-notable (k .second) (k .few) _ (i .from) (test .if1 .taken),
     ))
     (λ c.
-    let d = c .before .before .before .before .before .before .before .before .before .before .before .before .before .before .before .before in
-    let l = c .before .before .before .before .before .before .before .before .before .before .loop in (
-      omega (arith, l .inv .0),
-      omega (
-        arith,
-        c .before .before .before .before .before .before .before .before .if1 .taken,
-        c .before .before .before .before .before .before .before .before .before .begin-of .ensures,
-      ),
-      (λ q a b. l .inv .2 q (omega arith) b),
-      within-up _
-          _ _ _ _ _ _ (l .inv .0) (l .inv .3) (later-one _ _ (d .args .ticks .now) (d .args .sorted .now) _ _ _ _ (l .p) _ _ (d .pre .2) (d .pre .3)
-          (place-step (d .pre .0) _ (c .before .before .before .before .before .before .before .before .before .before .loop .inv .0)
-          (omega (
-            arith,
-            c .before .before .before .before .before .before .before .before .if1 .taken,
-            c .before .before .before .before .before .before .before .before .before .begin-of .ensures,
-          ))
-          (c .before .before .before .before .before .before .before .record-at .ensures) (c .before .before .before .before .step-of .ensures))
-          (l .inv .2 (l .p) (omega arith)
-          (omega (
-            arith,
-            c .before .before .before .before .before .before .before .before .if1 .taken,
-            c .before .before .before .before .before .before .before .before .before .begin-of .ensures,
-          )))
-          (c .before .before .before .before .before .before .before .record-at .ensures) (c .before .before .before .before .step-of .ensures)
-          (c .before .before .before .before .before .before .at-of .ensures) (c .before .before .before .before .before .strictly .ensures .0)
-          (c .before .before .raise .ensures)),
-    ))
+    let l = c .before .before .before .before .before .before .before in
+    let d = l .before .before .before .before .before .before .before in
+    search (needs, l .loop .inv .upto, d .pre .0 .second .ends))
     (λ c.
-    let d = c .before .before .before .before .before .before .before .before in
-    omega (arith, c .before .before .loop .inv .3 .whole (d .pre .1) .size, d .pre .1 .size))
-    (λ c. within-all _ _ _ _ _ _ _ _ refl (omega (arith, c .before .before .loop .inv .1, c .before .begin-of .ensures, c .if1 .left))
-    (c .before .before .loop .inv .3)))
+    let test = c .before .before .before .before .before in
+    omega (arith, test .if1 .taken))
+    (λ c.
+    let test = c .before .before .before .before .before in
+    let l = test .before .before in
+    let i = l .loop .inv in
+    let t = test .if1 .taken in
+    record {
+      from = omega (arith, i .from);
+      upto = omega (arith, t);
+      reached = λ n few step group.
+          within-up _ _ _ _ _ _ _ (i .from) (i .reached n few step group)
+          (c .before .before .raise-onto .ensures n few step (group .step _ (i .from) t));
+    })
+    (λ c.
+    let l = c .before .before in
+    let made = l .before in
+    let d = made .before .before .before .before .before .before in
+    let k = d .pre .0 in
+    let w = l .loop .inv .reached _ (k .few) (origin-known k _ (d .pre .2) (d .pre .3) (made .origin-of .ensures) .step) (k .second) in
+    omega (arith, w .whole (d .pre .1) .size, d .pre .1 .size))
+    (λ c.
+    let l = c .before .before in
+    let made = l .before in
+    let d = made .before .before .before .before .before .before in
+    let k = d .pre .0 in
+    let i = l .loop .inv in
+    let e = made .origin-of .ensures in
+    let w = i .reached _ (k .few) (origin-known k _ (d .pre .2) (d .pre .3) e .step) (k .second) in
+    after-given (scheduleOf (now (d .args .starts))) (now (d .args .points)) _ (d .args .groups .after) (d .args .groups .until) _ _ e
+    (within-all _ _ _ _ _ _ _ _ refl (omega (arith, i .upto, c .if1 .left)) w)))

@@ -1,13 +1,12 @@
 -- Each point of the first group in turn.
-use Prim.Native.Nat.{_+_, _-_, _≤_}
+use Prim.Native.Nat.{_-_, _≤_}
 use mathlib.Core.Path.{refl}
 use native.Mathlib.Omega.{arith}
-use lib.ListN.{getD}
+use borrow.Author.Needs.{needs}
 use Rattle.job.specs.Model.{view}
+use Rattle.validity.specs.Ticks.{scheduleOf}
 use Rattle.gaps.specs.Points.{Reached, Among, From}
 use Rattle.gaps.proofs.Reached.{within-up, within-all, within-empty}
-use Rattle.gaps.proofs.Grouped.{place-listed, place-timed, place-step, place-near, from-at}
-use borrow.Author.Needs.{needs}
 use Rattle.gaps.proofs.rows.raise_pairs.Statement.{statement}
 use Rattle.gaps.proofs.rows.raise_pairs.Tie as tie
 
@@ -15,92 +14,35 @@ pub raise-pairs-spec : {M : Type 1} → statement M
 raise-pairs-spec =
     tie.close
     (tie.spec
-    (λ s job groups ticks sorted others against gaps₀ from to other p₀ gaps p.
-    (getD sorted (groups .key) 0 ≤ p) × (p ≤ getD sorted (groups .key + 1) 0) × Reached (job .count .steps)
-    (Among (getD sorted (groups .key) 0) p (From (view job s) groups ticks sorted others against)) gaps₀ gaps)
-    (λ s job groups ticks sorted others against gaps₀ from to other p₀ gaps p. getD sorted (groups .key + 1) 0 - p)
-    (λ c κs. let d = c .before .before .before .before .before .before in (d .pre .0 .first .rising .size, omega (arith, d .pre .0 .first .low)))
+    (λ s job starts points groups gaps₀ p₀ gaps p. (groups .low ≤ p) × (p ≤ groups .high) × Reached (job .count .steps)
+    (Among (groups .low) p (From (view job s) (scheduleOf starts) points groups)) gaps₀ gaps)
+    (λ s job starts points groups gaps₀ p₀ gaps p. groups .high - p)
     (λ c.
-    let d = c .before .before .before .before .before .before .before in (
-      omega (arith, c .begin-of .ensures),
-      omega (arith, c .begin-of .ensures, d .pre .0 .first .rising .begins),
-      within-empty _ _ _ _ _
-          (omega (arith, c .begin-of .ensures)),
-    ))
-    (λ c. search (needs, c .before .before .before .before .before .before .before .before .before .pre .0 .first .low))
+    let d = c .before .before .before .before in
+    (omega arith, d .pre .0 .first .begins, within-empty _ _ _ _ _ (omega arith)))
     (λ c κs.
-    let d = c .before .before .before .before .before .before .before .before .before in
-    (d .pre .0 .first .rising .size, omega (arith, d .pre .0 .first .low)))
-    (λ c κs.
-    let d = c .before .before .before .before .before .before .before .before .before .before .before in
-    (d .pre .0 .first .rising .size, omega (arith, c .if1 .taken, c .before .begin-of2 .ensures, d .pre .0 .first .rising .ends)))
-    (λ c κs. search needs) (λ c κs. search needs) (λ c. search needs) (λ c. search needs)
+    let test = c .before in
+    let l = test .before .before in
+    let d = l .before .before .before .before .before in
+    (d .pre .0, l .loop .inv .2 .whole (d .pre .1), l .loop .inv .0, test .if1 .taken))
     (λ c.
-    let l = c .before .before .before .before .before .before .before .loop in
-    place-listed
-    (c .before .before .before .before .before .before .before .before .before .before .before .before .before .before .before .pre .0 .first) (l .p)
-    (l .inv .0) (omega (arith, c .before .before .before .before .if1 .taken, c .before .before .before .before .before .begin-of2 .ensures))
-    (c .before .before .before .record-at .ensures))
+    let l = c .before .before .before .before .before .before in
+    let d = l .before .before .before .before .before in
+    search (needs, l .loop .inv .1, d .pre .0 .first .ends))
     (λ c.
-    let l = c .before .before .before .before .before .before .before .before .loop in
-    search (
-      needs,
-      c .before .before .before .before .before .before .before .before .before .before .before .before .before .before .before .before .pre .0 .short,
-      place-timed
-          (c .before .before .before .before .before .before .before .before .before .before .before .before .before .before .before .before .pre .0 .first)
-          (l .p) (l .inv .0)
-          (omega (arith, c .before .before .before .before .before .if1 .taken, c .before .before .before .before .before .before .begin-of2 .ensures))
-          (c .before .before .before .before .record-at .ensures),
-    ))
-    (λ c κs.
-    let d = c .before .before .before .before .before .before .before .before .before .before .before .before .before .before .before .before .before in
-    let l = c .before .before .before .before .before .before .before .before .before .loop in (
-      d .pre .0 .second,
-      l .inv .2 .whole (d .pre .1),
-      d .pre .0 .few,
-      place-step (d .pre .0 .first) (l .p) (l .inv .0)
-          (omega (
-            arith,
-            c .before .before .before .before .before .before .if1 .taken,
-            c .before .before .before .before .before .before .before .begin-of2 .ensures,
-          )) (c .before .before .before .before .before .record-at .ensures)
-          (c .before .before .before .before .step-of .ensures),
-      place-near (d .pre .0 .first) (l .p) (l .inv .0)
-          (omega (
-            arith,
-            c .before .before .before .before .before .before .if1 .taken,
-            c .before .before .before .before .before .before .before .begin-of2 .ensures,
-          )) (c .before .before .before .before .before .record-at .ensures)
-          (c .before .before .before .at-of .ensures),
-    ))
-    (λ c. search (
-      needs,
-      c .before .before .before .before .before .before .before .before .before .before .before .before .loop .inv .1,
-      c .before .before .before .before .before .before .before .before .before .before .before .before .before .before .before .before .before .before .before .before .pre .0 .first .rising .ends,
-    ))
-    (λ c. omega (
-      arith,
-      c .before .before .before .before .before .before .before .before .before .if1 .taken,
-      c .before .before .before .before .before .before .before .before .before .before .begin-of2 .ensures,
+    let test = c .before .before .before .before in
+    omega (arith, test .if1 .taken))
+    (λ c.
+    let test = c .before .before .before .before in
+    let l = test .before .before in (
+      omega (arith, l .loop .inv .0),
+      omega (arith, test .if1 .taken),
+      within-up _ _ _ _ _ _ _ (l .loop .inv .0) (l .loop .inv .2) (c .before .before .raise-after .ensures),
     ))
     (λ c.
-    let far = c .before .before .before .before .before .before .before .before .before .before in
-    let d = far .before .before .before .before .before .before .before .before .before .before in
-    let l = c .before .before .before .before .before .before .before .before .before .before .before .before .loop in (
-      omega (arith, l .inv .0),
-      omega (
-        arith,
-        c .before .before .before .before .before .before .before .before .before .if1 .taken,
-        c .before .before .before .before .before .before .before .before .before .before .begin-of2 .ensures,
-      ),
-      within-up _ _ _ _ _ _ _ (l .inv .0)
-          (l .inv .2) (from-at _ (d .args .groups) (d .args .ticks .now) (d .args .sorted .now) (d .args .others .now) (d .args .against .now) _ _ _ _
-          (c .before .before .before .before .before .before .before .before .record-at .ensures)
-          (c .before .before .before .before .before .before .before .step-of .ensures) (c .before .before .before .before .before .before .at-of .ensures)
-          refl (c .before .before .raise-after .ensures)),
-    ))
+    let l = c .before .before in
+    let d = l .before .before .before .before .before in
+    omega (arith, l .loop .inv .2 .whole (d .pre .1) .size, d .pre .1 .size))
     (λ c.
-    let d = c .before .before .before .before .before .before .before .before .before .before .before in
-    omega (arith, c .before .before .before .loop .inv .2 .whole (d .pre .1) .size, d .pre .1 .size))
-    (λ c. within-all _ _ _ _ _ _ _ _ refl (omega (arith, c .before .before .before .loop .inv .1, c .before .begin-of2 .ensures, c .if1 .left))
-    (c .before .before .before .loop .inv .2)))
+    let l = c .before .before in
+    within-all _ _ _ _ _ _ _ _ refl (omega (arith, l .loop .inv .1, c .if1 .left)) (l .loop .inv .2)))

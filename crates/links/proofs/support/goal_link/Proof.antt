@@ -1,25 +1,36 @@
--- The link of the goal's fact and value.
-use Rattle.orders.specs.Links.{goalLink}
+-- All setters of the goal's fact lie before the tick after all.
+use mathlib.Core.Path.{_∙_}
+use native.Mathlib.Omega.{arith}
 use borrow.Author.Needs.{needs}
+use Rattle.links.proofs.Supported.{goal-some, goal-is}
 use Rattle.links.proofs.support.goal_link.Statement.{statement}
 use Rattle.links.proofs.support.goal_link.Tie as tie
 
 pub goal-link-spec : {M : Type 1} → statement M
-unfolding goalLink
 goal-link-spec =
     tie.close
     (tie.spec
-    (λ c κs. search needs) (λ c κs. search needs)
+    (λ c κs. search needs)
+    (λ c. search needs)
     (λ c κs.
-    let d = c .before .before .before .before .before .before in
-    let form = d .pre .0 .effects .form in (
-      d .pre .0 .effects,
-      rw (c .before .goal-fact .ensures) (form .goalFact _ (d .pre .1)),
-      rw (c .goal-value .ensures)
-          (form .goalValue _ (d .pre .1)),
-    ))
-    (λ c. rw (
-      c .before .before .goal-fact .ensures,
-      c .before .goal-value .ensures,
-      c .before .before .before .before .before .before .before .pre .0 .ends,
-    ) at (c .link-of .ensures)))
+    let pre = c .before .before .before .before .pre in
+    omega (arith, c .goal-fact .ensures, pre .0 .goalFact _ (pre .2), pre .1 .1 .room))
+    (λ c. search needs)
+    (λ c. search needs)
+    (λ c κs.
+    let pre = c .before .before .before .before .before .pre in
+    omega (arith, c .before .goal-fact .ensures, pre .0 .goalFact _ (pre .2), pre .1 .1 .room))
+    (λ c κs.
+    let pre = c .before .before .before .before .before .before .pre in
+    let group = pre .1 .1 .setters (c .before .before .goal-fact .result) (rw (c .before .before .goal-fact .ensures) (pre .0 .goalFact _ (pre .2))) in
+    (omega (arith, group .begins, c .before .begin-at .ensures .0), omega (arith, group .ends)))
+    (λ c κs. search needs)
+    (λ c κs.
+    let pre = c .before .before .before .before .before .before .before .before .pre in
+    goal-some (pre .1 .1) (pre .0) (pre .1 .2) _ (pre .2) (c .before .before .before .before .goal-fact .ensures) (c .goal-value .ensures)
+    (c .before .before .before .begin-at .ensures .0) (c .before .before .begin-at2 .ensures .0) (c .before .last-run .ensures))
+    (λ c x known valid.
+    let pre = c .before .before .before .before .before .before .before .before .before .pre in
+    c .run-link .ensures
+    ∙ goal-is known (pre .0) valid _ (pre .2) (c .before .before .before .before .before .goal-fact .ensures) (c .before .goal-value .ensures)
+    (c .before .before .before .before .begin-at .ensures .0) (c .before .before .before .begin-at2 .ensures .0) (c .before .before .last-run .ensures)))

@@ -1,0 +1,23 @@
+-- A well-formed job keeps what its points rely on.
+use Rattle.job.specs.Model.{Model}
+use Rattle.job.specs.WellFormed.{WellFormed, Ranged}
+
+pub well-formed-ranged : {m : Model} → WellFormed m → Ranged m
+well-formed-ranged w =
+    record {
+      factCount = w .factCount;
+      levelCount = w .levelCount;
+      stepCount = w .stepCount;
+      conditionCount = w .conditionCount;
+      effectCount = w .effectCount;
+      useCount = w .useCount;
+      initialValue = w .initialValue;
+      conditionStep = w .conditionStep;
+      conditionFact = w .conditionFact;
+      conditionValue = w .conditionValue;
+      effectStep = w .effectStep;
+      effectFact = w .effectFact;
+      effectValue = w .effectValue;
+      useStep = w .useStep;
+      useLevel = w .useLevel;
+    }

@@ -1,0 +1,25 @@
+-- Fact by fact.
+use Prim.Native.Nat.{_-_}
+use native.Mathlib.Omega.{arith}
+use Rattle.job.specs.Model.{view}
+use Rattle.links.specs.Linkable.{Linkable}
+use Rattle.links.specs.Linking.{Below, LinksPut}
+use Rattle.links.proofs.Putting.{links-size, links-room}
+use Rattle.links.proofs.Linking.{below-start, below-more, below-end}
+use Rattle.links.proofs.support.link_conditions.Statement.{statement}
+use Rattle.links.proofs.support.link_conditions.Tie as tie
+
+pub link-conditions-spec : {M : Type 1} → statement M
+link-conditions-spec =
+    tie.close
+    (tie.spec
+    (λ s job points begins links₀ fact₀ links fact.
+    Linkable (view job s) points begins links₀ × LinksPut (view job s) points begins (Below (view job s) fact) links₀ links)
+    (λ s job points begins links₀ fact₀ links fact. job .count .facts - fact)
+    (λ c. (c .before .before .before .before .pre, below-start))
+    (λ c κs. let i = c .before .before .before .loop .inv in (links-room (i .0) (i .1), c .before .if1 .taken))
+    (λ c. omega (arith, c .before .before .before .before .if1 .taken))
+    (λ c. omega (arith, c .before .before .before .before .if1 .taken))
+    (λ c. let i = c .before .before .before .before .before .before .loop .inv in (i .0, below-more (i .1) (c .before .before .link-fact .ensures)))
+    (λ c. let i = c .before .before .loop .inv in links-size (i .0) (i .1))
+    (λ c. let i = c .before .before .loop .inv in below-end (i .0 .form) (i .1) (c .if1 .left)))

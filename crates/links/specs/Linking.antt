@@ -1,0 +1,58 @@
+-- Inner: what the walk along the points of a fact leaves, step by step. No caller has to believe it.
+use Prim.Native.Nat.{ℕ, _+_, _≤_, _<_}
+use mathlib.Core.Path.{_≡_}
+use mathlib.Core.Bool.{_&&_, cond}
+use mathlib.Core.List.{List}
+use lib.Dec.{eqb}
+use lib.ListN.{length, getD}
+use Rattle.timeline.specs.declared.walk.Cursor.{Cursor}
+use Rattle.timeline.specs.Words.{numberAt, tickAt}
+use Rattle.timeline.specs.Walking.{Walking}
+use Rattle.job.specs.Model.{Model}
+use Rattle.validity.specs.Valid.{Valid}
+use Rattle.points.specs.Points.{PointsKnown, wantedGroup}
+use Rattle.order_file.specs.Contents.{initialState}
+use Rattle.orders.specs.Links.{nthLink}
+use Rattle.links.specs.Linkable.{Linkable}
+
+-- the link of a value of fact f whose run begins at place `run`, where the fact's points begin at place low: the first of the run, or
+-- the initial state where nothing stands before the run and the value is the initial one
+unfoldable pub runLink : Model → List ℕ → ℕ → ℕ → ℕ → ℕ → ℕ
+runLink m points f value low run = cond (eqb run low && eqb (m .initial f) value) initialState (numberAt points run)
+
+-- the link of condition k, or past the conditions that of a goal, of every valid schedule that has these points
+abbrev pub LinkIs : Model → List ℕ → List ℕ → ℕ → ℕ → Type 0
+LinkIs m points begins k link = (x : ℕ → ℕ) → PointsKnown m x points begins → Valid m x → link ≡ nthLink m x k
+
+-- a list whose elements at the indexes of which P is true are given by f, and whose others are those of before
+pub record Put (P : ℕ → Type 0) (f : ℕ → ℕ) (before list : List ℕ) : Type 0 where
+  pub size : length list ≡ length before
+  pub there : (k : ℕ) → P k → getD list k 0 ≡ f k
+  pub rest : (k : ℕ) → (P k → ⊥) → getD list k 0 ≡ getD before k 0
+
+-- those of which P is true are put into a list
+abbrev pub LinksPut : Model → List ℕ → List ℕ → (ℕ → Type 0) → List ℕ → List ℕ → Type 0
+LinksPut m points begins P before list = (x : ℕ → ℕ) → PointsKnown m x points begins → Valid m x → Put P (nthLink m x) before list
+
+-- a condition of a fact below f; one at a place from low up to p
+abbrev pub Below : Model → ℕ → ℕ → Type 0
+Below m f c = (c < m .conditions) × (m .conditionFact c < f)
+
+abbrev pub Passed : List ℕ → ℕ → ℕ → ℕ → Type 0
+Passed points low p c = (q : ℕ) × (low ≤ q) × (q < p) × (numberAt points q ≡ c)
+
+-- from low on and below high
+abbrev pub Between : ℕ → ℕ → ℕ → Type 0
+Between low high k = (low ≤ k) × (k < high)
+
+-- at place p of the conditions of fact f, which end at place `end`, with the cursor among its setters, which stand from low to high
+pub record Linking (m : Model) (points begins : List ℕ) (f low high end p : ℕ) (cursor : Cursor) (before list : List ℕ) : Type 0 where
+  pub can : Linkable m points begins before
+  pub fact : f < m .facts
+  pub begin : low ≡ getD begins f 0
+  pub next : high ≡ getD begins (f + 1) 0
+  pub last : end ≡ getD begins (wantedGroup m f + 1) 0
+  pub from : getD begins (wantedGroup m f) 0 ≤ p
+  pub to : p ≤ end
+  pub walking : p < end → Walking points low high (tickAt points p) cursor
+  pub put : LinksPut m points begins (Passed points (getD begins (wantedGroup m f) 0) p) before list

@@ -1,0 +1,27 @@
+-- The words so far are put.
+use Prim.Native.Nat.{_-_}
+use native.Mathlib.Omega.{arith}
+use borrow.Author.Needs.{needs}
+use Rattle.job.specs.Model.{view}
+use Rattle.points.specs.Words.{effectWord}
+use Rattle.validity.specs.Ticks.{scheduleOf, effectTick}
+use Rattle.points.proofs.Putting.{Putting, putting-start, putting-room, putting-more, putting-end}
+use Rattle.points.proofs.words.put_effects.Statement.{statement}
+use Rattle.points.proofs.words.put_effects.Tie as tie
+
+pub put-effects-spec : {M : Type 1} → statement M
+put-effects-spec =
+    tie.close
+    (tie.spec
+    (λ s job starts points₀ from n e₀ points e.
+    Putting from n (effectWord (view job s) (scheduleOf starts)) (effectTick (view job s) (scheduleOf starts)) points₀ points e)
+    (λ s job starts points₀ from n e₀ points e. n - e)
+    (λ c. search needs)
+    (λ c. putting-start (omega arith))
+    (λ c κs. (c .before .before .before .before .before .before .pre .0, c .loop-test .taken))
+    (λ c. search needs) (λ c. search needs) (λ c. search needs)
+    (λ c. putting-room (c .before .before .loop .inv) (c .before .loop-test .taken))
+    (λ c. search needs) (λ c. search needs)
+    (λ c. putting-more (c .before .before .loop .inv) (c .before .loop-test .taken) (c .effect-word .ensures))
+    (λ c. c .before .loop .inv .put .size)
+    (λ c. putting-end (c .before .loop .inv) (c .loop-test .left)))

@@ -1,0 +1,33 @@
+-- Each loop leaves alone what those before it put.
+use mathlib.Core.Path.{_∙_}
+use native.Mathlib.Omega.{arith}
+use Rattle.points.proofs.Putting.{words-listed}
+use Rattle.points.proofs.words.put_words.Statement.{statement}
+use Rattle.points.proofs.words.put_words.Tie as tie
+
+pub put-words-spec : {M : Type 1} → statement M
+put-words-spec =
+    tie.close
+    (tie.spec
+    (λ c κs. let p = c .before .before .before .before .pre in (p .0, omega arith))
+    (λ c κs.
+    let conditions = c .before .before .before in
+    let p = conditions .before .before .before .before .before .pre in
+    (p .0, omega (arith, conditions .put-conditions .ensures .size)))
+    (λ c κs.
+    let effects = c .before .before .before in
+    let conditions = effects .before .before .before .before in
+    let p = conditions .before .before .before .before .before .pre in
+    (p .0, omega (arith, effects .put-effects .ensures .size, conditions .put-conditions .ensures .size)))
+    (λ c.
+    let uses = c .before .before in
+    let effects = uses .before .before .before .before in
+    let conditions = effects .before .before .before .before in
+    uses .put-uses .ensures .size ∙ effects .put-effects .ensures .size ∙ conditions .put-conditions .ensures .size)
+    (λ c.
+    let uses = c .before .before in
+    let effects = uses .before .before .before .before in
+    let conditions = effects .before .before .before .before in (
+      words-listed (conditions .put-conditions .ensures) (effects .put-effects .ensures) (uses .put-uses .ensures),
+      uses .put-uses .ensures .size ∙ effects .put-effects .ensures .size ∙ conditions .put-conditions .ensures .size,
+    )))

@@ -1,0 +1,27 @@
+-- The parts of a use's word are within their spans.
+use mathlib.Core.Path.{_∙_}
+use native.Mathlib.Omega.{arith}
+use borrow.Author.Needs.{needs}
+use Rattle.points.proofs.Placing.{use-parts}
+use Rattle.points.proofs.words.use_word.Statement.{statement}
+use Rattle.points.proofs.words.use_word.Tie as tie
+
+pub use-word-spec : {M : Type 1} → statement M
+use-word-spec =
+    tie.close
+    (tie.spec
+    (λ c κs. search needs) (λ c. search needs) (λ c. search needs) (λ c. search needs) (λ c. search needs) (λ c κs. search needs)
+    (λ c.
+    let a = c .before .before .before .before .before .before .before in
+    let parts = use-parts (a .pre .0) (a .args .u) (a .pre .1) in
+    rw (c .before .before .before .before .use-of .ensures) (omega arith))
+    (λ c κs.
+    let a = c .before .before .before .before .before .before .before in
+    let parts = use-parts (a .pre .0) (a .args .u) (a .pre .1) in
+    rw (c .before .before .before .before .use-of .ensures) (omega arith, omega arith, omega arith, omega arith, omega arith))
+    (λ c.
+    let a = c .before .before .before .before .before .before .before .before in
+    let parts = use-parts (a .pre .0) (a .args .u) (a .pre .1) in
+    let read = c .before .before .before .before .before .use-of .ensures in
+    let start = c .before .before .start-of .ensures in
+    (c .word-of .ensures ∙ rw (start .0, read), omega (arith, rw read at (start .0)))))

@@ -1,0 +1,58 @@
+-- The points of a job as words: those of its conditions, then of its effects, then of its uses, before they are sorted.
+use Prim.Native.Nat.{ℕ, _+_, _≤_, _<_}
+use mathlib.Core.Path.{_≡_}
+use mathlib.Core.List.{List}
+use lib.ListN.{length, getD}
+use Rattle.job.specs.Layout.{mostFacts, mostLevels, mostConditions, mostEffects, mostUses}
+use Rattle.job.specs.Model.{Model}
+use Rattle.points.specs.Points.{wantedGroup, usedGroup, groupCount}
+use Rattle.timeline.specs.Words.{tickSpan, wordOf}
+use Rattle.validity.specs.Ticks.{effectTick, firstTick, useTick}
+
+-- how many points and groups a job has, and how many it can have
+abbrev pub pointCount : Model → ℕ
+pointCount m = m .conditions + m .effects + m .uses
+
+abbrev pub mostPoints : ℕ
+mostPoints = mostConditions + mostEffects + mostUses
+
+abbrev pub mostGroups : ℕ
+mostGroups = mostFacts + mostFacts + mostLevels
+
+-- the words of a condition, an effect and a use; a use has no value, so its word has 0
+abbrev pub conditionWord : Model → (ℕ → ℕ) → ℕ → ℕ
+conditionWord m x c = wordOf (wantedGroup m (m .conditionFact c)) (firstTick m x c) c (m .conditionValue c) (m .conditionStep c)
+
+abbrev pub effectWord : Model → (ℕ → ℕ) → ℕ → ℕ
+effectWord m x e = wordOf (m .effectFact e) (effectTick m x e) e (m .effectValue e) (m .effectStep e)
+
+abbrev pub useWord : Model → (ℕ → ℕ) → ℕ → ℕ
+useWord m x u = wordOf (usedGroup m (m .useLevel u)) (useTick m x u) u 0 (m .useStep u)
+
+-- a list with the words of n points from place `from` on, whose ticks are within the span; before that place nothing is changed
+pub record WordsPut (from n : ℕ) (word tick : ℕ → ℕ) (before list : List ℕ) : Type 0 where
+  pub size : length list ≡ length before
+  pub each : (k : ℕ) → k < n → (getD list (from + k) 0 ≡ word k) × (tick k < tickSpan)
+  pub kept : (p : ℕ) → p < from → getD list p 0 ≡ getD before p 0
+
+-- the words of a job's conditions in the first places, those of its effects in the next ones, and those of its uses behind them
+abbrev pub ConditionsPut : Model → (ℕ → ℕ) → List ℕ → List ℕ → Type 0
+ConditionsPut m x = WordsPut 0 (m .conditions) (conditionWord m x) (firstTick m x)
+
+abbrev pub EffectsPut : Model → (ℕ → ℕ) → List ℕ → List ℕ → Type 0
+EffectsPut m x = WordsPut (m .conditions) (m .effects) (effectWord m x) (effectTick m x)
+
+abbrev pub UsesPut : Model → (ℕ → ℕ) → List ℕ → List ℕ → Type 0
+UsesPut m x = WordsPut (m .conditions + m .effects) (m .uses) (useWord m x) (useTick m x)
+
+-- all of them
+pub record WordsListed (m : Model) (x : ℕ → ℕ) (list : List ℕ) : Type 0 where
+  pub conditions : (c : ℕ) → c < m .conditions → (getD list c 0 ≡ conditionWord m x c) × (firstTick m x c < tickSpan)
+  pub effects : (e : ℕ) → e < m .effects → (getD list (m .conditions + e) 0 ≡ effectWord m x e) × (effectTick m x e < tickSpan)
+  pub uses : (u : ℕ) → u < m .uses → (getD list (m .conditions + m .effects + u) 0 ≡ useWord m x u) × (useTick m x u < tickSpan)
+
+-- lists long enough for a job's points, for sorting them, and for the beginnings of their groups and one more
+pub record PointRoom (m : Model) (spare points begins : List ℕ) : Type 0 where
+  pub listed : pointCount m ≤ length points
+  pub sorted : pointCount m ≤ length spare
+  pub grouped : groupCount m + 2 ≤ length begins

@@ -1,0 +1,136 @@
+// The points of a job as words: those of its conditions, effects and uses, listed and then sorted by group, tick and number.
+ghost use mathlib.Core.Path.{_≡_};
+ghost use Prim.Native.Nat.{_+_, _≤_, _<_};
+ghost use lib.ListN.{length};
+ghost use Rattle.job.specs.Model.{view};
+ghost use Rattle.job.specs.WellFormed.{WellFormed};
+ghost use Rattle.points.specs.Points.{PointsKnown};
+ghost use Rattle.points.specs.Words.{pointCount, conditionWord, effectWord, useWord, ConditionsPut, EffectsPut, UsesPut, WordsListed, PointRoom};
+ghost use Rattle.timeline.specs.Words.{tickSpan};
+ghost use Rattle.validity.specs.Ticks.{scheduleOf, effectTick, firstTick, useTick};
+use crate::ticks::start_of;
+use job::layout::Job;
+use job::records::condition_of;
+use job::records::effect_of;
+use job::records::use_of;
+use timeline::arrange::sort_points;
+use timeline::word::word_of;
+
+// How many points and groups a job has at most.
+pub const MOST_POINTS: usize = Job::CONDITIONS as usize
+    + Job::EFFECTS as usize
+    + Job::USES as usize;
+
+pub const MOST_GROUPS: usize = 2 * Job::FACTS as usize + Job::LEVELS as usize;
+
+fn condition_word(s: &[u8], job: Job, starts: &[u32], c: u16) -> u64
+    requires { ⌜ WellFormed (view job (now s)) × (c < job .count .conditions) ⌝ }
+    ensures { λ r. ⌜ (r ≡ conditionWord (view job (now (s .entry))) (scheduleOf (now (starts .entry))) c)
+        × (firstTick (view job (now (s .entry))) (scheduleOf (now (starts .entry))) c < tickSpan) ⌝ }
+{
+    let p = condition_of(s, job, c);
+    let group = job.count.facts as usize + p.fact as usize;
+    word_of(group, start_of(starts, p.step) + p.from, c, p.value, p.step)
+}
+
+fn effect_word(s: &[u8], job: Job, starts: &[u32], e: u16) -> u64
+    requires { ⌜ WellFormed (view job (now s)) × (e < job .count .effects) ⌝ }
+    ensures { λ r. ⌜ (r ≡ effectWord (view job (now (s .entry))) (scheduleOf (now (starts .entry))) e)
+        × (effectTick (view job (now (s .entry))) (scheduleOf (now (starts .entry))) e < tickSpan) ⌝ }
+{
+    let p = effect_of(s, job, e);
+    word_of(
+        p.fact as usize,
+        start_of(starts, p.step) + p.at,
+        e,
+        p.value,
+        p.step,
+    )
+}
+
+fn use_word(s: &[u8], job: Job, starts: &[u32], u: u16) -> u64
+    requires { ⌜ WellFormed (view job (now s)) × (u < job .count .uses) ⌝ }
+    ensures { λ r. ⌜ (r ≡ useWord (view job (now (s .entry))) (scheduleOf (now (starts .entry))) u)
+        × (useTick (view job (now (s .entry))) (scheduleOf (now (starts .entry))) u < tickSpan) ⌝ }
+{
+    let p = use_of(s, job, u);
+    let facts = job.count.facts as usize;
+    word_of(
+        facts + facts + p.level as usize,
+        start_of(starts, p.step) + p.at,
+        u,
+        0,
+        p.step,
+    )
+}
+
+// Puts the words of all conditions into the first places of a list.
+fn put_conditions(s: &[u8], job: Job, starts: &[u32], points: &mut [u64])
+    requires { ⌜ WellFormed (view job (now s)) × (job .count .conditions ≤ length (now points)) ⌝ }
+    ensures { λ _. ⌜ ConditionsPut (view job (now (s .entry))) (scheduleOf (now (starts .entry))) (now (points .entry)) (now (points .exit)) ⌝ }
+{
+    let n = job.count.conditions;
+    let mut c = 0;
+    while c < n {
+        points[c as usize] = condition_word(s, job, starts, c);
+        c += 1;
+    }
+}
+
+// Puts those of all effects into the next ones.
+fn put_effects(s: &[u8], job: Job, starts: &[u32], points: &mut [u64])
+    requires { ⌜ WellFormed (view job (now s)) × (job .count .conditions + job .count .effects ≤ length (now points)) ⌝ }
+    ensures { λ _. ⌜ EffectsPut (view job (now (s .entry))) (scheduleOf (now (starts .entry))) (now (points .entry)) (now (points .exit)) ⌝ }
+{
+    let from = job.count.conditions as usize;
+    let n = job.count.effects;
+    let mut e = 0;
+    while e < n {
+        points[from + e as usize] = effect_word(s, job, starts, e);
+        e += 1;
+    }
+}
+
+// Puts those of all uses behind them.
+fn put_uses(s: &[u8], job: Job, starts: &[u32], points: &mut [u64])
+    requires { ⌜ WellFormed (view job (now s)) × (pointCount (view job (now s)) ≤ length (now points)) ⌝ }
+    ensures { λ _. ⌜ UsesPut (view job (now (s .entry))) (scheduleOf (now (starts .entry))) (now (points .entry)) (now (points .exit)) ⌝ }
+{
+    let from = job.count.conditions as usize + job.count.effects as usize;
+    let n = job.count.uses;
+    let mut u = 0;
+    while u < n {
+        points[from + u as usize] = use_word(s, job, starts, u);
+        u += 1;
+    }
+}
+
+// Lists the words of all points of a job.
+fn put_words(s: &[u8], job: Job, starts: &[u32], points: &mut [u64])
+    requires { ⌜ WellFormed (view job (now s)) × (pointCount (view job (now s)) ≤ length (now points)) ⌝ }
+    ensures { λ _. ⌜ WordsListed (view job (now (s .entry))) (scheduleOf (now (starts .entry))) (now (points .exit))
+        × (length (now (points .exit)) ≡ length (now (points .entry))) ⌝ }
+{
+    put_conditions(s, job, starts, points);
+    put_effects(s, job, starts, points);
+    put_uses(s, job, starts, points);
+}
+
+// Lists the points of a job at the given starts, group by group in the order of their ticks.
+pub fn list_points(
+    s: &[u8],
+    job: Job,
+    starts: &[u32],
+    spare: &mut [u64],
+    points: &mut [u64],
+    begins: &mut [u16],
+)
+    requires { ⌜ WellFormed (view job (now s)) × PointRoom (view job (now s)) (now spare) (now points) (now begins) ⌝ }
+    ensures { λ _. ⌜ PointsKnown (view job (now (s .entry))) (scheduleOf (now (starts .entry))) (now (points .exit)) (now (begins .exit)) ⌝ }
+{
+    put_words(s, job, starts, points);
+    let facts = job.count.facts as usize;
+    let groups = facts + facts + job.count.levels as usize;
+    let n = job.count.conditions as usize + job.count.effects as usize + job.count.uses as usize;
+    sort_points(n, groups, spare, points, begins);
+}

@@ -1,0 +1,27 @@
+-- The value seen at its first tick, and the scan from there on.
+use mathlib.Core.Path.{ap, _∙_}
+use native.Mathlib.Omega.{arith}
+use borrow.Author.Needs.{needs}
+use Rattle.job.specs.Model.{view}
+use Rattle.validity.specs.Ticks.{scheduleOf, lastTick}
+use Rattle.schedule.proofs.Breaks.{setters-listed, scan-rises, fails-there}
+use Rattle.schedule.proofs.conditions.fails.Statement.{statement}
+use Rattle.schedule.proofs.conditions.fails.Tie as tie
+
+pub fails-spec : {M : Type 1} → statement M
+fails-spec =
+    tie.close
+    (tie.spec
+    (λ c κs. search needs) (λ c κs. search needs) (λ c κs. search needs) (λ c κs. search needs) (λ c κs. search needs)
+    (λ c κs.
+    let p = c .before .before .before .before .before .before .before .before .pre in
+    (setters-listed p, scan-rises p (c .before .before .before .before .value-of .ensures .0) (c .before .opposing .ensures)))
+    (λ c κs.
+    let p = c .before .before .before .before .before .before .before .before .before .pre in omega (arith, p .come .parts .to, setters-listed p))
+    (λ c.
+    let a = c .before .before .before .before .before .before .before .before .before .before .args in
+    fails-there (c .before .before .before .before .before .before .before .before .before .before .pre)
+    (c .before .before .before .before .before .before .value-of .ensures .0)
+    (c .before .before .before .before .last-tick .ensures .0 ∙ ap (lastTick (view (a .job) (a .s .now)) (scheduleOf (a .starts .now)))
+    (c .before .before .before .before .before .number-of .ensures .0))
+    (c .before .before .before .opposing .ensures) (c .before .before .step-of .ensures .0) (c .before .opposed-from .ensures) (c .seen-at .ensures)))
