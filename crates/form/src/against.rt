@@ -17,9 +17,9 @@ use job::records::*;
 use timeline::index::INDEX_SIZE;
 use timeline::index::KEYS;
 use timeline::index::UNLINKED;
-use timeline::index::first_of;
+use timeline::index::before_of;
+use timeline::index::last_of;
 use timeline::index::link;
-use timeline::index::next_of;
 use verdict::Verdict;
 use verdict::refuse_if;
 
@@ -72,12 +72,12 @@ fn set_before(s: &[u8], job: Job, index: &[u16], key: usize, k: u16, e: Effect) 
         × (e ≡ effectOf (view job (now s)) k) ⌝ }
     ensures { λ r. ⌜ r ≡ setBefore (view job (now (s .entry))) k ⌝ }
 {
-    let mut f = first_of(index, key);
+    let mut f = last_of(index, key);
     while f < k {
         if both_ways(s, job, e, f) {
             return true;
         }
-        f = next_of(index, f);
+        f = before_of(index, f);
     }
     false
 }
@@ -87,12 +87,12 @@ fn used_before(s: &[u8], job: Job, index: &[u16], key: usize, u: u16) -> bool
     requires { ⌜ SearchBack (useKey (view job (now s))) u (useKey (view job (now s)) u) key (now index) ⌝ }
     ensures { λ r. ⌜ r ≡ usedBefore (view job (now (s .entry))) u ⌝ }
 {
-    let mut v = first_of(index, key);
+    let mut v = last_of(index, key);
     while v < u {
         if uses_twice(s, job, u, v) {
             return true;
         }
-        v = next_of(index, v);
+        v = before_of(index, v);
     }
     false
 }
@@ -103,12 +103,12 @@ fn opposes_any(s: &[u8], job: Job, index: &[u16], key: usize, e: Effect) -> bool
     ensures { λ r. ⌜ ((k : ℕ) → e ≡ effectOf (view job (now (s .entry))) k → r ≡ opposesAny (view job (now (s .entry))) k) ⌝ }
 {
     let n = job.count.conditions;
-    let mut c = first_of(index, key);
+    let mut c = last_of(index, key);
     while c < n {
         if opposes_own(s, job, e, c) {
             return true;
         }
-        c = next_of(index, c);
+        c = before_of(index, c);
     }
     false
 }

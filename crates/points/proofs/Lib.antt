@@ -1,6 +1,4 @@
--- What the key of a point says of it, what searches among points find, and how words are put and, once sorted, stand.
-pub mod Known
-pub mod Searches
+-- How words are put and, once sorted, stand, and what the setters of a fact say of the value seen.
 pub mod Placing
 pub mod Putting
 pub mod Placed

@@ -1,5 +1,3 @@
--- The points of a job: their keys, their words, and what is known of them before they are searched.
-pub mod Keys
-pub mod Known
+-- The points of a job: as words before they are sorted, and what is known of them in order.
 pub mod Points
 pub mod Words

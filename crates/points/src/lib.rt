@@ -1,6 +1,3 @@
-// The points of a job: their ticks, their words, their order, and the value seen.
-pub mod index;
-pub mod listed;
+// The points of a job: their ticks, and their words in order.
 pub mod ticks;
-pub mod values;
 pub mod words;

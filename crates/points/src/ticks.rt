@@ -6,10 +6,9 @@ ghost use lib.ListN.{length, take};
 ghost use Rattle.laws.specs.Listed.{tabulate};
 ghost use Rattle.job.specs.Layout.{mostSteps};
 ghost use Rattle.job.specs.Model.{view};
-ghost use Rattle.validity.specs.Ticks.{scheduleOf, effectTick, firstTick, lastTick, useTick};
+ghost use Rattle.validity.specs.Ticks.{scheduleOf, effectTick, lastTick};
 ghost use Rattle.validity.specs.Ticks as spec;
-ghost use Rattle.timeline.specs.Sorted.{tickLimit};
-ghost use Rattle.points.specs.Known.{TicksOf};
+ghost use Rattle.timeline.specs.Words.{tickSpan};
 use job::layout::Job;
 use job::records::*;
 
@@ -27,79 +26,21 @@ pub fn start_of(starts: &[u32], step: u16) -> usize
 }
 
 pub fn effect_tick(s: &[u8], job: Job, starts: &[u32], e: u16) -> usize
-    ensures { λ r. ⌜ (r ≡ effectTick (view job (now (s .entry))) (scheduleOf (now (starts .entry))) e) × (r < tickLimit) ⌝ }
+    ensures { λ r. ⌜ (r ≡ effectTick (view job (now (s .entry))) (scheduleOf (now (starts .entry))) e) × (r < tickSpan) ⌝ }
 {
     start_of(starts, effect_step(s, job, e)) + effect_at(s, job, e)
 }
 
-pub fn first_tick(s: &[u8], job: Job, starts: &[u32], c: u16) -> usize
-    ensures { λ r. ⌜ (r ≡ firstTick (view job (now (s .entry))) (scheduleOf (now (starts .entry))) c) × (r < tickLimit) ⌝ }
-{
-    start_of(starts, condition_step(s, job, c)) + condition_from(s, job, c)
-}
-
 pub fn last_tick(s: &[u8], job: Job, starts: &[u32], c: u16) -> usize
-    ensures { λ r. ⌜ (r ≡ lastTick (view job (now (s .entry))) (scheduleOf (now (starts .entry))) c) × (r < tickLimit) ⌝ }
+    ensures { λ r. ⌜ (r ≡ lastTick (view job (now (s .entry))) (scheduleOf (now (starts .entry))) c) × (r < tickSpan) ⌝ }
 {
     start_of(starts, condition_step(s, job, c)) + condition_to(s, job, c)
 }
 
-pub fn use_tick(s: &[u8], job: Job, starts: &[u32], u: u16) -> usize
-    ensures { λ r. ⌜ (r ≡ useTick (view job (now (s .entry))) (scheduleOf (now (starts .entry))) u) × (r < tickLimit) ⌝ }
-{
-    start_of(starts, use_step(s, job, u)) + use_at(s, job, u)
-}
-
-// Lists the tick of each effect, for searches that ask for it again and again.
-pub fn effect_ticks(s: &[u8], job: Job, starts: &[u32], ticks: &mut [usize])
-    requires { ⌜ job .count .effects ≤ length (now ticks) ⌝ }
-    ensures { λ _. ⌜ TicksOf (job .count .effects) (effectTick (view job (now (s .entry))) (scheduleOf (now (starts .entry)))) (now (ticks .exit)) ⌝ }
-{
-    let n = job.count.effects;
-    let mut e = 0;
-    while e < n {
-        ticks[e as usize] = effect_tick(s, job, starts, e);
-        e += 1;
-    }
-}
-
-// Lists the first tick of each condition.
-pub fn first_ticks(s: &[u8], job: Job, starts: &[u32], ticks: &mut [usize])
-    requires { ⌜ job .count .conditions ≤ length (now ticks) ⌝ }
-    ensures { λ _. ⌜ TicksOf (job .count .conditions) (firstTick (view job (now (s .entry))) (scheduleOf (now (starts .entry))))
-        (now (ticks .exit)) ⌝ }
-{
-    let n = job.count.conditions;
-    let mut c = 0;
-    while c < n {
-        ticks[c as usize] = first_tick(s, job, starts, c);
-        c += 1;
-    }
-}
-
-// Lists the tick of each use.
-pub fn use_ticks(s: &[u8], job: Job, starts: &[u32], ticks: &mut [usize])
-    requires { ⌜ job .count .uses ≤ length (now ticks) ⌝ }
-    ensures { λ _. ⌜ TicksOf (job .count .uses) (useTick (view job (now (s .entry))) (scheduleOf (now (starts .entry)))) (now (ticks .exit)) ⌝ }
-{
-    let n = job.count.uses;
-    let mut u = 0;
-    while u < n {
-        ticks[u as usize] = use_tick(s, job, starts, u);
-        u += 1;
-    }
-}
-
 pub fn finish(s: &[u8], job: Job, starts: &[u32], k: u16) -> usize
-    ensures { λ r. ⌜ (r ≡ spec.finish (view job (now (s .entry))) (scheduleOf (now (starts .entry))) k) × (r < tickLimit) ⌝ }
+    ensures { λ r. ⌜ (r ≡ spec.finish (view job (now (s .entry))) (scheduleOf (now (starts .entry))) k) × (r < tickSpan) ⌝ }
 {
     start_of(starts, k) + step_length(s, job, k)
-}
-
-pub fn opposes(s: &[u8], job: Job, e: u16, fact: u16, value: u16) -> bool
-    ensures { λ r. ⌜ r ≡ spec.opposes (view job (now (s .entry))) e fact value ⌝ }
-{
-    (effect_fact(s, job, e) == fact) & (effect_value(s, job, e) != value)
 }
 
 // The written starts of the first n steps.

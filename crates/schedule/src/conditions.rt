@@ -1,7 +1,7 @@
 // Refusal 11: conditions that fail, found along the setters of each fact.
 ghost use mathlib.Core.Path.{_≡_};
 ghost use mathlib.Core.Bool.{cond};
-ghost use Prim.Native.Nat.{min, _-_, _≤_, _<_};
+ghost use Prim.Native.Nat.{max, min, _-_, _≤_, _<_};
 ghost use lib.Dec.{eqb, ltb};
 ghost use lib.ListN.{length};
 ghost use Rattle.laws.specs.Search.{lowest};
@@ -17,7 +17,6 @@ use crate::effects::opposed_from;
 use job::layout::Job;
 use job::records::fact_initial;
 use points::ticks::last_tick;
-use points::values::larger;
 use timeline::walk::Cursor;
 use timeline::walk::advance;
 use timeline::word::begin_at;
@@ -39,6 +38,12 @@ pub struct Walk {
     pub run: usize,
     pub off: usize,
     pub on: usize,
+}
+
+fn larger(a: usize, b: usize) -> usize
+    ensures { λ r. ⌜ r ≡ max a b ⌝ }
+{
+    if a < b { b } else { a }
 }
 
 fn lower(a: u16, b: u16) -> u16

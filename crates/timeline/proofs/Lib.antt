@@ -1,11 +1,6 @@
--- How an index grows, how a search by tick halves, how a list of records comes into order, and what searches and sums along it find.
+-- What a word is made of, how words are counted, dealt and sorted, walks and sums along them; how an index grows.
 pub mod Indexing
-pub mod Searching
-pub mod Inserting
 pub mod Counting
-pub mod Gathering
-pub mod Scanning
-pub mod Summing
 pub mod Words
 pub mod Walking
 pub mod Ranks

@@ -4,13 +4,13 @@ use Prim.Native.Nat.{ℕ, _+_}
 use mathlib.Core.Path.{_≡_}
 use mathlib.Core.List.{List}
 use lib.ListN.{length, getD}
-use Rattle.laws.specs.Linked.{Linked, LinkedBack}
+use Rattle.laws.specs.Linked.{LinkedBack}
 
 -- the keys of an index
 abbrev pub keyCount : ℕ
 keyCount = 512
 
--- the records that an index or a list holds at most: a number of its own, since it may grow while the keys do not
+-- the records that an index holds at most: a number of its own, since it may grow while the keys do not
 abbrev pub capacity : ℕ
 capacity = 512
 
@@ -18,25 +18,9 @@ capacity = 512
 abbrev pub indexSize : ℕ
 indexSize = keyCount + capacity
 
--- a list: where each key begins and the last ends, then the records
-abbrev pub recordsAt : ℕ
-recordsAt = keyCount + 1
-
-abbrev pub listSize : ℕ
-listSize = recordsAt + capacity
-
 -- what stands for none in an index that grows
 abbrev pub unlinked : ℕ
 unlinked = 65535
-
--- an index of n records: first those of the keys, then those after each record
-pub record Indexed (n : ℕ) (key : ℕ → ℕ) (index : List ℕ) : Type 0 where
-  pub size : length index ≡ indexSize
-  pub linked : Linked n keyCount key (λ f. getD index f 0) (λ k. getD index (keyCount + k) 0)
-
--- an index of n records by some key
-abbrev pub IndexedSome : ℕ → List ℕ → Type 0
-IndexedSome n index = (key : ℕ → ℕ) × Indexed n key index
 
 -- an index of the first m records that grows: first the last of each key, then those before each record
 pub record Growing (key : ℕ → ℕ) (m : ℕ) (index : List ℕ) : Type 0 where

@@ -1,7 +1,5 @@
--- Records linked by a key, records in the order of their ticks, and what a search by tick finds.
+-- Points as words, in order and along a walk, and what the sort presumes; records linked by a key.
 pub mod Indexed
-pub mod Sorted
-pub mod Sorting
 pub mod Words
 pub mod Placed
 pub mod Walking

@@ -25,7 +25,7 @@ opposes-any-spec =
     (λ c.
     let p = c .before .before .before .pre in
     λ k q. back-start (p .growing .linked) (p .few) _ _ (own-opposes _ _) _ _ (p .same ∙ ap (λ (x : Effect). stepKey (x .step) (x .fact)) q) (p .low)
-    (c .first-of .ensures))
+    (c .last-of .ensures))
     (λ c κs. search needs)
     (λ c. λ k q. any-found _ _ _ (c .before .before .loop-test .taken) (c .before .opposes-own .ensures k q) (c .if1 .taken))
     (λ c κs.
@@ -33,10 +33,10 @@ opposes-any-spec =
     let p = l .before .before .before .before .before .pre in (p .growing .size, omega (arith, l .loop-test .taken, p .few)))
     (λ c.
     let l = c .before .before .before in
-    let p = l .before .before .before .before .before .pre in back-less (p .growing .linked) (p .few) _ _ (l .loop-test .taken) (c .next-of .ensures))
+    let p = l .before .before .before .before .before .pre in back-less (p .growing .linked) (p .few) _ _ (l .loop-test .taken) (c .before-of .ensures))
     (λ c.
     let l = c .before .before .before in
     let p = l .before .before .before .before .before .pre in
     λ k q. back-more (p .growing .linked) (p .few) _ _ (own-opposes _ _) _ (l .before .loop .inv k q) (l .loop-test .taken)
-    (c .before .before .opposes-own .ensures k q) (c .before .if1 .left) (c .next-of .ensures))
+    (c .before .before .opposes-own .ensures k q) (c .before .if1 .left) (c .before-of .ensures))
     (λ c. λ k q. back-end _ _ _ (c .before .loop .inv k q) (c .loop-test .left)))

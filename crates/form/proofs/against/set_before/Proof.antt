@@ -20,7 +20,7 @@ set-before-spec =
     (λ c κs. let p = c .before .before .pre in (p .0 .growing .size, p .0 .low))
     (λ c.
     let p = c .before .before .before .pre in
-    back-start (p .0 .growing .linked) (p .0 .few) _ _ (own-both-ways _ _) _ _ (p .0 .same) (p .0 .low) (c .first-of .ensures))
+    back-start (p .0 .growing .linked) (p .0 .few) _ _ (own-both-ways _ _) _ _ (p .0 .same) (p .0 .low) (c .last-of .ensures))
     (λ c κs. search needs)
     (λ c. any-found _ _ _ (c .before .before .loop-test .taken)
     (c .before .both-ways .ensures _ (c .before .before .before .before .before .before .before .pre .1)) (c .if1 .taken))
@@ -30,10 +30,10 @@ set-before-spec =
     (λ c.
     let l = c .before .before .before in
     let p = l .before .before .before .before .before .pre in
-    back-less (p .0 .growing .linked) (p .0 .few) _ _ (l .loop-test .taken) (c .next-of .ensures))
+    back-less (p .0 .growing .linked) (p .0 .few) _ _ (l .loop-test .taken) (c .before-of .ensures))
     (λ c.
     let l = c .before .before .before in
     let p = l .before .before .before .before .before .pre in
     back-more (p .0 .growing .linked) (p .0 .few) _ _ (own-both-ways _ _) _ (l .before .loop .inv) (l .loop-test .taken)
-    (c .before .before .both-ways .ensures _ (p .1)) (c .before .if1 .left) (c .next-of .ensures))
+    (c .before .before .both-ways .ensures _ (p .1)) (c .before .if1 .left) (c .before-of .ensures))
     (λ c. back-end _ _ _ (c .before .loop .inv) (c .loop-test .left)))

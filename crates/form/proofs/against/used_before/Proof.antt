@@ -20,7 +20,7 @@ used-before-spec =
     (λ c κs. let p = c .before .before .pre in (p .growing .size, p .low))
     (λ c.
     let p = c .before .before .before .pre in
-    back-start (p .growing .linked) (p .few) _ _ (own-uses-twice _ _) _ _ (p .same) (p .low) (c .first-of .ensures))
+    back-start (p .growing .linked) (p .few) _ _ (own-uses-twice _ _) _ _ (p .same) (p .low) (c .last-of .ensures))
     (λ c κs. search needs)
     (λ c. any-found _ _ _ (c .before .before .loop-test .taken) (c .before .uses-twice .ensures) (c .if1 .taken))
     (λ c κs.
@@ -28,10 +28,10 @@ used-before-spec =
     let p = l .before .before .before .before .before .pre in (p .growing .size, omega (arith, l .loop-test .taken, p .few)))
     (λ c.
     let l = c .before .before .before in
-    let p = l .before .before .before .before .before .pre in back-less (p .growing .linked) (p .few) _ _ (l .loop-test .taken) (c .next-of .ensures))
+    let p = l .before .before .before .before .before .pre in back-less (p .growing .linked) (p .few) _ _ (l .loop-test .taken) (c .before-of .ensures))
     (λ c.
     let l = c .before .before .before in
     let p = l .before .before .before .before .before .pre in
     back-more (p .growing .linked) (p .few) _ _ (own-uses-twice _ _) _ (l .before .loop .inv) (l .loop-test .taken)
-    (c .before .before .uses-twice .ensures) (c .before .if1 .left) (c .next-of .ensures))
+    (c .before .before .uses-twice .ensures) (c .before .if1 .left) (c .before-of .ensures))
     (λ c. back-end _ _ _ (c .before .loop .inv) (c .loop-test .left)))
