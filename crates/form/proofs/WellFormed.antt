@@ -165,14 +165,19 @@ ranged s e =
       effectCount = n 4 (lit< tt);
       useCount = n 5 (lit< tt);
       initialValue = λ k l. fact-in m k (ok Facts k l);
+      lengthRange = λ k l. step-in m k (ok Steps k l) .1;
       conditionStep = λ k l. condition-in m k (ok Conditions k l) .0;
       conditionFact = λ k l. condition-in m k (ok Conditions k l) .1;
+      conditionSpan = λ k l. condition-in m k (ok Conditions k l) .2;
+      conditionEnd = λ k l. condition-in m k (ok Conditions k l) .3;
       conditionValue = λ k l. condition-in m k (ok Conditions k l) .4;
       effectStep = λ k l. effect-in m k (ok Effects k l) .0;
       effectFact = λ k l. effect-in m k (ok Effects k l) .1;
+      effectEnd = λ k l. effect-in m k (ok Effects k l) .2;
       effectValue = λ k l. effect-in m k (ok Effects k l) .3;
       useStep = λ k l. use-in m k (ok Uses k l) .0;
       useLevel = λ k l. use-in m k (ok Uses k l) .1;
+      useEnd = λ k l. use-in m k (ok Uses k l) .2;
     }
 
 module _ (m : Model) (ok : (t : Table) (k : ℕ) → k < countIn m t → recordOk m t k ≡ true) (no : m .steps ≤ againstStep m) where
@@ -253,20 +258,20 @@ module _ (m : Model) (ok : (t : Table) (k : ℕ) → k < countIn m t → recordO
         levelHigh = λ k l. level-in m k (ok Levels k l) .2;
         levelTo = λ k l. level-in m k (ok Levels k l) .3;
         startRange = λ k l. step-in m k (ok Steps k l) .0;
-        lengthRange = λ k l. step-in m k (ok Steps k l) .1;
+        lengthRange = r .lengthRange;
         fixedMark = λ k l. step-in m k (ok Steps k l) .2;
         conditionStep = r .conditionStep;
         conditionFact = r .conditionFact;
-        conditionSpan = λ k l. condition-in m k (ok Conditions k l) .2;
-        conditionEnd = λ k l. condition-in m k (ok Conditions k l) .3;
+        conditionSpan = r .conditionSpan;
+        conditionEnd = r .conditionEnd;
         conditionValue = r .conditionValue;
         effectStep = r .effectStep;
         effectFact = r .effectFact;
-        effectEnd = λ k l. effect-in m k (ok Effects k l) .2;
+        effectEnd = r .effectEnd;
         effectValue = r .effectValue;
         useStep = r .useStep;
         useLevel = r .useLevel;
-        useEnd = λ k l. use-in m k (ok Uses k l) .2;
+        useEnd = r .useEnd;
         useFrom = λ k l. use-in m k (ok Uses k l) .3;
         useTo = λ k l. use-in m k (ok Uses k l) .4;
         useNotZero = λ k l. use-in m k (ok Uses k l) .5;

@@ -12,12 +12,17 @@ well-formed-ranged w =
       effectCount = w .effectCount;
       useCount = w .useCount;
       initialValue = w .initialValue;
+      lengthRange = w .lengthRange;
       conditionStep = w .conditionStep;
       conditionFact = w .conditionFact;
+      conditionSpan = w .conditionSpan;
+      conditionEnd = w .conditionEnd;
       conditionValue = w .conditionValue;
       effectStep = w .effectStep;
       effectFact = w .effectFact;
+      effectEnd = w .effectEnd;
       effectValue = w .effectValue;
       useStep = w .useStep;
       useLevel = w .useLevel;
+      useEnd = w .useEnd;
     }

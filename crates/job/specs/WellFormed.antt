@@ -70,11 +70,16 @@ pub record Ranged (m : Model) : Type 0 where
   pub effectCount : m .effects ≤ mostEffects
   pub useCount : m .uses ≤ mostUses
   pub initialValue : (k : ℕ) → k < m .facts → m .initial k ≤ 1
+  pub lengthRange : (k : ℕ) → k < m .steps → m .stepLength k ≤ longest
   pub conditionStep : (k : ℕ) → k < m .conditions → m .conditionStep k < m .steps
   pub conditionFact : (k : ℕ) → k < m .conditions → m .conditionFact k < m .facts
+  pub conditionSpan : (k : ℕ) → k < m .conditions → m .conditionFrom k ≤ m .conditionTo k
+  pub conditionEnd : (k : ℕ) → k < m .conditions → m .conditionTo k ≤ m .stepLength (m .conditionStep k)
   pub conditionValue : (k : ℕ) → k < m .conditions → m .conditionValue k ≤ 1
   pub effectStep : (k : ℕ) → k < m .effects → m .effectStep k < m .steps
   pub effectFact : (k : ℕ) → k < m .effects → m .effectFact k < m .facts
+  pub effectEnd : (k : ℕ) → k < m .effects → m .effectAt k ≤ m .stepLength (m .effectStep k)
   pub effectValue : (k : ℕ) → k < m .effects → m .effectValue k ≤ 1
   pub useStep : (k : ℕ) → k < m .uses → m .useStep k < m .steps
   pub useLevel : (k : ℕ) → k < m .uses → m .useLevel k < m .levels
+  pub useEnd : (k : ℕ) → k < m .uses → m .useAt k ≤ m .stepLength (m .useStep k)

@@ -20,6 +20,7 @@ use Rattle.validity.specs.Seen.{seen, afterAll}
 use Rattle.validity.specs.Valid.{Valid}
 use Rattle.validity.proofs.Seen.{Giver, lastGiven-ge, lastGiven-le, afterAll-ge}
 use Rattle.points.specs.Points.{PointsKnown, OneValue, wantedGroup}
+use Rattle.job.proofs.Ranged.{well-formed-ranged}
 use Rattle.points.proofs.Placed.{valid-one-value, placed-giver, giver-placed, placed-apart, seen-first, seen-before}
 use Rattle.order_file.specs.Contents.{initialState}
 use Rattle.orders.specs.Links.{lastOpposing, producer, earliestProduced, supporter, linkOf, conditionLink, goalLink, nthLink}
@@ -39,7 +40,7 @@ module _ {m : Model} {x : ℕ → ℕ} {points begins : List ℕ} (known : Point
 
   -- the value seen at t is that of the point before
   last-is : low < place → valueAt points (place - 1) ≡ v
-  last-is l = sym (seen-before known f h form parts one l) ∙ sees
+  last-is l = sym (seen-before known f h (well-formed-ranged form) parts one l) ∙ sees
 
   -- nothing opposes before t but what stands before the run
   opposed :
@@ -203,7 +204,7 @@ module _ {m : Model} {x : ℕ → ℕ} {points begins : List ℕ} (known : Point
             let from : low ≤ run = so .from in
             let to : run ≤ place = so .to in
             contrary
-            (ap₂ _&&_ (eq-eqb run low (omega arith)) (eq-eqb _ _ (sym (seen-first known f h form parts (omega arith)) ∙ sees)))
+            (ap₂ _&&_ (eq-eqb run low (omega arith)) (eq-eqb _ _ (sym (seen-first known f h (well-formed-ranged form) parts (omega arith)) ∙ sees)))
             no-initial
       ]
 

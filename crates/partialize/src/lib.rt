@@ -3,6 +3,7 @@ ghost use Rattle.job.specs.Model.{view};
 ghost use Rattle.validity.specs.Ticks.{scheduleOf};
 ghost use Rattle.orders.specs.File.{fileOf};
 ghost use Rattle.schedule.specs.Opened.{Planned};
+ghost use Rattle.points.specs.Words.{Small};
 ghost use Rattle.gaps.specs.Raised.{ValidPoints};
 ghost use Rattle.partialize.specs.Formed.{Formed};
 ghost use Rattle.partialize.specs.Holds.{Fileable, FiledOf};
@@ -22,8 +23,11 @@ use order_file::write::Header;
 use order_file::write::count_orders;
 use order_file::write::write_file;
 use points::ticks::planned_starts;
+use points::words::FEW_GROUPS;
+use points::words::FEW_POINTS;
 use points::words::MOST_GROUPS;
 use points::words::MOST_POINTS;
+use points::words::is_small;
 use points::words::list_points;
 use verdict::number;
 use windows::starts;
@@ -77,7 +81,7 @@ fn file_schedule(
     file_found(s, job, &links, &gaps, out)
 }
 
-// Checks a job of good form whose points at its planned starts are in order, and files it.
+// Checks a job whose points at its planned starts are in order, and files it.
 fn loosen_ordered(
     s: &[u8],
     job: Job,
@@ -96,11 +100,26 @@ fn loosen_ordered(
     file_schedule(s, job, starts, points, begins, out)
 }
 
-// Puts the points of a job of good form in order, once for the check and the file.
+// Puts the points of a small job in order, once for the check and the file.
+fn loosen_small(s: &[u8], job: Job, starts: &[u32], out: &mut [u8]) -> Answer
+    requires { ⌜ Formed (now s) job (now starts) × Small (job .count) ⌝ }
+    ensures { λ r. ⌜ Promise (now (s .entry)) (now (out .entry)) (now (out .exit)) r ⌝ }
+{
+    let mut spare = [0u64; FEW_POINTS];
+    let mut points = [0u64; FEW_POINTS];
+    let mut begins = [0u16; FEW_GROUPS + 2];
+    list_points(s, job, starts, &mut spare, &mut points, &mut begins);
+    loosen_ordered(s, job, starts, &points, &begins, out)
+}
+
+// The same of any job.
 fn loosen(s: &[u8], job: Job, starts: &[u32], out: &mut [u8]) -> Answer
     requires { ⌜ Formed (now s) job (now starts) ⌝ }
     ensures { λ r. ⌜ Promise (now (s .entry)) (now (out .entry)) (now (out .exit)) r ⌝ }
 {
+    if is_small(job) {
+        return loosen_small(s, job, starts, out);
+    }
     let mut spare = [0u64; MOST_POINTS];
     let mut points = [0u64; MOST_POINTS];
     let mut begins = [0u16; MOST_GROUPS + 2];

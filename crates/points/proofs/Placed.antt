@@ -6,7 +6,7 @@ use native.Mathlib.Decide.{decLt, ℕ-discrete}
 use native.Mathlib.Omega.{arith}
 use lib.ListN.{getD}
 use Rattle.job.specs.Model.{Model}
-use Rattle.job.specs.WellFormed.{WellFormed}
+use Rattle.job.specs.WellFormed.{WellFormed, Ranged}
 use Rattle.timeline.specs.Words.{numberAt, tickAt, valueAt}
 use Rattle.timeline.specs.Placed.{Parted}
 use Rattle.validity.specs.Ticks.{effectTick}
@@ -79,7 +79,7 @@ module _ {m : Model} {x : ℕ → ℕ} {points begins : List ℕ} (known : Point
             ∙ b .ofValue))
       ]
 
-  module _ (form : WellFormed m) {t r : ℕ} (parts : Parted points (getD begins f 0) (getD begins (f + 1) 0) t r) where
+  module _ (form : Ranged m) {t r : ℕ} (parts : Parted points (getD begins f 0) (getD begins (f + 1) 0) t r) where
     -- where nothing stands before tick t, the initial value is seen
     pub seen-first : r ≤ getD begins f 0 → seen m x f t ≡ m .initial f
     seen-first none =

@@ -6,7 +6,7 @@ use native.Mathlib.Decide.{decLt}
 use native.Mathlib.Omega.{arith}
 use lib.ListN.{length, getD}
 use Rattle.job.specs.Model.{Model, longest}
-use Rattle.job.specs.WellFormed.{WellFormed}
+use Rattle.job.specs.WellFormed.{Ranged}
 use Rattle.points.specs.Points.{Setter, Wanting, Using, wantedGroup, usedGroup, groupCount, PointsKnown}
 use Rattle.points.specs.Words.{pointCount, conditionWord, effectWord, useWord, WordsListed}
 use Rattle.timeline.proofs.Words.{step-back, value-back, number-back, tick-back, group-back}
@@ -152,7 +152,7 @@ module _ {P : ℕ → Type 0} {g : ℕ} {tick value step : ℕ → ℕ} {n group
         ordered = numbers-order;
       }
 
--- What the words of a well-formed job are made of, but for a start: offsets are at most the longest length.
+-- What the words of a job are made of, but for a start: offsets are at most the longest length.
 pub record Parts (g first last k v s : ℕ) : Type 0 where
   pub group : g < groupSpan
   pub rises : first ≤ last
@@ -161,7 +161,7 @@ pub record Parts (g first last k v s : ℕ) : Type 0 where
   pub value : v < valueSpan
   pub step : s < stepSpan
 
-module _ {m : Model} (form : WellFormed m) where
+module _ {m : Model} (form : Ranged m) where
   pub condition-parts : (c : ℕ) → c < m .conditions
       → Parts (wantedGroup m (m .conditionFact c)) (m .conditionFrom c) (m .conditionTo c) c (m .conditionValue c) (m .conditionStep c)
   condition-parts c h =
@@ -200,7 +200,7 @@ module _ {m : Model} (form : WellFormed m) where
       }
 
 -- The words of a well-formed job.
-module _ {m : Model} {x : ℕ → ℕ} {list : List ℕ} (form : WellFormed m) (known : WordsListed m x list) where
+module _ {m : Model} {x : ℕ → ℕ} {list : List ℕ} (form : Ranged m) (known : WordsListed m x list) where
   condition-made : (c : ℕ) → c < m .conditions
       → Made (conditionWord m x c) (wantedGroup m (m .conditionFact c)) (firstTick m x c) c (m .conditionValue c) (m .conditionStep c)
   condition-made c h =

@@ -4,6 +4,7 @@ use mathlib.Core.Path.{_≡_}
 use mathlib.Core.List.{List}
 use lib.ListN.{length, getD}
 use Rattle.job.specs.Layout.{mostFacts, mostLevels, mostConditions, mostEffects, mostUses}
+use Rattle.job.specs.declared.layout.Counts.{Counts}
 use Rattle.job.specs.Model.{Model}
 use Rattle.points.specs.Points.{wantedGroup, usedGroup, groupCount}
 use Rattle.timeline.specs.Words.{tickSpan, wordOf}
@@ -56,3 +57,15 @@ pub record PointRoom (m : Model) (spare points begins : List ℕ) : Type 0 where
   pub listed : pointCount m ≤ length points
   pub sorted : pointCount m ≤ length spare
   pub grouped : groupCount m + 2 ≤ length begins
+
+-- how many points and groups a small job has at most
+abbrev pub fewPoints : ℕ
+fewPoints = 192
+
+abbrev pub fewGroups : ℕ
+fewGroups = 80
+
+-- the counts of a small job
+pub record Small (n : Counts) : Type 0 where
+  pub points : n .conditions + n .effects + n .uses ≤ fewPoints
+  pub groups : n .facts + n .facts + n .levels ≤ fewGroups

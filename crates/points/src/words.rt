@@ -1,11 +1,13 @@
 // The points of a job as words: those of its conditions, effects and uses, listed and then sorted by group, tick and number.
 ghost use mathlib.Core.Path.{_≡_};
+ghost use mathlib.Core.Bool.{true};
 ghost use Prim.Native.Nat.{_+_, _≤_, _<_};
 ghost use lib.ListN.{length};
 ghost use Rattle.job.specs.Model.{view};
-ghost use Rattle.job.specs.WellFormed.{WellFormed};
+ghost use Rattle.job.specs.WellFormed.{Ranged};
 ghost use Rattle.points.specs.Points.{PointsKnown};
 ghost use Rattle.points.specs.Words.{pointCount, conditionWord, effectWord, useWord, ConditionsPut, EffectsPut, UsesPut, WordsListed, PointRoom};
+ghost use Rattle.points.specs.Words.{Small};
 ghost use Rattle.timeline.specs.Words.{tickSpan};
 ghost use Rattle.validity.specs.Ticks.{scheduleOf, effectTick, firstTick, useTick};
 use crate::ticks::start_of;
@@ -23,8 +25,23 @@ pub const MOST_POINTS: usize = Job::CONDITIONS as usize
 
 pub const MOST_GROUPS: usize = 2 * Job::FACTS as usize + Job::LEVELS as usize;
 
+// How many a small job has at most: its lists are shorter, since clearing long ones would take most of its time.
+pub const FEW_POINTS: usize = 192;
+
+pub const FEW_GROUPS: usize = 80;
+
+// Whether a job is small.
+pub fn is_small(job: Job) -> bool
+    ensures { λ r. ⌜ (r ≡ true → Small (job .count)) ⌝ }
+{
+    let facts = job.count.facts as usize;
+    let groups = facts + facts + job.count.levels as usize;
+    let n = job.count.conditions as usize + job.count.effects as usize + job.count.uses as usize;
+    (n <= FEW_POINTS) & (groups <= FEW_GROUPS)
+}
+
 fn condition_word(s: &[u8], job: Job, starts: &[u32], c: u16) -> u64
-    requires { ⌜ WellFormed (view job (now s)) × (c < job .count .conditions) ⌝ }
+    requires { ⌜ Ranged (view job (now s)) × (c < job .count .conditions) ⌝ }
     ensures { λ r. ⌜ (r ≡ conditionWord (view job (now (s .entry))) (scheduleOf (now (starts .entry))) c)
         × (firstTick (view job (now (s .entry))) (scheduleOf (now (starts .entry))) c < tickSpan) ⌝ }
 {
@@ -34,7 +51,7 @@ fn condition_word(s: &[u8], job: Job, starts: &[u32], c: u16) -> u64
 }
 
 fn effect_word(s: &[u8], job: Job, starts: &[u32], e: u16) -> u64
-    requires { ⌜ WellFormed (view job (now s)) × (e < job .count .effects) ⌝ }
+    requires { ⌜ Ranged (view job (now s)) × (e < job .count .effects) ⌝ }
     ensures { λ r. ⌜ (r ≡ effectWord (view job (now (s .entry))) (scheduleOf (now (starts .entry))) e)
         × (effectTick (view job (now (s .entry))) (scheduleOf (now (starts .entry))) e < tickSpan) ⌝ }
 {
@@ -49,7 +66,7 @@ fn effect_word(s: &[u8], job: Job, starts: &[u32], e: u16) -> u64
 }
 
 fn use_word(s: &[u8], job: Job, starts: &[u32], u: u16) -> u64
-    requires { ⌜ WellFormed (view job (now s)) × (u < job .count .uses) ⌝ }
+    requires { ⌜ Ranged (view job (now s)) × (u < job .count .uses) ⌝ }
     ensures { λ r. ⌜ (r ≡ useWord (view job (now (s .entry))) (scheduleOf (now (starts .entry))) u)
         × (useTick (view job (now (s .entry))) (scheduleOf (now (starts .entry))) u < tickSpan) ⌝ }
 {
@@ -66,7 +83,7 @@ fn use_word(s: &[u8], job: Job, starts: &[u32], u: u16) -> u64
 
 // Puts the words of all conditions into the first places of a list.
 fn put_conditions(s: &[u8], job: Job, starts: &[u32], points: &mut [u64])
-    requires { ⌜ WellFormed (view job (now s)) × (job .count .conditions ≤ length (now points)) ⌝ }
+    requires { ⌜ Ranged (view job (now s)) × (job .count .conditions ≤ length (now points)) ⌝ }
     ensures { λ _. ⌜ ConditionsPut (view job (now (s .entry))) (scheduleOf (now (starts .entry))) (now (points .entry)) (now (points .exit)) ⌝ }
 {
     let n = job.count.conditions;
@@ -79,7 +96,7 @@ fn put_conditions(s: &[u8], job: Job, starts: &[u32], points: &mut [u64])
 
 // Puts those of all effects into the next ones.
 fn put_effects(s: &[u8], job: Job, starts: &[u32], points: &mut [u64])
-    requires { ⌜ WellFormed (view job (now s)) × (job .count .conditions + job .count .effects ≤ length (now points)) ⌝ }
+    requires { ⌜ Ranged (view job (now s)) × (job .count .conditions + job .count .effects ≤ length (now points)) ⌝ }
     ensures { λ _. ⌜ EffectsPut (view job (now (s .entry))) (scheduleOf (now (starts .entry))) (now (points .entry)) (now (points .exit)) ⌝ }
 {
     let from = job.count.conditions as usize;
@@ -93,7 +110,7 @@ fn put_effects(s: &[u8], job: Job, starts: &[u32], points: &mut [u64])
 
 // Puts those of all uses behind them.
 fn put_uses(s: &[u8], job: Job, starts: &[u32], points: &mut [u64])
-    requires { ⌜ WellFormed (view job (now s)) × (pointCount (view job (now s)) ≤ length (now points)) ⌝ }
+    requires { ⌜ Ranged (view job (now s)) × (pointCount (view job (now s)) ≤ length (now points)) ⌝ }
     ensures { λ _. ⌜ UsesPut (view job (now (s .entry))) (scheduleOf (now (starts .entry))) (now (points .entry)) (now (points .exit)) ⌝ }
 {
     let from = job.count.conditions as usize + job.count.effects as usize;
@@ -107,7 +124,7 @@ fn put_uses(s: &[u8], job: Job, starts: &[u32], points: &mut [u64])
 
 // Lists the words of all points of a job.
 fn put_words(s: &[u8], job: Job, starts: &[u32], points: &mut [u64])
-    requires { ⌜ WellFormed (view job (now s)) × (pointCount (view job (now s)) ≤ length (now points)) ⌝ }
+    requires { ⌜ Ranged (view job (now s)) × (pointCount (view job (now s)) ≤ length (now points)) ⌝ }
     ensures { λ _. ⌜ WordsListed (view job (now (s .entry))) (scheduleOf (now (starts .entry))) (now (points .exit))
         × (length (now (points .exit)) ≡ length (now (points .entry))) ⌝ }
 {
@@ -125,7 +142,7 @@ pub fn list_points(
     points: &mut [u64],
     begins: &mut [u16],
 )
-    requires { ⌜ WellFormed (view job (now s)) × PointRoom (view job (now s)) (now spare) (now points) (now begins) ⌝ }
+    requires { ⌜ Ranged (view job (now s)) × PointRoom (view job (now s)) (now spare) (now points) (now begins) ⌝ }
     ensures { λ _. ⌜ PointsKnown (view job (now (s .entry))) (scheduleOf (now (starts .entry))) (now (points .exit)) (now (begins .exit)) ⌝ }
 {
     put_words(s, job, starts, points);

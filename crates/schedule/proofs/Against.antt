@@ -59,13 +59,13 @@ module _ {m : Model} {x : ℕ → ℕ} {points begins : List ℕ} (known : Point
         early = omega (arith, found .3);
       }))
 
-  scan-none : ((e : ℕ) → test e ≡ true → Opposing m x f value step first last e) → r ≡ false → any (m .effects) test ≡ false
+  scan-none : ((e : ℕ) → e < m .effects → test e ≡ true → Opposing m x f value step first last e) → r ≡ false → any (m .effects) test ≡ false
   scan-none out n =
       any-none test (m .effects)
       (λ e l.
       ⊎-elim
       (λ (t : test e ≡ true).
-      let o = out e t in
+      let o = out e l t in
       let group = known .setters f h in
       let found = group .found e (l, o .ofFact) in
       let p : ℕ = found .0 in
@@ -91,7 +91,7 @@ module _ {m : Model} {x : ℕ → ℕ} {points begins : List ℕ} (known : Point
       (either (test e)))
 
   pub scan-any :
-      ((e : ℕ) → test e ≡ true → Opposing m x f value step first last e) → ((e : ℕ) → Opposing m x f value step first last e → test e ≡ true)
+      ((e : ℕ) → e < m .effects → test e ≡ true → Opposing m x f value step first last e) → ((e : ℕ) → Opposing m x f value step first last e → test e ≡ true)
       → r ≡ any (m .effects) test
   scan-any out into = ⊎-elim (λ (t : r ≡ true). t ∙ sym (scan-hit into t)) (λ (n : r ≡ false). n ∙ sym (scan-none out n)) (either r)
 

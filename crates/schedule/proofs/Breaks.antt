@@ -1,18 +1,20 @@
 -- What breaks a condition stands among its fact's setters, from the place where a walk along them comes to its first tick.
-use Prim.Native.Nat.{ℕ, _+_, _-_, _≤_}
+use Prim.Native.Nat.{ℕ, _+_, _-_, _≤_, _<_}
 use mathlib.Core.Path.{_≡_, sym, ap, ap₂, subst, _∙_}
-use mathlib.Core.Bool.{Bool, true, not, cond, _&&_, _||_}
+use mathlib.Core.Bool.{Bool, true, false, not, cond, _&&_, _||_}
+use mathlib.Core.Logic.{⊎-elim}
 use mathlib.Core.List.{List}
 use native.Mathlib.Decide.{decLt, ℕ-discrete}
 use native.Mathlib.Omega.{arith}
-use borrow.Author.Tests.{eqb-true, eqb-false, not-true, eq-eqb, ne-eqb, leb-true, le-leb, lt-ltb, le-ltb}
-use lib.Dec.{ltb, eqb}
+use borrow.Author.Tests.{eqb-true, eqb-false, not-true, eq-eqb, ne-eqb, leb-true, le-leb, ltb-true, lt-ltb, le-ltb}
+use lib.Dec.{leb, ltb, eqb}
 use lib.ListN.{length, getD}
-use Rattle.laws.proofs.Search.{and-both}
+use Rattle.laws.specs.Search.{any}
+use Rattle.laws.proofs.Search.{either, and-both, any-none}
 use Rattle.job.specs.Model.{Model}
 use Rattle.timeline.specs.Words.{wordNumber, wordStep, wordTick, wordValue, valueAt}
 use Rattle.timeline.specs.Placed.{Parted}
-use Rattle.validity.specs.Ticks.{effectTick, firstTick, lastTick}
+use Rattle.validity.specs.Ticks.{effectTick, firstTick, lastTick, opposes}
 use Rattle.validity.specs.Seen.{seen}
 use Rattle.validity.specs.Checks.{breaks, conditionFails}
 use Rattle.points.proofs.Placed.{seen-first, seen-before}
@@ -20,6 +22,7 @@ use Rattle.schedule.specs.declared.conditions.Setters.{Setters}
 use Rattle.schedule.specs.declared.conditions.Walk.{Walk}
 use Rattle.schedule.specs.Against.{Rising, OfValue, Scanned}
 use Rattle.schedule.specs.Conditions.{ConditionAt}
+use Rattle.schedule.specs.Contested.{opposesEarly, contested, noStep, ScannedBefore}
 use Rattle.schedule.proofs.Against.{Opposing, scan-any}
 
 -- one more point of the value
@@ -119,7 +122,7 @@ module _ {m : Model} {x : ℕ → ℕ} {points : List ℕ} {setters : Setters} {
       (omega (arith, l, opposing-there is begins .0, at .come .parts .from, at .placed .low)) g (omega (arith, at .placed .high))
 
   -- what the code tests is whether the condition fails
-  pub fails-there :
+  fails-there :
       {from last value step v : ℕ} {r : Bool} → value ≡ wordValue word → last ≡ lastTick m x (wordNumber word)
       → from ≡ cond (eqb value 0) (walk .off) (walk .on)
       → step ≡ wordStep word
@@ -136,4 +139,81 @@ module _ {m : Model} {x : ℕ → ℕ} {points : List ℕ} {setters : Setters} {
       (subst (λ t. Scanned points from (setters .high) t (wordValue word) (wordStep word) r) ends
       (subst (λ s. Scanned points from (setters .high) last (wordValue word) s r) by (subst (λ w. Scanned points from
       (setters .high) last w step r) is scan)))
-      (breaks m x (wordNumber word)) breaks-out breaks-in)
+      (breaks m x (wordNumber word)) (λ e _. breaks-out e) breaks-in)
+
+  -- whoever opposes it before its last tick is of some step
+  abbrev Early : ℕ → Type 0
+  Early = Opposing m x (at .fact) (wordValue word) noStep (wordTick word) (lastTick m x (wordNumber word) - 1)
+
+  early-out : (e : ℕ) → e < m .effects → opposesEarly m x (wordNumber word) e ≡ true → Early e
+  unfolding opposesEarly
+  early-out e h t =
+      let d = and-both _ _ t in
+      let b = and-both _ _ (d .0) in
+      let o = and-both _ _ (b .0) in
+      let of = at .condition in
+      let late : firstTick m x (wordNumber word) ≤ effectTick m x e = leb-true _ _ (b .1) in
+      let early : effectTick m x e < lastTick m x (wordNumber word) = ltb-true _ _ (d .1) in
+      record {
+        ofFact = eqb-true _ _ (o .0) ∙ of .ofFact;
+        differs = λ q. eqb-false _ _ (not-true _ (o .1)) (q ∙ of .value);
+        another = λ q. omega (arith, q, at .all .form .effectStep e h, at .all .form .stepCount);
+        late = omega (arith, of .tick);
+        early = omega arith;
+      }
+
+  early-in : 0 < lastTick m x (wordNumber word) → (e : ℕ) → Early e → opposesEarly m x (wordNumber word) e ≡ true
+  unfolding opposesEarly
+  early-in some e o =
+      let of = at .condition in
+      ap₂ _&&_
+      (ap₂ _&&_ (ap₂ _&&_ (eq-eqb _ _ (o .ofFact ∙ sym (of .ofFact))) (ap not (ne-eqb _ _ (λ q. o .differs (q ∙ sym (of .value))))))
+      (le-leb (firstTick m x (wordNumber word)) (effectTick m x e) (omega (arith, of .tick, o .late))))
+      (lt-ltb (effectTick m x e) (lastTick m x (wordNumber word)) (omega (arith, o .early)))
+
+  early-tick : (e : ℕ) → opposesEarly m x (wordNumber word) e ≡ true → effectTick m x e < lastTick m x (wordNumber word)
+  unfolding opposesEarly
+  early-tick e t =
+      ltb-true (effectTick m x e) (lastTick m x (wordNumber word))
+      (and-both
+      (opposes m e (m .conditionFact (wordNumber word)) (m .conditionValue (wordNumber word))
+      && leb (firstTick m x (wordNumber word)) (effectTick m x e))
+      (ltb (effectTick m x e) (lastTick m x (wordNumber word))) t .1)
+
+  early-there :
+      {from last value : ℕ} {r : Bool} → value ≡ wordValue word → last ≡ lastTick m x (wordNumber word)
+      → from ≡ cond (eqb value 0) (walk .off) (walk .on)
+      → ScannedBefore points from (setters .high) last value r
+      → r ≡ any (m .effects) (opposesEarly m x (wordNumber word))
+  early-there {from} {last} {value} {r} is ends begins scanned =
+      let ahead = opposing-there is begins in
+      elim (ℕ-discrete last 0) [
+        | yes z ↦
+            scanned .never z
+            ∙ sym
+            (any-none (opposesEarly m x (wordNumber word)) (m .effects)
+            (λ e h.
+            ⊎-elim
+            (λ (t : opposesEarly m x (wordNumber word) e ≡ true). absurd (let o : effectTick m x e < lastTick m x (wordNumber word) = early-tick e t in omega arith))
+            (λ (n : opposesEarly m x (wordNumber word) e ≡ false). n)
+            (either (opposesEarly m x (wordNumber word) e))))
+        | no z ↦
+            let some : 0 < last = omega arith in
+            scan-any (at .all .known) (at .counted) (at .placed .low) (at .placed .high) (at .come .parts) (ahead .0) (ahead .1)
+            (subst (λ t. Scanned points from (setters .high) (t - 1) (wordValue word) noStep r) ends
+            (subst (λ w. Scanned points from (setters .high) (last - 1) w noStep r) is (scanned .scan some)))
+            (opposesEarly m x (wordNumber word)) early-out (early-in (omega (arith, ends)))
+      ]
+
+  -- what the code tests is whether the condition is contested
+  pub contested-there :
+      {from last value step v : ℕ} {broken early : Bool} → value ≡ wordValue word → last ≡ lastTick m x (wordNumber word)
+      → from ≡ cond (eqb value 0) (walk .off) (walk .on)
+      → step ≡ wordStep word
+      → Scanned points from (setters .high) last value step broken
+      → ScannedBefore points from (setters .high) last value early
+      → v ≡ cond (ltb (setters .low) (walk .place)) (valueAt points (walk .place - 1)) (setters .initial)
+      → (not (eqb v value) || broken || early) ≡ contested m x (wordNumber word)
+  unfolding contested
+  contested-there is ends begins by scan scanned sees =
+      ap₂ _||_ (fails-there is ends begins by scan sees) (early-there is ends begins scanned)

@@ -12,15 +12,16 @@ use Rattle.laws.proofs.Search.{lowest-facts}
 use Rattle.verdict.specs.declared.Verdict.{Verdict}
 use Rattle.verdict.specs.declared.Verdict.the-variants.{Accepted, EffectsConflict, StartsMiscounted}
 use Rattle.verdict.specs.Verdict.{number, _then_, refuseIf, refuseLowest}
-use Rattle.verdict.proofs.Chain.{first-refused, lowest-refused, lowest-passed, refuse-zero}
+use Rattle.verdict.proofs.Chain.{first-refused, lowest-refused, lowest-passed, then-zero, refuse-zero}
 use Rattle.job.specs.Model.{Model}
 use Rattle.job.specs.WellFormed.{WellFormed}
-use Rattle.validity.specs.declared.Rule.the-variants.{Effects, Conditions, Levels, Goals, Steps}
+use Rattle.validity.specs.declared.Rule.the-variants.{FixedSteps, Effects, Conditions, Levels, Goals, Steps}
+use Rattle.validity.specs.Ticks.{scheduleOf}
 use Rattle.validity.specs.Checks.{conflicts, countCheck, ruleCheck, timingCheck}
 use Rattle.validity.proofs.Tested.{conflicts-none}
 use Rattle.points.specs.Points.{OneValue}
 use Rattle.points.proofs.Placed.{one-value}
-use Rattle.schedule.specs.Timed.{apartCheck}
+use Rattle.schedule.specs.Timed.{settledCheck}
 
 -- a refusal by the lowest that was found
 pub by-lowest :
@@ -29,12 +30,16 @@ unfolding refuseLowest
 by-lowest n p refusal e = ap (λ j. refuseIf (ltb j n) (refusal j)) e
 
 -- a list of starts that 8 passes has one entry a step
-pub counted : (m : Model) (starts : List ℕ) → number (countCheck m starts) ≡ 0 → length starts ≡ m .steps
+counted : (m : Model) (starts : List ℕ) → number (countCheck m starts) ≡ 0 → length starts ≡ m .steps
 unfolding countCheck
 counted m starts z =
     eqb-true (length starts) (m .steps)
     (not-false (eqb (length starts) (m .steps))
     (refuse-zero (not (eqb (length starts) (m .steps))) StartsMiscounted (λ e. let y : _≡_ {A = ℕ} 8 0 = e in omega arith) z))
+
+pub starts-counted :
+    (m : Model) (starts : List ℕ) → number (countCheck m starts then ruleCheck m (scheduleOf starts) FixedSteps) ≡ 0 → length starts ≡ m .steps
+starts-counted m starts z = counted m starts (then-zero (countCheck m starts) (ruleCheck m (scheduleOf starts) FixedSteps) z .0)
 
 -- a refusal stands through four more checks
 refused-through : (a b c d e : Verdict) → (number a ≡ 0 → ⊥) → a ≡ (a then b then c then d then e)
@@ -51,9 +56,9 @@ module _ (m : Model) (x : ℕ → ℕ) {k : ℕ} (found : k ≡ lowest (m .effec
       (λ z. let ten : _≡_ {A = ℕ} 10 0 = ap number refused ∙ z in omega arith)
 
   -- where there is none, the other rules decide
-  pub others-decide : m .effects ≤ k → {r : Verdict} → r ≡ apartCheck m x Accepted → r ≡ timingCheck m x
+  pub others-decide : m .effects ≤ k → {r : Verdict} → r ≡ settledCheck m x Accepted → r ≡ timingCheck m x
   unfolding timingCheck ruleCheck
-  others-decide h e = e ∙ ap (apartCheck m x) (lowest-passed (m .effects) (conflicts m x) EffectsConflict found h)
+  others-decide h e = e ∙ ap (settledCheck m x) (lowest-passed (m .effects) (conflicts m x) EffectsConflict found h)
 
   -- and no two effects give a fact different values at one tick
   pub none-conflict : WellFormed m → m .effects ≤ k → OneValue m x

@@ -18,7 +18,7 @@ use Rattle.timeline.specs.Walking.{Walking}
 use Rattle.timeline.proofs.Walking.{run-none}
 use Rattle.validity.specs.Ticks.{effectTick}
 use Rattle.validity.specs.Checks.{meets, conflicts}
-use Rattle.points.specs.Points.{PointsKnown}
+use Rattle.points.specs.Points.{PointsKnown, OneValue}
 use Rattle.schedule.specs.Against.{FactsListed, Unmixed, FactsUnmixed, Rising, Scanned}
 use Rattle.schedule.proofs.Against.{Opposing, scan-any}
 
@@ -84,7 +84,7 @@ module _ {m : Model} {x : ℕ → ℕ} {points begins : List ℕ} (known : Point
           scan-any known h lows highs (subst (λ t. Parted points low high t place) at parts) (omega arith) (λ p l g. absurd (omega arith))
           (subst (λ s. Scanned points place high (effectTick m x e) (m .effectValue e) s r) by
           (subst (λ v. Scanned points place high (effectTick m x e) v step r) of (subst (λ t. Scanned points place high t value step r) at scan)))
-          (meets m x e) (meets-out m x e) (meets-in m x e)
+          (meets m x e) (λ k _. meets-out m x e k) (meets-in m x e)
 
 -- where no neighbours at one tick differ, no two places at one tick do
 module _ (points : List ℕ) {low high : ℕ} (rises : (p q : ℕ) → low ≤ p → p < q → q < high → tickAt points p ≤ tickAt points q)
@@ -165,38 +165,38 @@ module _ {m : Model} {x : ℕ → ℕ} {points begins : List ℕ} (known : Point
   pub facts-listed : FactsListed (m .facts) points begins
   facts-listed = (omega (arith, known .room), λ f h. known .setters f h .ends)
 
-  unmixed-none : FactsUnmixed (m .facts) points begins → (e : ℕ) → e < m .effects → m .effectFact e < m .facts → conflicts m x e ≡ false
-  unfolding conflicts
-  unmixed-none so e l h =
-      any-none (meets m x e) (m .effects)
-      (λ k g.
-      ⊎-elim
-      (λ (t : meets m x e k ≡ true).
+  -- where no fact is mixed, no two effects give one fact different values at one tick
+  pub unmixed-one : ((e : ℕ) → e < m .effects → m .effectFact e < m .facts) → FactsUnmixed (m .facts) points begins → OneValue m x
+  unmixed-one listed so e k l g same at =
+      let h = listed e l in
       let group = known .setters (m .effectFact e) h in
-      let o = meets-out m x e k t in
       let a = group .found e (l, refl) in
-      let b = group .found k (g, o .ofFact) in
+      let b = group .found k (g, sym same) in
       let p : ℕ = a .0 in
       let q : ℕ = b .0 in
-      let at : effectTick m x e ≡ effectTick m x k = omega (arith, o .late, o .early) in
+      let first = group .values p (a .1) (a .2) ∙ ap (m .effectValue) (a .3) in
+      let second = group .values q (b .1) (b .2) ∙ ap (m .effectValue) (b .3) in
       let tick : tickAt points p ≡ tickAt points q =
       group .ticks p (a .1) (a .2) ∙ ap (effectTick m x) (a .3) ∙ at ∙ sym (group .ticks q (b .1) (b .2) ∙ ap (effectTick m x) (b .3))
       in
-      let differ : valueAt points p ≡ valueAt points q → ⊥ = λ v.
-      o .differs
-      (sym (group .values q (b .1) (b .2) ∙ ap (m .effectValue) (b .3)) ∙ sym v ∙ group .values p (a .1) (a .2) ∙ ap (m .effectValue) (a .3))
-      in
       let all = unmixed-all points (group .rises) (so (m .effectFact e) h) in
-      absurd
-      (by-order p q (λ i. differ (all p q (a .1) i (b .2) tick)) (λ i. differ (sym (all q p (b .1) i (a .2) (sym tick)))) (λ i. differ (ap
-      (valueAt points) i))))
-      (λ (n : meets m x e k ≡ false). n)
-      (either (meets m x e k)))
+      sym first
+      ∙ by-order p q (λ i. all p q (a .1) i (b .2) tick) (λ i. sym (all q p (b .1) i (a .2) (sym tick))) (λ i. ap (valueAt points) i)
+      ∙ second
 
-  pub unmixed-lowest :
-      ((e : ℕ) → e < m .effects → m .effectFact e < m .facts) → FactsUnmixed (m .facts) points begins → m .effects ≡ lowest (m .effects)
-      (conflicts m x)
-  unmixed-lowest listed so =
-      sym
-      (lowest-is (conflicts m x) (m .effects) (m .effects) (omega arith) (λ e l. unmixed-none so e l (listed e l))
-      (λ l. absurd (let z : m .effects < m .effects = l in omega arith)))
+-- then no two conflict
+pub one-value-lowest : (m : Model) (x : ℕ → ℕ) → OneValue m x → m .effects ≡ lowest (m .effects) (conflicts m x)
+unfolding conflicts
+one-value-lowest m x one =
+    sym
+    (lowest-is (conflicts m x) (m .effects) (m .effects) (omega arith)
+    (λ e l.
+    any-none (meets m x e) (m .effects)
+    (λ k g.
+    ⊎-elim
+    (λ (t : meets m x e k ≡ true).
+    let o = meets-out m x e k t in
+    absurd (o .differs (sym (one e k l g (sym (o .ofFact)) (let at : effectTick m x e ≡ effectTick m x k = omega (arith, o .late, o .early) in at)))))
+    (λ (n : meets m x e k ≡ false). n)
+    (either (meets m x e k))))
+    (λ l. absurd (let z : m .effects < m .effects = l in omega arith)))

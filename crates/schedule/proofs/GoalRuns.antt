@@ -21,6 +21,7 @@ use Rattle.validity.specs.Checks.{undoes, late, goalFails}
 use Rattle.validity.proofs.Seen.{Giver, seen-by-effect, seen-by-initial, afterAll-ge}
 use Rattle.validity.proofs.Tested.{goal-holds, goal-in-time}
 use Rattle.points.specs.Points.{PointsKnown, OneValue}
+use Rattle.job.proofs.Ranged.{well-formed-ranged}
 use Rattle.points.proofs.Placed.{placed-giver, giver-placed, placed-apart, seen-first, seen-before}
 use Rattle.schedule.specs.GoalRuns.{GoalsKnown, LateRun}
 
@@ -114,13 +115,13 @@ module _ (m : Model) (x : ℕ → ℕ) {points begins : List ℕ} (known : Point
         | no i ↦
             ap not (e ∙ ne-eqb _ _ i)
             ∙ missed-last m x form g h
-            (λ s. i (sym (seen-first known (m .goalFact g) (form .goalFact g h) form all-before (omega arith)) ∙ s ∙ sym wanted))
+            (λ s. i (sym (seen-first known (m .goalFact g) (form .goalFact g h) (well-formed-ranged form) all-before (omega arith)) ∙ s ∙ sym wanted))
       ]
 
   -- the last of them gives the value after all effects
   last-seen : low < high → seen m x (m .goalFact g) (afterAll m x) ≡ valueAt points (high - 1)
   last-seen some =
-      seen-before known (m .goalFact g) (form .goalFact g h) form all-before one (omega arith)
+      seen-before known (m .goalFact g) (form .goalFact g h) (well-formed-ranged form) all-before one (omega arith)
       ∙ ap (λ k. valueAt points (k - 1)) (sym to)
 
   unseen : low < high → (valueAt points (high - 1) ≡ value → ⊥) → true ≡ goalFails m x g
@@ -207,7 +208,7 @@ module _ (m : Model) (x : ℕ → ℕ) {points begins : List ℕ} (known : Point
             let first : low ≤ run = so .from in
             unkept
             (sym
-            (seen-first known (m .goalFact g) (form .goalFact g h) form (begins-at-run (λ p a b. absurd (omega arith))) (omega arith)) ∙ s ∙ sym wanted)
+            (seen-first known (m .goalFact g) (form .goalFact g h) (well-formed-ranged form) (begins-at-run (λ p a b. absurd (omega arith))) (omega arith)) ∙ s ∙ sym wanted)
             (omega arith)
 
         turned : low < run → seen m x (m .goalFact g) (tickAt points run) ≡ m .goalValue g → ⊥
@@ -221,7 +222,7 @@ module _ (m : Model) (x : ℕ → ℕ) {points begins : List ℕ} (known : Point
             in
             differ
             (sym
-            (seen-before known (m .goalFact g) (form .goalFact g h) form
+            (seen-before known (m .goalFact g) (form .goalFact g h) (well-formed-ranged form)
             (begins-at-run
             (λ p a b.
             elim (decLt p (run - 1)) [

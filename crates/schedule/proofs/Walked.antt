@@ -12,10 +12,10 @@ use Rattle.timeline.specs.Words.{tickAt, numberAt}
 use Rattle.timeline.specs.Placed.{Parted, Run}
 use Rattle.timeline.specs.Walking.{Walking}
 use Rattle.timeline.proofs.Walking.{run-none}
-use Rattle.validity.specs.Checks.{conditionFails}
 use Rattle.points.specs.Points.{wantedGroup, Wanting}
 use Rattle.schedule.specs.declared.conditions.Setters.{Setters}
 use Rattle.schedule.specs.declared.conditions.Walk.{Walk}
+use Rattle.schedule.specs.Contested.{contested}
 use Rattle.schedule.specs.Noted.{Noted}
 use Rattle.schedule.specs.Against.{OfValue}
 use Rattle.schedule.specs.Conditions.{ConditionsKnown, SettersOf, Stands, Before, Come, ConditionAt}
@@ -36,7 +36,7 @@ pub record Walked (m : Model) (x : ℕ → ℕ) (points begins : List ℕ) (fact
   pub to : walk .place ≤ setters .high
   pub early : (p k : ℕ) → setters .low ≤ p → p < walk .place → q ≤ k → k < end → tickAt points p < tickAt points k
   pub stands : Stands points (setters .low) walk
-  pub noted : Noted (m .conditions) (conditionFails m x) (Met m points begins fact q) best
+  pub noted : Noted (m .conditions) (contested m x) (Met m points begins fact q) best
 
 -- A walk goes on to tick t.
 module _ {points : List ℕ} {setters : Setters} {t : ℕ} {walk : Walk} (so : Before points setters t walk) where
@@ -154,7 +154,7 @@ module _ {m : Model} {x : ℕ → ℕ} {points begins : List ℕ} {fact : ℕ} {
             }
 
         pub walked-more :
-            {number new : ℕ} {r : Bool} → number ≡ numberAt points q → r ≡ conditionFails m x (numberAt points q) → new ≡ cond r
+            {number new : ℕ} {r : Bool} → number ≡ numberAt points q → r ≡ contested m x (numberAt points q) → new ≡ cond r
             (min best number) best
             → Walked m x points begins fact setters end next new (q + 1)
         walked-more {number} {new} {r} e test took =
@@ -173,7 +173,7 @@ module _ {m : Model} {x : ℕ → ℕ} {points begins : List ℕ} {fact : ℕ} {
                   omega arith;
               stands = come .stands;
               noted =
-                  noted-more took (test ∙ ap (conditionFails m x) (sym e)) (omega (arith, e, group .holds q from within .0)) (so .noted)
+                  noted-more took (test ∙ ap (contested m x) (sym e)) (omega (arith, e, group .holds q from within .0)) (so .noted)
                   (λ k l met.
                   elim (decLt (met .0) q) [
                     | yes i ↦ inl (met .0, met .1, i, met .3)
@@ -181,7 +181,7 @@ module _ {m : Model} {x : ℕ → ℕ} {points begins : List ℕ} {fact : ℕ} {
                   ]);
             }
 
-    pub walked-end : end ≤ q → Noted (m .conditions) (conditionFails m x) (Wanting m fact) best
+    pub walked-end : end ≤ q → Noted (m .conditions) (contested m x) (Wanting m fact) best
     walked-end past =
         noted-when (so .noted)
         (λ k l want.

@@ -5,7 +5,7 @@ use mathlib.Core.Bool.{not}
 use mathlib.Core.List.{List}
 use lib.ListN.{length, getD}
 use Rattle.job.specs.Model.{Model}
-use Rattle.job.specs.WellFormed.{WellFormed}
+use Rattle.job.specs.WellFormed.{Ranged}
 use Rattle.timeline.specs.Words.{wordStep, wordValue, wordTick, wordNumber, tickAt}
 use Rattle.timeline.specs.Placed.{Parted, Run}
 use Rattle.validity.specs.Ticks.{firstTick}
@@ -14,9 +14,9 @@ use Rattle.schedule.specs.declared.conditions.Setters.{Setters}
 use Rattle.schedule.specs.declared.conditions.Walk.{Walk}
 use Rattle.schedule.specs.Against.{Rising, OfValue}
 
--- what the search for a failing condition knows of a job and its points
+-- what the search for a contested condition knows of a job and its points
 pub record ConditionsKnown (m : Model) (x : ℕ → ℕ) (points begins : List ℕ) : Type 0 where
-  pub form : WellFormed m
+  pub form : Ranged m
   pub known : PointsKnown m x points begins
   pub oneValue : OneValue m x
 

@@ -1,19 +1,50 @@
--- Inner: what the rules of the timing check know of a job and of the points of a schedule.
-use Prim.Native.Nat.{ℕ}
+-- Inner: what the timing check knows of a file, its job and the points of a schedule, from step to step.
+use Prim.Native.Nat.{ℕ, _≤_, _<_}
+use mathlib.Core.Path.{_≡_}
 use mathlib.Core.List.{List}
+use lib.ListN.{length}
+use Rattle.laws.specs.Search.{lowest}
 use Rattle.verdict.specs.declared.Verdict.{Verdict}
 use Rattle.verdict.specs.Verdict.{_then_}
-use Rattle.validity.specs.declared.Rule.the-variants.{Conditions, Levels, Goals, Steps}
-use Rattle.validity.specs.Checks.{ruleCheck}
-use Rattle.job.specs.Model.{Model}
+use Rattle.job.specs.declared.layout.Job.{Job}
+use Rattle.job.specs.Model.{Model, view}
 use Rattle.job.specs.WellFormed.{WellFormed}
-use Rattle.points.specs.Points.{PointsKnown}
+use Rattle.validity.specs.declared.Rule.the-variants.{Conditions, Levels, Goals, Steps}
+use Rattle.validity.specs.Ticks.{scheduleOf}
+use Rattle.validity.specs.Checks.{conditionFails, ruleCheck}
+use Rattle.points.specs.Points.{PointsKnown, OneValue}
+use Rattle.schedule.specs.Opened.{Read}
 
--- a well-formed job, and its points in the order of their ticks
-pub record Ordered (m : Model) (x : ℕ → ℕ) (points begins : List ℕ) : Type 0 where
+-- a file that refusals 1 to 6 pass, and its points in the order of their ticks
+pub record Ordered (s : List ℕ) (job : Job) (starts points begins : List ℕ) : Type 0 where
+  pub read : Read s job
+  pub known : PointsKnown (view job s) (scheduleOf starts) points begins
+
+-- nothing is against itself, no two effects give a fact different values at one tick, and no condition fails
+pub record Clear (m : Model) (x : ℕ → ℕ) : Type 0 where
+  pub oneValue : OneValue m x
+  pub oneUse :
+      (u v : ℕ) → u < m .uses → v < m .uses → m .useStep u ≡ m .useStep v → m .useLevel u ≡ m .useLevel v → m .useAt u ≡ m .useAt v → u ≡ v
+  pub keepsOwn :
+      (e c : ℕ) → e < m .effects → c < m .conditions → m .effectStep e ≡ m .conditionStep c → m .effectFact e ≡ m .conditionFact c
+      → m .conditionFrom c ≤ m .effectAt e
+      → m .effectAt e < m .conditionTo c
+      → m .effectValue e ≡ m .conditionValue c
+  pub noneFails : m .conditions ≡ lowest (m .conditions) (conditionFails m x)
+
+-- a well-formed job and its points in order
+pub record Formed (m : Model) (x : ℕ → ℕ) (points begins : List ℕ) : Type 0 where
   pub form : WellFormed m
   pub known : PointsKnown m x points begins
 
+-- besides, one start a step, no two effects that give a fact different values at one tick, and the lowest condition that fails
+pub record Settled (m : Model) (starts points begins : List ℕ) (c : ℕ) : Type 0 where
+  pub form : WellFormed m
+  pub known : PointsKnown m (scheduleOf starts) points begins
+  pub oneValue : OneValue m (scheduleOf starts)
+  pub counted : length starts ≡ m .steps
+  pub failing : c ≡ lowest (m .conditions) (conditionFails m (scheduleOf starts))
+
 -- refusals 11 to 14 after a verdict
-abbrev pub apartCheck : Model → (ℕ → ℕ) → Verdict → Verdict
-apartCheck m x v = v then ruleCheck m x Conditions then ruleCheck m x Levels then ruleCheck m x Goals then ruleCheck m x Steps
+abbrev pub settledCheck : Model → (ℕ → ℕ) → Verdict → Verdict
+settledCheck m x v = v then ruleCheck m x Conditions then ruleCheck m x Levels then ruleCheck m x Goals then ruleCheck m x Steps

@@ -1,4 +1,4 @@
-// Refusal 11: conditions that fail, found along the setters of each fact.
+// Refusal 11: conditions that fail, found along the setters of each fact, with those that their own step opposes (7).
 ghost use mathlib.Core.Path.{_≡_};
 ghost use mathlib.Core.Bool.{cond};
 ghost use Prim.Native.Nat.{max, min, _-_, _≤_, _<_};
@@ -8,10 +8,10 @@ ghost use Rattle.laws.specs.Search.{lowest};
 ghost use Rattle.job.specs.Model.{view};
 ghost use Rattle.timeline.specs.Words.{wordTick, wordNumber, valueAt};
 ghost use Rattle.validity.specs.Ticks.{scheduleOf};
-ghost use Rattle.validity.specs.Checks.{conditionFails};
 ghost use Rattle.points.specs.Points.{Wanting};
+ghost use Rattle.schedule.specs.Contested.{contested, ScannedBefore};
 ghost use Rattle.schedule.specs.Noted.{Noted};
-ghost use Rattle.schedule.specs.Against.{OfValue};
+ghost use Rattle.schedule.specs.Against.{OfValue, Rising};
 ghost use Rattle.schedule.specs.Conditions.{ConditionsKnown, ConditionAt, Before, Come};
 use crate::effects::opposed_from;
 use job::layout::Job;
@@ -19,6 +19,7 @@ use job::records::fact_initial;
 use points::ticks::last_tick;
 use timeline::walk::Cursor;
 use timeline::walk::advance;
+use timeline::word::STEP_SPAN;
 use timeline::word::begin_at;
 use timeline::word::number_of;
 use timeline::word::step_of;
@@ -52,11 +53,11 @@ fn lower(a: u16, b: u16) -> u16
     if a < b { a } else { b }
 }
 
-// The lowest so far with one more number, if that one fails.
-fn noted(best: u16, failing: bool, number: u16) -> u16
-    ensures { λ r. ⌜ r ≡ cond failing (min best number) best ⌝ }
+// The lowest so far with one more number, if that one is found.
+fn noted(best: u16, found: bool, number: u16) -> u16
+    ensures { λ r. ⌜ r ≡ cond found (min best number) best ⌝ }
 {
-    if failing { lower(best, number) } else { best }
+    if found { lower(best, number) } else { best }
 }
 
 // Where the first point can stand, from the walk's place on, that opposes a value.
@@ -122,8 +123,22 @@ fn seen_at(points: &[u64], setters: Setters, place: usize) -> u16
     }
 }
 
-// Whether the condition in a word fails, by a walk that has come to its first tick.
-fn fails(
+// A step that no point is of.
+const NO_STEP: u16 = STEP_SPAN as u16 - 1;
+
+// Whether a point from a place on, before tick `last`, has another value, whatever its step.
+fn opposed_before(points: &[u64], from: usize, high: usize, last: usize, value: u16) -> bool
+    requires { ⌜ (high ≤ length (now points)) × Rising (now points) from high ⌝ }
+    ensures { λ r. ⌜ ScannedBefore (now (points .entry)) from high last value r ⌝ }
+{
+    if last == 0 {
+        return false;
+    }
+    opposed_from(points, from, high, last - 1, value, NO_STEP)
+}
+
+// Whether the condition in a word fails or is opposed before its last tick, by a walk that has come to its first tick.
+fn is_contested(
     s: &[u8],
     job: Job,
     starts: &[u32],
@@ -133,19 +148,27 @@ fn fails(
     word: u64,
 ) -> bool
     requires { ⌜ ConditionAt (view job (now s)) (scheduleOf (now starts)) (now points) setters walk word ⌝ }
-    ensures { λ r. ⌜ r ≡ conditionFails (view job (now (s .entry))) (scheduleOf (now (starts .entry))) (wordNumber word) ⌝ }
+    ensures { λ r. ⌜ r ≡ contested (view job (now (s .entry))) (scheduleOf (now (starts .entry))) (wordNumber word) ⌝ }
 {
     let value = value_of(word);
     let last = last_tick(s, job, starts, number_of(word));
     let from = opposing(walk, value);
     let broken = opposed_from(points, from, setters.high, last, value, step_of(word));
-    (seen_at(points, setters, walk.place) != value) | broken
+    let early = opposed_before(points, from, setters.high, last, value);
+    (seen_at(points, setters, walk.place) != value) | broken | early
 }
 
-// The lowest condition on a fact that fails, or the count of conditions.
-fn failing_of(s: &[u8], job: Job, starts: &[u32], points: &[u64], begins: &[u16], fact: u16) -> u16
+// The lowest contested condition on a fact, or the count of conditions.
+fn contested_of(
+    s: &[u8],
+    job: Job,
+    starts: &[u32],
+    points: &[u64],
+    begins: &[u16],
+    fact: u16,
+) -> u16
     requires { ⌜ ConditionsKnown (view job (now s)) (scheduleOf (now starts)) (now points) (now begins) × (fact < job .count .facts) ⌝ }
-    ensures { λ r. ⌜ Noted (job .count .conditions) (conditionFails (view job (now (s .entry))) (scheduleOf (now (starts .entry))))
+    ensures { λ r. ⌜ Noted (job .count .conditions) (contested (view job (now (s .entry))) (scheduleOf (now (starts .entry))))
         (Wanting (view job (now (s .entry))) fact) r ⌝ }
 {
     let setters = Setters {
@@ -166,22 +189,22 @@ fn failing_of(s: &[u8], job: Job, starts: &[u32], points: &[u64], begins: &[u16]
     while q < end {
         let word = points[q];
         walk = walk_to(points, setters, word, walk);
-        let failing = fails(s, job, starts, points, setters, walk, word);
-        best = noted(best, failing, number_of(word));
+        let found = is_contested(s, job, starts, points, setters, walk, word);
+        best = noted(best, found, number_of(word));
         q += 1;
     }
     best
 }
 
-// The lowest condition that fails, or the count of conditions.
-pub fn first_failing(s: &[u8], job: Job, starts: &[u32], points: &[u64], begins: &[u16]) -> u16
+// The lowest contested condition, or the count of conditions.
+pub fn first_contested(s: &[u8], job: Job, starts: &[u32], points: &[u64], begins: &[u16]) -> u16
     requires { ⌜ ConditionsKnown (view job (now s)) (scheduleOf (now starts)) (now points) (now begins) ⌝ }
-    ensures { λ r. ⌜ r ≡ lowest (job .count .conditions) (conditionFails (view job (now (s .entry))) (scheduleOf (now (starts .entry)))) ⌝ }
+    ensures { λ r. ⌜ r ≡ lowest (job .count .conditions) (contested (view job (now (s .entry))) (scheduleOf (now (starts .entry)))) ⌝ }
 {
     let mut best = job.count.conditions;
     let mut fact = 0;
     while fact < job.count.facts {
-        best = lower(best, failing_of(s, job, starts, points, begins, fact));
+        best = lower(best, contested_of(s, job, starts, points, begins, fact));
         fact += 1;
     }
     best

@@ -48,7 +48,8 @@ fn mixed(points: &[u64], begins: &[u16], fact: usize) -> bool
     false
 }
 
-fn any_mixed(facts: u16, points: &[u64], begins: &[u16]) -> bool
+// Whether some fact's setters are.
+pub fn any_mixed(facts: u16, points: &[u64], begins: &[u16]) -> bool
     requires { ⌜ FactsListed facts (now points) (now begins) ⌝ }
     ensures { λ r. ⌜ (r ≡ false → FactsUnmixed facts (now (points .entry)) (now (begins .entry))) ⌝ }
 {

@@ -1,39 +1,53 @@
 // The timing check: refusals 8 to 14, on the written starts or on any list of starts.
 ghost use mathlib.Core.Path.{_≡_};
+ghost use mathlib.Core.Bool.{true};
 ghost use lib.ListN.{length};
 ghost use Rattle.job.specs.Model.{view};
+ghost use Rattle.job.specs.WellFormed.{Ranged};
 ghost use Rattle.verdict.specs.declared.Verdict.the-variants.{Accepted};
-ghost use Rattle.job.specs.WellFormed.{WellFormed};
+ghost use Rattle.verdict.specs.Verdict.{_then_};
+ghost use Rattle.form.specs.Refusals.{stepCheck};
+ghost use Rattle.validity.specs.declared.Rule.the-variants.{FixedSteps};
 ghost use Rattle.validity.specs.Ticks.{scheduleOf};
-ghost use Rattle.validity.specs.Checks.{timingCheck, startsCheck};
-ghost use Rattle.schedule.specs.Timed.{Ordered, apartCheck};
-ghost use Rattle.schedule.specs.Conditions.{ConditionsKnown};
-ghost use Rattle.schedule.specs.Opened.{Opened, Planned};
+ghost use Rattle.validity.specs.Checks.{ruleCheck, timingCheck, countCheck, startsCheck};
 ghost use Rattle.validity.specs.Promise.{JobPromise, SchedulePromise};
+ghost use Rattle.points.specs.Points.{PointsKnown};
+ghost use Rattle.points.specs.Words.{Small};
+ghost use Rattle.schedule.specs.Timed.{Ordered, Clear, Formed, Settled, settledCheck};
+ghost use Rattle.schedule.specs.Opened.{Read, Opened, Planned};
 
 mod conditions;
 mod effects;
 mod goals;
 mod levels;
 mod steps;
+mod uses;
 
 use form::Form;
 use job::layout::Job;
 use points::ticks;
+use points::words::FEW_GROUPS;
+use points::words::FEW_POINTS;
 use points::words::MOST_GROUPS;
 use points::words::MOST_POINTS;
+use points::words::is_small;
 use points::words::list_points;
 use verdict::Verdict;
 use verdict::number;
 use verdict::refuse_if;
 
-// Refusals 11 to 14, of a schedule that 10 passes.
-fn check_apart(s: &[u8], job: Job, starts: &[u32], points: &[u64], begins: &[u16]) -> Verdict
-    requires { ⌜ ConditionsKnown (view job (now s)) (scheduleOf (now starts)) (now points) (now begins)
-        × (length (now starts) ≡ job .count .steps) ⌝ }
-    ensures { λ r. ⌜ r ≡ apartCheck (view job (now (s .entry))) (scheduleOf (now (starts .entry))) Accepted ⌝ }
+// Refusals 11 to 14, of a schedule that 10 passes; c is the lowest condition that fails.
+fn check_settled(
+    s: &[u8],
+    job: Job,
+    starts: &[u32],
+    points: &[u64],
+    begins: &[u16],
+    c: u16,
+) -> Verdict
+    requires { ⌜ Settled (view job (now s)) (now starts) (now points) (now begins) c ⌝ }
+    ensures { λ r. ⌜ r ≡ settledCheck (view job (now (s .entry))) (scheduleOf (now (starts .entry))) Accepted ⌝ }
 {
-    let c = conditions::first_failing(s, job, starts, points, begins);
     let v = Verdict::Accepted;
     let v = refuse_if(v, c < job.count.conditions, Verdict::ConditionFails(c));
     let l = levels::first_out_of_bounds(s, job, points, begins);
@@ -46,7 +60,7 @@ fn check_apart(s: &[u8], job: Job, starts: &[u32], points: &[u64], begins: &[u16
 
 // Refusals 10 to 14.
 fn check_timing(s: &[u8], job: Job, starts: &[u32], points: &[u64], begins: &[u16]) -> Verdict
-    requires { ⌜ Ordered (view job (now s)) (scheduleOf (now starts)) (now points) (now begins)
+    requires { ⌜ Formed (view job (now s)) (scheduleOf (now starts)) (now points) (now begins)
         × (length (now starts) ≡ job .count .steps) ⌝ }
     ensures { λ r. ⌜ r ≡ timingCheck (view job (now (s .entry))) (scheduleOf (now (starts .entry))) ⌝ }
 {
@@ -54,29 +68,104 @@ fn check_timing(s: &[u8], job: Job, starts: &[u32], points: &[u64], begins: &[u1
     if e < job.count.effects {
         return Verdict::EffectsConflict(e);
     }
-    check_apart(s, job, starts, points, begins)
+    let c = conditions::first_contested(s, job, starts, points, begins);
+    check_settled(s, job, starts, points, begins, c)
 }
 
-// Refusals 8 to 14, of points in the order of their ticks.
-fn check_ordered(s: &[u8], job: Job, starts: &[u32], points: &[u64], begins: &[u16]) -> Verdict
-    requires { ⌜ Ordered (view job (now s)) (scheduleOf (now starts)) (now points) (now begins) ⌝ }
-    ensures { λ r. ⌜ r ≡ startsCheck (view job (now (s .entry))) (now (starts .entry)) ⌝ }
+// Refusals 8 and 9.
+fn check_starts(s: &[u8], job: Job, starts: &[u32]) -> Verdict
+    ensures { λ r. ⌜ r ≡ (countCheck (view job (now (s .entry))) (now (starts .entry))
+        then ruleCheck (view job (now (s .entry))) (scheduleOf (now (starts .entry))) FixedSteps) ⌝ }
 {
     let other = starts.len() != job.count.steps as usize;
     let v = refuse_if(Verdict::Accepted, other, Verdict::StartsMiscounted);
     let k = steps::first_moved(s, job, starts);
-    let v = refuse_if(v, k < job.count.steps, Verdict::FixedStepMoved(k));
+    refuse_if(v, k < job.count.steps, Verdict::FixedStepMoved(k))
+}
+
+// Refusals 8 to 14, of a well-formed job, rule by rule.
+fn check_formed(s: &[u8], job: Job, starts: &[u32], points: &[u64], begins: &[u16]) -> Verdict
+    requires { ⌜ Formed (view job (now s)) (scheduleOf (now starts)) (now points) (now begins) ⌝ }
+    ensures { λ r. ⌜ r ≡ startsCheck (view job (now (s .entry))) (now (starts .entry)) ⌝ }
+{
+    let v = check_starts(s, job, starts);
     if number(v) != 0 {
         return v;
     }
     check_timing(s, job, starts, points, begins)
 }
 
-// Refusals 8 to 14.
-fn check_starts(s: &[u8], job: Job, starts: &[u32]) -> Verdict
-    requires { ⌜ WellFormed (view job (now s)) ⌝ }
+// Refusals 8, 9 and 12 to 14, where the walks found nothing else wrong.
+fn check_clear(s: &[u8], job: Job, starts: &[u32], points: &[u64], begins: &[u16]) -> Verdict
+    requires { ⌜ Formed (view job (now s)) (scheduleOf (now starts)) (now points) (now begins)
+        × Clear (view job (now s)) (scheduleOf (now starts)) ⌝ }
     ensures { λ r. ⌜ r ≡ startsCheck (view job (now (s .entry))) (now (starts .entry)) ⌝ }
 {
+    let v = check_starts(s, job, starts);
+    if number(v) != 0 {
+        return v;
+    }
+    check_settled(s, job, starts, points, begins, job.count.conditions)
+}
+
+// Whether the walks find nothing wrong: nothing is against itself, nothing conflicts, and no condition fails.
+fn is_clear(s: &[u8], job: Job, starts: &[u32], points: &[u64], begins: &[u16]) -> bool
+    requires { ⌜ Ranged (view job (now s)) × PointsKnown (view job (now s)) (scheduleOf (now starts)) (now points) (now begins) ⌝ }
+    ensures { λ r. ⌜ (r ≡ true → Clear (view job (now (s .entry))) (scheduleOf (now (starts .entry)))) ⌝ }
+{
+    if effects::any_mixed(job.count.facts, points, begins) {
+        return false;
+    }
+    if uses::any_twice(job.count.facts, job.count.levels, points, begins) {
+        return false;
+    }
+    conditions::first_contested(s, job, starts, points, begins) == job.count.conditions
+}
+
+// Refusals 7 to 14, where the walks found something wrong: the search by pairs says whether a step is against itself.
+fn check_named(s: &[u8], job: Job, starts: &[u32], points: &[u64], begins: &[u16]) -> Verdict
+    requires { ⌜ Ordered (now s) job (now starts) (now points) (now begins) ⌝ }
+    ensures { λ r. ⌜ r ≡ (stepCheck (view job (now (s .entry))) then startsCheck (view job (now (s .entry))) (now (starts .entry))) ⌝ }
+{
+    let v = form::against::check_steps(s, job);
+    if number(v) != 0 {
+        return v;
+    }
+    check_formed(s, job, starts, points, begins)
+}
+
+// Refusals 7 to 14, of points in the order of their ticks.
+fn check_ordered(s: &[u8], job: Job, starts: &[u32], points: &[u64], begins: &[u16]) -> Verdict
+    requires { ⌜ Ordered (now s) job (now starts) (now points) (now begins) ⌝ }
+    ensures { λ r. ⌜ r ≡ (stepCheck (view job (now (s .entry))) then startsCheck (view job (now (s .entry))) (now (starts .entry))) ⌝ }
+{
+    if is_clear(s, job, starts, points, begins) {
+        check_clear(s, job, starts, points, begins)
+    } else {
+        check_named(s, job, starts, points, begins)
+    }
+}
+
+// Refusals 7 to 14 of a small job.
+fn check_small(s: &[u8], job: Job, starts: &[u32]) -> Verdict
+    requires { ⌜ Read (now s) job × Small (job .count) ⌝ }
+    ensures { λ r. ⌜ r ≡ (stepCheck (view job (now (s .entry))) then startsCheck (view job (now (s .entry))) (now (starts .entry))) ⌝ }
+{
+    let mut spare = [0u64; FEW_POINTS];
+    let mut points = [0u64; FEW_POINTS];
+    let mut begins = [0u16; FEW_GROUPS + 2];
+    list_points(s, job, starts, &mut spare, &mut points, &mut begins);
+    check_ordered(s, job, starts, &points, &begins)
+}
+
+// Refusals 7 to 14.
+fn check_read(s: &[u8], job: Job, starts: &[u32]) -> Verdict
+    requires { ⌜ Read (now s) job ⌝ }
+    ensures { λ r. ⌜ r ≡ (stepCheck (view job (now (s .entry))) then startsCheck (view job (now (s .entry))) (now (starts .entry))) ⌝ }
+{
+    if is_small(job) {
+        return check_small(s, job, starts);
+    }
     let mut spare = [0u64; MOST_POINTS];
     let mut points = [0u64; MOST_POINTS];
     let mut begins = [0u16; MOST_GROUPS + 2];
@@ -84,14 +173,14 @@ fn check_starts(s: &[u8], job: Job, starts: &[u32]) -> Verdict
     check_ordered(s, job, starts, &points, &begins)
 }
 
-// The form check, and what it read of the header. A refusal of the form is the job check's.
+// Refusals 1 to 6, and what was read of the header. A refusal is the job check's.
 pub fn open_job(s: &[u8]) -> Form
     ensures { λ r. ⌜ Opened (now (s .entry)) r ⌝ }
 {
-    form::read_form(s)
+    form::read_records(s)
 }
 
-// The job check of a file of good form whose points at its written starts are in order: for whoever needs them as well.
+// The job check of a file that 1 to 6 pass, whose points at its written starts are in order: for whoever needs them as well.
 pub fn check_planned(s: &[u8], job: Job, starts: &[u32], points: &[u64], begins: &[u16]) -> Verdict
     requires { ⌜ Planned (now s) job (now starts) (now points) (now begins) ⌝ }
     ensures { λ r. ⌜ JobPromise (now (s .entry)) r ⌝ }
@@ -111,18 +200,18 @@ pub fn check_job(s: &[u8]) -> Verdict
     let job = form.job;
     let n = job.count.steps as usize;
     let starts = ticks::planned_starts(s, job, n);
-    check_starts(s, job, &starts[..n])
+    check_read(s, job, &starts[..n])
 }
 
 // Whether a list of starts is a sound timing of a job: accepted, or the first of refusals 1 to 14 that fits.
 pub fn check_schedule(s: &[u8], starts: &[u32]) -> Verdict
     ensures { λ r. ⌜ SchedulePromise (now (s .entry)) (now (starts .entry)) r ⌝ }
 {
-    let form = form::read_form(s);
+    let form = form::read_records(s);
     let v = form.verdict;
     if number(v) != 0 {
         return v;
     }
     let job = form.job;
-    check_starts(s, job, starts)
+    check_read(s, job, starts)
 }

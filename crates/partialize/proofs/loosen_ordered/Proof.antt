@@ -17,10 +17,14 @@ loosen-ordered-spec =
     let p = c .before .before .before .before .before .before .before .before .before .pre in
     let checked = c .before .before .before in
     let sound = checked .check-planned .ensures .sound (sym (c .before .before .number .ensures) ∙ c .before .if1 .left) in
-    record { form = p .wellFormed; known = p .known; valid = rw (p .written, p .header) (sound .valid) })
+    record {
+      form = rw (p .read .header) (sound .wellFormed);
+      known = p .known;
+      valid = rw (p .written, p .read .header) (sound .valid);
+    })
     (λ c. search needs)
     (λ c.
     let p = c .before .before .before .before .before .before .before .before .before .before .before .before .pre in
     let promised = c .before .before .before .before .before .before .check-planned .ensures in
     filed-promise _ _ _ _ _ promised (sym (c .before .before .before .before .before .number .ensures) ∙ c .before .before .before .before .if1 .left)
-    (rw (p .written, p .header) at (c .before .before .file-schedule .ensures))))
+    (rw (p .written, p .read .header) at (c .before .before .file-schedule .ensures))))

@@ -1,14 +1,24 @@
--- The form, then the starts.
-use mathlib.Core.Path.{sym, ap, _∙_}
+-- Refusals 1 to 6, then the others of the given starts.
+use mathlib.Core.Path.{sym, ap, ap₂, _∙_}
 use denote.Ref.{now}
+use Rattle.verdict.specs.Verdict.{number, _then_}
+use Rattle.verdict.proofs.Chain.{then-refused}
 use Rattle.job.specs.declared.layout.Job.{Job}
 use Rattle.job.specs.Model.{view}
-use Rattle.verdict.proofs.Chain.{stands, decides}
+use Rattle.form.proofs.Unopposed.{read-refused}
 use Rattle.validity.specs.Checks.{startsCheck, scheduleCheck}
 use Rattle.validity.proofs.Accepted.{schedule-promise}
+use Rattle.schedule.specs.Opened.{Read}
+use Rattle.schedule.proofs.Reading.{read-form}
 use borrow.Author.Needs.{needs}
 use Rattle.schedule.proofs.check_schedule.Statement.{statement}
 use Rattle.schedule.proofs.check_schedule.Tie as tie
+
+-- 1 to 6 have passed the file
+passed : (c : tie.After-job) → Read (now (c .before .before .before .before .before .before .args .s)) (c .before .before .before .read-records .result .job)
+passed c =
+    let f = c .before .before .before .read-records .ensures in
+    record { passed = sym (ap number (f .verdict)) ∙ sym (c .before .before .number .ensures) ∙ c .before .if1 .left; header = f .job }
 
 pub check-schedule-spec : {M : Type 1} → statement M
 unfolding scheduleCheck
@@ -16,14 +26,13 @@ check-schedule-spec =
     tie.close
     (tie.spec
     (λ c κs. search needs) (λ c κs. search needs)
-    (λ c. schedule-promise _ _ (stands _ (c .before .before .read-form .ensures .verdict) (c .before .number .ensures) (c .if1 .taken)))
-    (λ c κs.
-    let f = c .before .before .before .read-form .ensures in
-    rw (f .job) (f .wellFormed (sym (c .before .before .number .ensures) ∙ c .before .if1 .left)))
     (λ c.
-    let d = c .before .before .before .before in
-    let a = d .before .before .before .args in
-    let f = d .read-form .ensures in
+    let e = read-refused (c .before .before .read-records .ensures) (λ z. c .if1 .taken (c .before .number .ensures ∙ z)) in
+    schedule-promise _ _ (e ∙ then-refused _ _ (λ z. c .if1 .taken (c .before .number .ensures ∙ ap number e ∙ z))))
+    (λ c κs. passed c)
+    (λ c.
+    let d = c .before in
+    let a = c .before .before .before .before .before .before .before .args in
     schedule-promise _ _
-    (decides (f .verdict) (c .before .before .before .number .ensures) (c .before .before .if1 .left)
-    (c .check-starts .ensures ∙ ap (λ (j : Job). startsCheck (view j (now (a .s))) (now (a .starts))) (f .job)))))
+    (c .check-read .ensures
+    ∙ ap₂ _then_ (read-form (passed d)) (ap (λ (j : Job). startsCheck (view j (now (a .s))) (now (a .starts))) (passed d .header)))))

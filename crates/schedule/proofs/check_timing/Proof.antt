@@ -1,5 +1,7 @@
 -- A conflict of effects is refused; without one, the other four rules decide.
+use Rattle.job.proofs.Ranged.{well-formed-ranged}
 use Rattle.schedule.proofs.Chained.{conflict-refused, others-decide, none-conflict}
+use Rattle.schedule.proofs.Contested.{contested-lowest}
 use borrow.Author.Needs.{needs}
 use Rattle.schedule.proofs.check_timing.Statement.{statement}
 use Rattle.schedule.proofs.check_timing.Tie as tie
@@ -12,6 +14,18 @@ check-timing-spec =
     (λ c. conflict-refused _ _ (c .before .before .first-conflict .ensures) (c .if1 .taken))
     (λ c κs.
     let p = c .before .before .before .before .before .before .before .pre in
-    let one = none-conflict _ _ (c .before .before .first-conflict .ensures) (p .0 .form) (c .if1 .left) in
-    (record { form = p .0 .form; known = p .0 .known; oneValue = one }, p .1))
-    (λ c. others-decide _ _ (c .before .before .before .first-conflict .ensures) (c .before .if1 .left) (c .check-apart .ensures)))
+    record {
+      form = well-formed-ranged (p .0 .form);
+      known = p .0 .known;
+      oneValue = none-conflict _ _ (c .before .before .first-conflict .ensures) (p .0 .form) (c .if1 .left);
+    })
+    (λ c κs.
+    let p = c .before .before .before .before .before .before .before .before .pre in
+    record {
+      form = p .0 .form;
+      known = p .0 .known;
+      oneValue = none-conflict _ _ (c .before .before .before .first-conflict .ensures) (p .0 .form) (c .before .if1 .left);
+      counted = p .1;
+      failing = contested-lowest _ _ (p .0 .form .keepsOwn) (c .first-contested .ensures);
+    })
+    (λ c. others-decide _ _ (c .before .before .before .before .first-conflict .ensures) (c .before .before .if1 .left) (c .check-settled .ensures)))

@@ -1,7 +1,8 @@
--- A form that is refused is refused by the job check, for the chain begins with it.
+-- A refusal of 1 to 6 is the job check's, for the chain begins with them.
 use mathlib.Core.Path.{sym, ap, _∙_}
 use Rattle.verdict.specs.Verdict.{number}
 use Rattle.verdict.proofs.Chain.{then-refused}
+use Rattle.form.proofs.Unopposed.{read-ranged, read-refused}
 use Rattle.validity.specs.Checks.{jobCheck}
 use Rattle.validity.proofs.Accepted.{job-promise}
 use borrow.Author.Needs.{needs}
@@ -15,10 +16,9 @@ open-job-spec =
     (tie.spec
     (λ c κs. search needs)
     (λ c.
-    let f = c .read-form .ensures in
+    let f = c .read-records .ensures in
     record {
-      job = f .job;
-      refused = λ h. job-promise _ (f .verdict ∙ then-refused _ _ (λ z. h (ap number (f .verdict) ∙ z)));
-      form = λ z. sym (ap number (f .verdict)) ∙ z;
-      wellFormed = f .wellFormed;
+      refused = λ h. let e = read-refused f h in job-promise _ (e ∙ then-refused _ _ (λ z. h (ap number e ∙ z)));
+      read = λ z. record { passed = sym (ap number (f .verdict)) ∙ z; header = f .job };
+      ranged = read-ranged f;
     }))

@@ -1,5 +1,5 @@
 -- Where no fact is mixed, nothing conflicts.
-use Rattle.schedule.proofs.Conflicts.{facts-listed, unmixed-lowest}
+use Rattle.schedule.proofs.Conflicts.{facts-listed, unmixed-one, one-value-lowest}
 use Rattle.schedule.proofs.effects.first_conflict.Statement.{statement}
 use Rattle.schedule.proofs.effects.first_conflict.Tie as tie
 
@@ -12,4 +12,4 @@ first-conflict-spec =
     (λ c. c .lowest-conflict .ensures)
     (λ c.
     let p = c .before .before .before .before .before .before .pre in
-    unmixed-lowest (p .1) (p .0 .effectFact) (c .before .any-mixed .ensures (c .if1 .left))))
+    one-value-lowest _ _ (unmixed-one (p .1) (p .0 .effectFact) (c .before .any-mixed .ensures (c .if1 .left)))))

@@ -4,18 +4,18 @@ use native.Mathlib.Omega.{arith}
 use borrow.Author.Needs.{needs}
 use Rattle.job.specs.Model.{view}
 use Rattle.validity.specs.Ticks.{scheduleOf}
-use Rattle.validity.specs.Checks.{conditionFails}
+use Rattle.schedule.specs.Contested.{contested}
 use Rattle.schedule.specs.Noted.{Noted}
 use Rattle.schedule.proofs.Noted.{noted-start, noted-lowest}
 use Rattle.schedule.proofs.Walked.{fact-more}
-use Rattle.schedule.proofs.conditions.first_failing.Statement.{statement}
-use Rattle.schedule.proofs.conditions.first_failing.Tie as tie
+use Rattle.schedule.proofs.conditions.first_contested.Statement.{statement}
+use Rattle.schedule.proofs.conditions.first_contested.Tie as tie
 
-pub first-failing-spec : {M : Type 1} → statement M
-first-failing-spec =
+pub first-contested-spec : {M : Type 1} → statement M
+first-contested-spec =
     tie.close
     (tie.spec
-    (λ s job starts points begins best₀ fact₀ best fact. Noted (view job s .conditions) (conditionFails (view job s) (scheduleOf starts))
+    (λ s job starts points begins best₀ fact₀ best fact. Noted (view job s .conditions) (contested (view job s) (scheduleOf starts))
     (λ c. view job s .conditionFact c < fact) best)
     (λ s job starts points begins best₀ fact₀ best fact. job .count .facts - fact)
     (λ c. noted-start _ (λ k l. omega arith))
@@ -26,7 +26,7 @@ first-failing-spec =
     (λ c.
     fact-more (view (c .before .before .before .before .before .before .before .before .before .args .job)
     (c .before .before .before .before .before .before .before .before .before .args .s .now)) (c .lower .ensures)
-    (c .before .before .before .before .loop .inv) (c .before .failing-of .ensures))
+    (c .before .before .before .before .loop .inv) (c .before .contested-of .ensures))
     (λ c.
     noted-lowest (c .before .before .loop .inv) (λ k l. omega
     (arith, c .before .before .before .before .before .before .before .pre .form .conditionFact k l, c .if1 .left))))

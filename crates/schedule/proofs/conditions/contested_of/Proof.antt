@@ -5,11 +5,11 @@ use borrow.Author.Needs.{needs}
 use Rattle.job.specs.Model.{view}
 use Rattle.validity.specs.Ticks.{scheduleOf}
 use Rattle.schedule.proofs.Walked.{Walked, walked-start, walked-listed, walked-before, walked-at, walked-more, walked-end}
-use Rattle.schedule.proofs.conditions.failing_of.Statement.{statement}
-use Rattle.schedule.proofs.conditions.failing_of.Tie as tie
+use Rattle.schedule.proofs.conditions.contested_of.Statement.{statement}
+use Rattle.schedule.proofs.conditions.contested_of.Tie as tie
 
-pub failing-of-spec : {M : Type 1} → statement M
-failing-of-spec =
+pub contested-of-spec : {M : Type 1} → statement M
+contested-of-spec =
     tie.close
     (tie.spec
     (λ s job starts points begins fact setters group end walk₀ best₀ q₀ walk best q.
@@ -42,5 +42,5 @@ failing-of-spec =
     (λ c.
     walked-more (c .before .before .before .before .before .before .loop .inv) (c .before .before .before .before .before .loop-test .taken)
     (c .before .before .before .walk-to .ensures)
-    (c .before .number-of .ensures .0) (c .before .before .fails .ensures) (c .noted .ensures))
+    (c .before .number-of .ensures .0) (c .before .before .is-contested .ensures) (c .noted .ensures))
     (λ c. walked-end (c .before .loop .inv) (c .loop-test .left)))

@@ -1,0 +1,18 @@
+-- The points in the order of their ticks, then the refusals.
+use Rattle.schedule.proofs.Reading.{read-in-range}
+use borrow.Author.Needs.{needs}
+use Rattle.schedule.proofs.check_read.Statement.{statement}
+use Rattle.schedule.proofs.check_read.Tie as tie
+
+pub check-read-spec : {M : Type 1} → statement M
+check-read-spec =
+    tie.close
+    (tie.spec
+    (λ c κs. search needs)
+    (λ c κs. (c .before .before .before .before .pre, c .before .is-small .ensures (c .if1 .taken)))
+    (λ c. search needs)
+    (λ c. search needs) (λ c. search needs) (λ c. search needs)
+    (λ c κs. let w = read-in-range (c .before .before .before .before .before .before .before .pre) in search needs)
+    (λ c. search needs) (λ c. search needs)
+    (λ c κs. record { read = c .before .before .before .before .before .before .before .before .before .before .before .before .before .pre; known = c .before .before .before .before .before .list-points .ensures })
+    (λ c. search needs))

@@ -1,0 +1,16 @@
+-- The points in the order of their ticks, then the refusals.
+use Rattle.schedule.proofs.Reading.{read-in-range}
+use borrow.Author.Needs.{needs}
+use Rattle.schedule.proofs.check_small.Statement.{statement}
+use Rattle.schedule.proofs.check_small.Tie as tie
+
+pub check-small-spec : {M : Type 1} → statement M
+check-small-spec =
+    tie.close
+    (tie.spec
+    (λ c. search needs) (λ c. search needs) (λ c. search needs)
+    (λ c κs. let w = read-in-range (c .before .before .before .before .before .pre .0) in
+    let few = c .before .before .before .before .before .pre .1 in search needs)
+    (λ c. search needs) (λ c. search needs)
+    (λ c κs. record { read = c .before .before .before .before .before .before .before .before .before .before .before .pre .0; known = c .before .before .before .before .before .list-points .ensures })
+    (λ c. search needs))
