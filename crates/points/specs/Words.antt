@@ -3,22 +3,15 @@ use Prim.Native.Nat.{ℕ, _+_, _≤_, _<_}
 use mathlib.Core.Path.{_≡_}
 use mathlib.Core.List.{List}
 use lib.ListN.{length, getD}
-use Rattle.job.specs.Layout.{mostFacts, mostLevels, mostConditions, mostEffects, mostUses}
 use Rattle.job.specs.declared.layout.Counts.{Counts}
 use Rattle.job.specs.Model.{Model}
 use Rattle.points.specs.Points.{wantedGroup, usedGroup, groupCount}
 use Rattle.timeline.specs.Words.{tickSpan, wordOf}
 use Rattle.validity.specs.Ticks.{effectTick, firstTick, useTick}
 
--- how many points and groups a job has, and how many it can have
+-- how many points a job has
 abbrev pub pointCount : Model → ℕ
 pointCount m = m .conditions + m .effects + m .uses
-
-abbrev pub mostPoints : ℕ
-mostPoints = mostConditions + mostEffects + mostUses
-
-abbrev pub mostGroups : ℕ
-mostGroups = mostFacts + mostFacts + mostLevels
 
 -- the words of a condition, an effect and a use; a use has no value, so its word has 0
 abbrev pub conditionWord : Model → (ℕ → ℕ) → ℕ → ℕ

@@ -1,11 +1,9 @@
 -- A walk along a group: how a run grows by a point, and how a cursor goes on.
 use Prim.Native.Nat.{ℕ, _+_, _-_, _≤_, _<_}
-use mathlib.Core.Path.{_≡_, refl, sym, ap, _∙_}
+use mathlib.Core.Path.{_≡_, sym, ap, _∙_}
 use mathlib.Core.List.{List}
 use native.Mathlib.Decide.{decLt}
 use native.Mathlib.Omega.{arith}
-use lib.ListN.{length}
-use Rattle.timeline.specs.declared.walk.Cursor.{Cursor}
 use Rattle.timeline.specs.Words.{tickAt, valueAt}
 use Rattle.timeline.specs.Placed.{Parted, Run}
 use Rattle.timeline.specs.Walking.{Walking, Alike}

@@ -40,15 +40,9 @@ pub accepted-then : (w : Verdict) → (Accepted then w) ≡ w
 unfolding _then_
 accepted-then w = refl
 
--- three checks in a row: the first refuses, the second does, or neither
+-- three checks in a row, of which the first refuses
 pub first-refused : (a b c : Verdict) → (number a ≡ 0 → ⊥) → a ≡ (a then b then c)
 first-refused a b c h = then-refused a c h ∙ ap (λ v. v then c) (then-refused a b h)
-
-pub second-refused : (a b c : Verdict) → number a ≡ 0 → (number b ≡ 0 → ⊥) → b ≡ (a then b then c)
-second-refused a b c h g = then-refused b c g ∙ ap (λ v. v then c) (then-accepted a b h)
-
-pub both-accepted : (a b c : Verdict) → number a ≡ 0 → number b ≡ 0 → c ≡ (a then b then c)
-both-accepted a b c h g = then-accepted b c g ∙ ap (λ v. v then c) (then-accepted a b h)
 
 -- a chain that accepts has accepted at each check
 pub then-zero : (v w : Verdict) → number (v then w) ≡ 0 → (number v ≡ 0) × (number w ≡ 0)
