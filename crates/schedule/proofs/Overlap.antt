@@ -1,12 +1,11 @@
 -- The lowest step that another overlaps is the lowest that a later one overlaps.
-use Prim.Native.Nat.{ℕ, suc, _+_, _≤_, _<_}
-use mathlib.Core.Path.{_≡_, refl, sym, ap, ap₂, _∙_}
+use Prim.Native.Nat.{ℕ, _+_, _≤_, _<_}
+use mathlib.Core.Path.{_≡_, sym, ap, ap₂, _∙_}
 use mathlib.Core.Bool.{Bool, true, false, not, _&&_, _||_}
 use mathlib.Core.Logic.{⊎-elim}
-use native.Mathlib.Decide.{decLt}
 use native.Mathlib.Numerals.{add-one}
 use native.Mathlib.Omega.{arith}
-use borrow.Author.Tests.{ltb-true, lt-ltb, le-ltb, leb-true, leb-false, lt-leb, eqb-true, eqb-false, ne-eqb, not-true, eq-eqb}
+use borrow.Author.Tests.{ltb-true, lt-ltb, le-ltb, leb-false, lt-leb, eqb-false, ne-eqb, not-true, eq-eqb}
 use lib.Dec.{ltb, leb, eqb}
 use Rattle.laws.specs.Search.{any, lowest}
 use Rattle.laws.proofs.Search.{either, contrary, by-order, and-both, any-intro, any-none, any-false, lowest-is, lowest-le, lowest-facts}

@@ -1,5 +1,4 @@
 // Along the points of a group, in the order of their ticks.
-ghost use mathlib.Core.Path.{_≡_};
 ghost use Prim.Native.Nat.{_+_, _≤_, _<_};
 ghost use lib.ListN.{length};
 ghost use Rattle.timeline.specs.Placed.{Parted, Run};
