@@ -90,7 +90,9 @@ module _
     same-pair : (o : ℕ) → nth tableSize (entered gaps) o ≡ pairOf m x o
     same-pair o = nth-cong (entered gaps) (ordered m x) tableSize o entered-ordered
 
-    same-gap : (o : ℕ) → o < count tableSize (ordered m x) → gapAt gaps (nth tableSize (entered gaps) o) ≡ gapOf m x (pairOf m x o / rowWidth) (pairOf m x o % rowWidth)
+    same-gap :
+        (o : ℕ) → o < count tableSize (ordered m x)
+        → gapAt gaps (nth tableSize (entered gaps) o) ≡ gapOf m x (pairOf m x o / rowWidth) (pairOf m x o % rowWidth)
     same-gap o l =
         let p = ordered-out m x (pairOf m x o) (pair-ordered m x o l) in
         ap (gapAt gaps) (same-pair o) ∙ entry (pairOf m x o) (p .0) (p .1)

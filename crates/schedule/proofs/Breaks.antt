@@ -194,7 +194,9 @@ module _ {m : Model} {x : ℕ → ℕ} {points : List ℕ} {setters : Setters} {
             (any-none (opposesEarly m x (wordNumber word)) (m .effects)
             (λ e h.
             ⊎-elim
-            (λ (t : opposesEarly m x (wordNumber word) e ≡ true). absurd (let o : effectTick m x e < lastTick m x (wordNumber word) = early-tick e t in omega arith))
+            (λ (t : opposesEarly m x (wordNumber word) e ≡ true).
+            let o : effectTick m x e < lastTick m x (wordNumber word) = early-tick e t in
+            absurd (omega arith))
             (λ (n : opposesEarly m x (wordNumber word) e ≡ false). n)
             (either (opposesEarly m x (wordNumber word) e))))
         | no z ↦

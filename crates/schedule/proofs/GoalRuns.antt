@@ -208,7 +208,8 @@ module _ (m : Model) (x : ℕ → ℕ) {points begins : List ℕ} (known : Point
             let first : low ≤ run = so .from in
             unkept
             (sym
-            (seen-first known (m .goalFact g) (form .goalFact g h) (well-formed-ranged form) (begins-at-run (λ p a b. absurd (omega arith))) (omega arith)) ∙ s ∙ sym wanted)
+            (seen-first known (m .goalFact g) (form .goalFact g h) (well-formed-ranged form) (begins-at-run (λ p a b. absurd (omega arith)))
+            (omega arith)) ∙ s ∙ sym wanted)
             (omega arith)
 
         turned : low < run → seen m x (m .goalFact g) (tickAt points run) ≡ m .goalValue g → ⊥

@@ -59,9 +59,9 @@ file-schedule-spec =
     })
     (λ c. search needs)
     (λ c.
-    let start = c .before .before .before .before .before .before .before .before .before .before .before .before .before .before .before .before .before .before in
+    let linked = c .before .before .before .before .before .before .before .before .before .before .before in
+    let start = linked .before .before .before .before .before .before .before in
     let p = start .pre in
     let x = scheduleOf (now (start .args .starts)) in
-    let linked = c .before .before .before .before .before .before .before .before .before .before .before in
     c .before .before .file-found .ensures x (record { each = linked .find-links .ensures x (p .known) (p .valid) .below })
     (c .before .before .before .before .before .before .before .fill-gaps .ensures)))

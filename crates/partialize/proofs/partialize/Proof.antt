@@ -15,7 +15,9 @@ use Rattle.partialize.proofs.partialize.Tie as tie
 passed : (c : tie.After-job) → number (c .before .before .before .open-job .result .verdict) ≡ 0
 passed c = sym (c .before .before .number .ensures) ∙ c .before .if1 .left
 
-ranged : (c : tie.After-job) → Ranged (view (c .before .before .before .open-job .result .job) (now (c .before .before .before .before .before .before .args .s)))
+ranged :
+    (c : tie.After-job)
+    → Ranged (view (c .before .before .before .open-job .result .job) (now (c .before .before .before .before .before .before .args .s)))
 ranged c = c .before .before .before .open-job .ensures .ranged (passed c)
 
 pub partialize-spec : {M : Type 1} → statement M

@@ -14,5 +14,7 @@ check-read-spec =
     (λ c. search needs) (λ c. search needs) (λ c. search needs)
     (λ c κs. let w = read-in-range (c .before .before .before .before .before .before .before .pre) in search needs)
     (λ c. search needs) (λ c. search needs)
-    (λ c κs. record { read = c .before .before .before .before .before .before .before .before .before .before .before .before .before .pre; known = c .before .before .before .before .before .list-points .ensures })
+    (λ c κs.
+    let listed = c .before .before .before .before .before in
+    record { read = listed .before .before .before .before .before .before .before .before .pre; known = listed .list-points .ensures })
     (λ c. search needs))

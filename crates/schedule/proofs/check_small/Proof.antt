@@ -12,5 +12,7 @@ check-small-spec =
     (λ c κs. let w = read-in-range (c .before .before .before .before .before .pre .0) in
     let few = c .before .before .before .before .before .pre .1 in search needs)
     (λ c. search needs) (λ c. search needs)
-    (λ c κs. record { read = c .before .before .before .before .before .before .before .before .before .before .before .pre .0; known = c .before .before .before .before .before .list-points .ensures })
+    (λ c κs.
+    let listed = c .before .before .before .before .before in
+    record { read = listed .before .before .before .before .before .before .pre .0; known = listed .list-points .ensures })
     (λ c. search needs))

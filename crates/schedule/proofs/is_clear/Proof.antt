@@ -18,13 +18,15 @@ is-clear-spec =
     (λ c t. contrary t refl)
     (λ c κs.
     let p = c .before .before .before .before .before .before .before .before .pre in
-    record { form = p .0; known = p .1; oneValue = unmixed-one (p .1) (p .0 .effectFact) (c .before .before .before .any-mixed .ensures (c .before .before .if1 .left)) })
+    let unmixed = c .before .before .before .any-mixed .ensures (c .before .before .if1 .left) in
+    record { form = p .0; known = p .1; oneValue = unmixed-one (p .1) (p .0 .effectFact) unmixed })
     (λ c t.
     let p = c .before .before .before .before .before .before .before .before .before .before .pre in
     let none = sym (eqb-true _ _ t) ∙ c .before .first-contested .ensures in
     let keeps = own-kept _ _ none in
+    let unmixed = c .before .before .before .before .before .any-mixed .ensures (c .before .before .before .before .if1 .left) in
     record {
-      oneValue = unmixed-one (p .1) (p .0 .effectFact) (c .before .before .before .before .before .any-mixed .ensures (c .before .before .before .before .if1 .left));
+      oneValue = unmixed-one (p .1) (p .0 .effectFact) unmixed;
       oneUse = apart-one-use (p .1) (p .0 .useLevel) (c .before .before .before .any-twice .ensures (c .before .before .if2 .left));
       keepsOwn = keeps;
       noneFails = contested-lowest _ _ keeps none;

@@ -23,7 +23,9 @@ write-orders-spec =
     (λ c. omega arith)
     (λ c. omega arith)
     (λ c. omega (arith, c .shared-slice-known3 .given (c .before .before .before .before .loop .q)))
-    (λ c κs. (omega arith, c .before .before .if1 .taken, omega (arith, c .before .shared-slice-known3 .given (c .before .before .before .before .before .loop .q))))
+    (λ c κs.
+    let q = c .before .before .before .before .before .loop .q in
+    (omega arith, c .before .before .if1 .taken, omega (arith, c .before .shared-slice-known3 .given q)))
     (λ c. omega arith)
     (λ c. omega arith)
     (λ c. omega arith)

@@ -18,7 +18,9 @@ first-overlapped-spec =
     (λ starts finishes n i₀ i. n - i)
     (λ c. (search needs, lowest-start _))
     (λ c κs. let p = c .before .before .before .before .pre in (c .loop-test .taken, p .0, p .1))
-    (λ c. lowest-found _ _ _ (c .before .before .before .loop .inv .1) (c .before .before .loop-test .taken) (c .before .overlaps-later .ensures) (c .if1 .taken))
+    (λ c.
+    let i = c .before .before .before .loop .inv in
+    lowest-found _ _ _ (i .1) (c .before .before .loop-test .taken) (c .before .overlaps-later .ensures) (c .if1 .taken))
     (λ c. search needs)
     (λ c. omega (arith, c .before .before .loop-test .taken))
     (λ c. (
