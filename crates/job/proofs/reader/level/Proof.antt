@@ -115,7 +115,8 @@ module _ {M : Type 1} (𝓤 : URA M) (H : Heap 𝓤) (A : Atoms 𝓤) (W : Given
     walk wt =
         qed W (raw (onEntry 𝓤 H A level.signature (κ, tt) (q, tt) (d, (k, tt)) (mach ∷ [], (vint w16 k ∷ [], tt))) ∷ []) ∵ enter ! C Λ code.function
         (mach ∷ vint w16 k ∷ []) _ $
-        alloc1 ! (λ l₀. alloc1 ! (λ l₁. alloc1 ! (λ l₂. alloc1 ! (λ l₃. alloc1 ! (λ l₄. alloc0 ! $ params1 ! $ pass1 ! (init ! 6 refl wt) $ pass1 ! (init ! 4 refl (
+        alloc1 ! (λ l₀. alloc1 ! (λ l₁. alloc1 ! (λ l₂. alloc1 ! (λ l₃. alloc1 ! (λ l₄. alloc0 ! $ params1 ! $
+        pass1 ! (init ! 6 refl wt) $ pass1 ! (init ! 4 refl (
           tt,
           record {
             fits =

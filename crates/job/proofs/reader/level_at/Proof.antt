@@ -122,7 +122,8 @@ module _ {M : Type 1} (𝓤 : URA M) (H : Heap 𝓤) (A : Atoms 𝓤) (W : Given
         let wj = LL.lawful J.the-type J′.the-laws 𝓤 H A W .typed j _ p′ .0 in
         qed W (raw (onEntry 𝓤 H A level-at.signature (κ, tt) (q, tt) (s, (j, (k, tt))) at) ∷ []) ∵ enter ! C Λ code.function
         (slice s ∷ J′.lowered j ∷ vint w16 k ∷ []) _ $
-        alloc1 ! (λ l₀. alloc1 ! (λ l₁. alloc1 ! (λ l₂. alloc1 ! (λ l₃. alloc1 ! (λ l₄. alloc0 ! $ params1 ! $ pass1 ! (init ! 6 refl ws) $ pass1 ! (init ! 4 refl wj) $ pass1 ! (init ! 2 refl (
+        alloc1 ! (λ l₀. alloc1 ! (λ l₁. alloc1 ! (λ l₂. alloc1 ! (λ l₃. alloc1 ! (λ l₄. alloc0 ! $ params1 ! $
+        pass1 ! (init ! 6 refl ws) $ pass1 ! (init ! 4 refl wj) $ pass1 ! (init ! 2 refl (
           tt,
           record {
             fits =
