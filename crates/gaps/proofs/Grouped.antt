@@ -22,7 +22,7 @@ use Rattle.gaps.specs.declared.rows.Origin.{Origin}
 use Rattle.gaps.specs.Table.{single}
 use Rattle.gaps.specs.Raised.{Raised}
 use Rattle.gaps.specs.Points.{offsetOf, offsetAt, originOf, OriginKnown, Group, GroupsKnown, Notable, Apart, Reached, Onto, After}
-use Rattle.gaps.specs.Points.{leadPlace, leadsWith, Leads, LeadKnown, Noting, Noted, Ahead, Rowing}
+use Rattle.gaps.specs.Points.{leadPlace, leadsWith, Leads, LeadKnown, Noting, NotedBack, Ahead, Rowing}
 use Rattle.gaps.proofs.Reached.{reached-none, reached-is, reached-one, within-down, within-empty}
 
 -- a word's value is one of two
@@ -225,7 +225,7 @@ module _ (x : ℕ → ℕ) (points : List ℕ) where
 
 -- Going back, what is not before tick t parts from what is.
 module _ {x : ℕ → ℕ} {points : List ℕ} {low high t p : ℕ} {leads : List ℕ} (w : Noting x points low high p t leads) where
-  pub noting-all : p ≤ low → Noted x points low high t p leads
+  pub noting-all : p ≤ low → NotedBack x points low high t p leads
   noting-all none =
       record {
         parts = record { from = w .from; to = w .upto; before = λ q a b. absurd (omega arith); after = w .after };
@@ -233,7 +233,7 @@ module _ {x : ℕ → ℕ} {points : List ℕ} {low high t p : ℕ} {leads : Lis
       }
 
   module _ {tick : ℕ} (some : low < p) (read : tick ≡ tickAt points (p - 1)) where
-    pub noting-found : tick < t → Noted x points low high t p leads
+    pub noting-found : tick < t → NotedBack x points low high t p leads
     noting-found early =
         record {
           parts = record {
@@ -297,7 +297,7 @@ module _ {m : Model} {x : ℕ → ℕ} {points : List ℕ} {groups : Groups} (kn
         }
 
     pub rowing-more :
-        {now raised : List ℕ} {next : ℕ} → Noted x points (groups .after) (groups .until) (origin .tick) next now
+        {now raised : List ℕ} {next : ℕ} → NotedBack x points (groups .after) (groups .until) (origin .tick) next now
         → Reached (m .steps) (Ahead origin now) gaps raised
         → Rowing m x points groups before now next (p - 1) raised
     rowing-more {now} {raised} {next} n r =

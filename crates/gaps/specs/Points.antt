@@ -148,7 +148,7 @@ pub record Noting (x : ℕ → ℕ) (points : List ℕ) (low high noted t : ℕ)
   pub ahead : Leads x points noted high leads
 
 -- the same, and all others are before tick t
-pub record Noted (x : ℕ → ℕ) (points : List ℕ) (low high t noted : ℕ) (leads : List ℕ) : Type 0 where
+pub record NotedBack (x : ℕ → ℕ) (points : List ℕ) (low high t noted : ℕ) (leads : List ℕ) : Type 0 where
   pub parts : Parted points low high t noted
   pub ahead : Leads x points noted high leads
 

@@ -11,7 +11,7 @@ ghost use Rattle.order_file.specs.Table.{gapOfEntry, Gaps, rowWidth};
 ghost use Rattle.gaps.specs.Table.{single};
 ghost use Rattle.gaps.specs.Raised.{EntryKnown, Raised};
 ghost use Rattle.gaps.specs.Points.{offsetOf, endOf, originOf, OriginKnown, GroupsKnown, Reached, Onto, From, GroupsRaised};
-ghost use Rattle.gaps.specs.Points.{Notable, Noting, Noted, leadsWith, LeadKnown, Ahead};
+ghost use Rattle.gaps.specs.Points.{Notable, Noting, NotedBack, leadsWith, LeadKnown, Ahead};
 ghost use Rattle.order_file.specs.Contents.{stepLimit};
 use job::layout::Job;
 use job::records::condition_to;
@@ -182,7 +182,7 @@ fn note_from(
 ) -> usize
     requires { ⌜ ((high : ℕ) × Noting (scheduleOf (now starts)) (now points) low high noted t (now leads)) ⌝ }
     ensures { λ r. ⌜ ((high : ℕ) → Noting (scheduleOf (now (starts .entry))) (now (points .entry)) low high noted t (now (leads .entry))
-        → Noted (scheduleOf (now (starts .entry))) (now (points .entry)) low high t r (now (leads .exit))) ⌝ }
+        → NotedBack (scheduleOf (now (starts .entry))) (now (points .entry)) low high t r (now (leads .exit))) ⌝ }
 {
     let mut p = noted;
     while low < p {

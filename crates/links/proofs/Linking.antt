@@ -17,7 +17,7 @@ use Rattle.timeline.proofs.Walking.{run-none}
 use Rattle.points.specs.Points.{Wanting, wantedGroup}
 use Rattle.orders.specs.Links.{nthLink}
 use Rattle.links.specs.Linkable.{Linkable, LinksFound}
-use Rattle.links.specs.Linking.{runLink, LinkIs, LinksPut, Below, Between, Linking}
+use Rattle.links.specs.Linking.{runLink, LinkIs, LinksPut, Below, FromTo, Linking}
 use Rattle.links.proofs.Supported.{condition-some, condition-is}
 use Rattle.links.proofs.Putting.{put-none, put-one, put-then, put-as, put-filled, links-room}
 
@@ -161,13 +161,13 @@ module _ {m : Model} {points begins before : List ℕ} where
       put-as (so x known valid) (λ k q. q .0) (λ k l. (l, omega (arith, form .conditionFact k l)))
 
   -- Goal by goal.
-  pub goals-start : LinksPut m points begins (Between (m .conditions) (m .conditions + 0)) before before
+  pub goals-start : LinksPut m points begins (FromTo (m .conditions) (m .conditions + 0)) before before
   goals-start x known valid = put-none before (λ k q. let from = q .0 in let to = q .1 in omega arith)
 
   pub goals-more :
       (g : ℕ) {link : ℕ} {list : List ℕ} → m .conditions + g < length list → LinkIs m points begins (m .conditions + g) link
-      → LinksPut m points begins (Between (m .conditions) (m .conditions + g)) before list
-      → LinksPut m points begins (Between (m .conditions) (m .conditions + (g + 1))) before (set list (m .conditions + g) link)
+      → LinksPut m points begins (FromTo (m .conditions) (m .conditions + g)) before list
+      → LinksPut m points begins (FromTo (m .conditions) (m .conditions + (g + 1))) before (set list (m .conditions + g) link)
   goals-more g {link} {list} h is so x known valid =
       put-then (so x known valid) (put-one list (m .conditions + g) link h (is x known valid))
       (λ k q. (q .0, omega (arith, q .1)))
@@ -179,14 +179,14 @@ module _ {m : Model} {points begins before : List ℕ} where
       ])
 
   pub goals-end :
-      (g : ℕ) {list : List ℕ} → g ≤ m .goals → m .goals ≤ g → LinksPut m points begins (Between (m .conditions) (m .conditions + g)) before list
-      → LinksPut m points begins (Between (m .conditions) (m .conditions + m .goals)) before list
+      (g : ℕ) {list : List ℕ} → g ≤ m .goals → m .goals ≤ g → LinksPut m points begins (FromTo (m .conditions) (m .conditions + g)) before list
+      → LinksPut m points begins (FromTo (m .conditions) (m .conditions + m .goals)) before list
   goals-end g h l so = let e : g ≡ m .goals = omega arith in rw e at so
 
   -- conditions and goals together
   pub links-found :
       {list after : List ℕ} → LinksPut m points begins (λ c. c < m .conditions) before list
-      → LinksPut m points begins (Between (m .conditions) (m .conditions + m .goals)) list after
+      → LinksPut m points begins (FromTo (m .conditions) (m .conditions + m .goals)) list after
       → LinksFound m points begins before after
   links-found conditions goals x known valid =
       put-filled

@@ -9,13 +9,13 @@ use lib.Seq.{getD-set-same, getD-set-other}
 use Rattle.laws.specs.Listed.{Filled}
 use Rattle.job.specs.Model.{Model}
 use Rattle.links.specs.Linkable.{Linkable}
-use Rattle.links.specs.Linking.{Put, LinksPut}
+use Rattle.links.specs.Linking.{FilledWhere, LinksPut}
 
 module _ {f : ℕ → ℕ} where
-  pub put-none : {P : ℕ → Type 0} (list : List ℕ) → ((k : ℕ) → P k → ⊥) → Put P f list list
+  pub put-none : {P : ℕ → Type 0} (list : List ℕ) → ((k : ℕ) → P k → ⊥) → FilledWhere P f list list
   put-none list none = record { size = refl; there = λ k h. absurd (none k h); rest = λ k _. refl }
 
-  pub put-one : (list : List ℕ) (i v : ℕ) → i < length list → v ≡ f i → Put (λ k. k ≡ i) f list (set list i v)
+  pub put-one : (list : List ℕ) (i v : ℕ) → i < length list → v ≡ f i → FilledWhere (λ k. k ≡ i) f list (set list i v)
   put-one list i v h e =
       record {
         size = length-set list i v;
@@ -25,11 +25,11 @@ module _ {f : ℕ → ℕ} where
 
   -- those of P, then those of Q: what is not put again stays
   pub put-then :
-      {P Q R : ℕ → Type 0} {before list after : List ℕ} → Put P f before list → Put Q f list after
+      {P Q R : ℕ → Type 0} {before list after : List ℕ} → FilledWhere P f before list → FilledWhere Q f list after
       → ((k : ℕ) → P k → R k)
       → ((k : ℕ) → Q k → R k)
       → ((k : ℕ) → R k → Q k ⊎ (P k × (Q k → ⊥)))
-      → Put R f before after
+      → FilledWhere R f before after
   put-then {P} {Q} a b p q r =
       record {
         size = b .size ∙ a .size;
@@ -39,10 +39,10 @@ module _ {f : ℕ → ℕ} where
       }
 
   -- those of P are those of Q
-  pub put-as : {P Q : ℕ → Type 0} {before list : List ℕ} → Put P f before list → ((k : ℕ) → P k → Q k) → ((k : ℕ) → Q k → P k) → Put Q f before list
+  pub put-as : {P Q : ℕ → Type 0} {before list : List ℕ} → FilledWhere P f before list → ((k : ℕ) → P k → Q k) → ((k : ℕ) → Q k → P k) → FilledWhere Q f before list
   put-as a p q = record { size = a .size; there = λ k h. a .there k (q k h); rest = λ k h. a .rest k (λ g. h (p k g)) }
 
-  pub put-filled : {n : ℕ} {before list : List ℕ} → Put (λ k. k < n) f before list → Filled n f before list
+  pub put-filled : {n : ℕ} {before list : List ℕ} → FilledWhere (λ k. k < n) f before list → Filled n f before list
   put-filled a = record { size = a .size; below = a .there; rest = λ k h. a .rest k (λ g. omega arith) }
 
 -- The list keeps its length, so the links still have room.

@@ -25,14 +25,14 @@ abbrev pub LinkIs : Model → List ℕ → List ℕ → ℕ → ℕ → Type 0
 LinkIs m points begins k link = (x : ℕ → ℕ) → PointsKnown m x points begins → Valid m x → link ≡ nthLink m x k
 
 -- a list whose elements at the indexes of which P is true are given by f, and whose others are those of before
-pub record Put (P : ℕ → Type 0) (f : ℕ → ℕ) (before list : List ℕ) : Type 0 where
+pub record FilledWhere (P : ℕ → Type 0) (f : ℕ → ℕ) (before list : List ℕ) : Type 0 where
   pub size : length list ≡ length before
   pub there : (k : ℕ) → P k → getD list k 0 ≡ f k
   pub rest : (k : ℕ) → (P k → ⊥) → getD list k 0 ≡ getD before k 0
 
 -- those of which P is true are put into a list
 abbrev pub LinksPut : Model → List ℕ → List ℕ → (ℕ → Type 0) → List ℕ → List ℕ → Type 0
-LinksPut m points begins P before list = (x : ℕ → ℕ) → PointsKnown m x points begins → Valid m x → Put P (nthLink m x) before list
+LinksPut m points begins P before list = (x : ℕ → ℕ) → PointsKnown m x points begins → Valid m x → FilledWhere P (nthLink m x) before list
 
 -- a condition of a fact below f; one at a place from low up to p
 abbrev pub Below : Model → ℕ → ℕ → Type 0
@@ -42,8 +42,8 @@ abbrev pub Passed : List ℕ → ℕ → ℕ → ℕ → Type 0
 Passed points low p c = (q : ℕ) × (low ≤ q) × (q < p) × (numberAt points q ≡ c)
 
 -- from low on and below high
-abbrev pub Between : ℕ → ℕ → ℕ → Type 0
-Between low high k = (low ≤ k) × (k < high)
+abbrev pub FromTo : ℕ → ℕ → ℕ → Type 0
+FromTo low high k = (low ≤ k) × (k < high)
 
 -- at place p of the conditions of fact f, which end at place `end`, with the cursor among its setters, which stand from low to high
 pub record Linking (m : Model) (points begins : List ℕ) (f low high end p : ℕ) (cursor : Cursor) (before list : List ℕ) : Type 0 where

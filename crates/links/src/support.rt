@@ -8,7 +8,7 @@ ghost use Rattle.job.specs.Model.{view};
 ghost use Rattle.job.specs.WellFormed.{WellFormed};
 ghost use Rattle.points.specs.Points.{Wanting};
 ghost use Rattle.links.specs.Linkable.{OfValid, Linkable, LinksFound};
-ghost use Rattle.links.specs.Linking.{runLink, LinkIs, LinksPut, Between};
+ghost use Rattle.links.specs.Linking.{runLink, LinkIs, LinksPut, FromTo};
 use job::layout::Job;
 use job::records::fact_initial;
 use job::records::goal_fact;
@@ -91,7 +91,7 @@ fn goal_link(s: &[u8], job: Job, points: &[u64], begins: &[u16], g: u16) -> u16
 fn link_goals(s: &[u8], job: Job, points: &[u64], begins: &[u16], links: &mut [u16])
     requires { ⌜ Linkable (view job (now s)) (now points) (now begins) (now links) ⌝ }
     ensures { λ _. ⌜ LinksPut (view job (now (s .entry))) (now (points .entry)) (now (begins .entry))
-        (Between (job .count .conditions) (job .count .conditions + job .count .goals)) (now (links .entry)) (now (links .exit)) ⌝ }
+        (FromTo (job .count .conditions) (job .count .conditions + job .count .goals)) (now (links .entry)) (now (links .exit)) ⌝ }
 {
     let mut g = 0;
     while g < job.count.goals {

@@ -23,7 +23,8 @@ use Rattle.validity.specs.Levels.{rise, fall, usedBy, risesBefore, fallsBefore,
 use Rattle.validity.specs.Checks.{passes, levelFails}
 use Rattle.points.specs.Points.{usedGroup, PointsKnown}
 use Rattle.schedule.specs.declared.levels.Sums.{Sums}
-use Rattle.schedule.specs.LevelSums.{placeLimit, sumLimit, sumFrom, inBounds, UsesPlaced, Stretch, Summed, Added, SummedTick}
+use Rattle.timeline.specs.Sortable.{placeLimit}
+use Rattle.schedule.specs.LevelSums.{sumLimit, sumFrom, inBounds, UsesPlaced, Stretch, Summed, Added, SummedTick}
 
 module _ {m : Model} {points : List ℕ} {low high : ℕ} where
   -- nothing is summed

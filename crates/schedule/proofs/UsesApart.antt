@@ -11,7 +11,7 @@ use Rattle.timeline.specs.Words.{stepAt, numberAt, tickAt}
 use Rattle.validity.specs.Ticks.{useTick}
 use Rattle.points.specs.Points.{PointsKnown}
 use Rattle.schedule.specs.Against.{Rising}
-use Rattle.schedule.specs.UsesApart.{Single, Apart, LevelsListed, LevelsApart}
+use Rattle.schedule.specs.UsesApart.{Single, StepsApart, LevelsListed, LevelsApart}
 
 -- the points from place p up to place q are of other steps than the one at q, whose tick and step were read
 pub record Others (points : List ℕ) (low q tick step p : ℕ) : Type 0 where
@@ -63,7 +63,7 @@ module _ {points : List ℕ} {low q tick step : ℕ} where
     pub others-end : p ≤ low → Single points low q
     others-end past k i g same = so .other k (omega arith) g
 
-pub apart-more : (points : List ℕ) {low q : ℕ} → Apart points low q → Single points low q → Apart points low (q + 1)
+pub apart-more : (points : List ℕ) {low q : ℕ} → StepsApart points low q → Single points low q → StepsApart points low (q + 1)
 apart-more points {low} {q} so more k l =
     elim (decLt k q) [
       | yes i ↦ so k i
@@ -73,15 +73,15 @@ apart-more points {low} {q} so more k l =
 pub levels-more :
     (facts : ℕ) (points begins : List ℕ) {level low high : ℕ} → LevelsApart facts level points begins → low ≡ getD begins (facts + facts + level) 0
     → high ≡ getD begins (facts + facts + level + 1) 0
-    → Apart points low high
+    → StepsApart points low high
     → LevelsApart facts (level + 1) points begins
 levels-more facts points begins {level} so begin end more l h =
     elim (decLt l level) [
       | yes i ↦ so l i
       | no i ↦
           let e : level ≡ l = omega arith in
-          subst (λ k. Apart points (getD begins (facts + facts + k) 0) (getD begins (facts + facts + k + 1) 0)) e
-          (subst (λ a. Apart points a (getD begins (facts + facts + level + 1) 0)) begin (subst (Apart points _) end more))
+          subst (λ k. StepsApart points (getD begins (facts + facts + k) 0) (getD begins (facts + facts + k + 1) 0)) e
+          (subst (λ a. StepsApart points a (getD begins (facts + facts + level + 1) 0)) begin (subst (StepsApart points _) end more))
     ]
 
 module _ {m : Model} {x : ℕ → ℕ} {points begins : List ℕ} (known : PointsKnown m x points begins) where

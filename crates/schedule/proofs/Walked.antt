@@ -18,7 +18,7 @@ use Rattle.schedule.specs.declared.conditions.Walk.{Walk}
 use Rattle.schedule.specs.Contested.{contested}
 use Rattle.schedule.specs.Noted.{Noted}
 use Rattle.schedule.specs.Against.{OfValue}
-use Rattle.schedule.specs.Conditions.{ConditionsKnown, SettersOf, Stands, Before, Come, ConditionAt}
+use Rattle.schedule.specs.Conditions.{ConditionsKnown, SettersOf, Stands, NotPast, Come, ConditionAt}
 use Rattle.schedule.proofs.Noted.{noted-start, noted-more, noted-when, noted-both}
 
 -- the conditions at the places of a fact's group up to q
@@ -39,7 +39,7 @@ pub record Walked (m : Model) (x : ℕ → ℕ) (points begins : List ℕ) (fact
   pub noted : Noted (m .conditions) (contested m x) (Met m points begins fact q) best
 
 -- A walk goes on to tick t.
-module _ {points : List ℕ} {setters : Setters} {t : ℕ} {walk : Walk} (so : Before points setters t walk) where
+module _ {points : List ℕ} {setters : Setters} {t : ℕ} {walk : Walk} (so : NotPast points setters t walk) where
   pub before-walking : {tick : ℕ} → tick ≡ t → Walking points (setters .low) (setters .high) tick (record { place = walk .place; run = walk .run })
   before-walking e =
       record {
@@ -121,7 +121,7 @@ module _ {m : Model} {x : ℕ → ℕ} {points begins : List ℕ} {fact : ℕ} {
       pub walked-listed : q < length points
       walked-listed = omega (arith, within, so .all .known .wanted fact (so .counted) .ends)
 
-      pub walked-before : Before points setters (tickAt points q) walk
+      pub walked-before : NotPast points setters (tickAt points q) walk
       walked-before =
           let group = so .all .known .setters fact (so .counted) in
           record {

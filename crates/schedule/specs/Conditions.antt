@@ -32,7 +32,7 @@ pub record Stands (points : List ℕ) (low : ℕ) (walk : Walk) : Type 0 where
   pub on : OfValue points (walk .place) (walk .on) 1
 
 -- a walk has not come past tick t
-pub record Before (points : List ℕ) (setters : Setters) (t : ℕ) (walk : Walk) : Type 0 where
+pub record NotPast (points : List ℕ) (setters : Setters) (t : ℕ) (walk : Walk) : Type 0 where
   pub ends : setters .high ≤ length points
   pub rises : Rising points (setters .low) (setters .high)
   pub to : walk .place ≤ setters .high

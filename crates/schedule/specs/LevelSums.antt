@@ -10,15 +10,13 @@ use Rattle.little_endian.specs.Bytes.{signBias}
 use Rattle.job.specs.Model.{Model}
 use Rattle.timeline.specs.Words.{numberAt, tickAt}
 use Rattle.timeline.specs.Placed.{Placed}
+use Rattle.timeline.specs.Sortable.{placeLimit}
 use Rattle.validity.specs.Ticks.{useTick}
 use Rattle.validity.specs.Levels.{rise, fall}
 use Rattle.points.specs.Points.{Using}
 use Rattle.schedule.specs.declared.levels.Sums.{Sums}
 
--- places are below this, and so no sum of rises or of falls, at most 2^31 a place, exceeds that
-abbrev pub placeLimit : ℕ
-placeLimit = 65536
-
+-- no sum of rises or of falls, at most 2^31 a place, exceeds this
 abbrev pub sumLimit : ℕ
 sumLimit = signBias * placeLimit
 

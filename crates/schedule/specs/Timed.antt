@@ -33,7 +33,7 @@ pub record Clear (m : Model) (x : ℕ → ℕ) : Type 0 where
   pub noneFails : m .conditions ≡ lowest (m .conditions) (conditionFails m x)
 
 -- a well-formed job and its points in order
-pub record Formed (m : Model) (x : ℕ → ℕ) (points begins : List ℕ) : Type 0 where
+pub record FormedPoints (m : Model) (x : ℕ → ℕ) (points begins : List ℕ) : Type 0 where
   pub form : WellFormed m
   pub known : PointsKnown m x points begins
 

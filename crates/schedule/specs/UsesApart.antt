@@ -11,8 +11,8 @@ abbrev pub Single : List ℕ → ℕ → ℕ → Type 0
 Single points low q = (p : ℕ) → low ≤ p → p < q → tickAt points p ≡ tickAt points q → stepAt points p ≡ stepAt points q → ⊥
 
 -- no two points from a place to another have one tick and one step
-abbrev pub Apart : List ℕ → ℕ → ℕ → Type 0
-Apart points low high = (q : ℕ) → q < high → Single points low q
+abbrev pub StepsApart : List ℕ → ℕ → ℕ → Type 0
+StepsApart points low high = (q : ℕ) → q < high → Single points low q
 
 -- the groups of the levels lie within the list of points, each in the order of its ticks
 pub record LevelsListed (facts levels : ℕ) (points begins : List ℕ) : Type 0 where
@@ -23,4 +23,4 @@ pub record LevelsListed (facts levels : ℕ) (points begins : List ℕ) : Type 0
 -- no step uses a level twice at one tick
 abbrev pub LevelsApart : ℕ → ℕ → List ℕ → List ℕ → Type 0
 LevelsApart facts levels points begins =
-    (l : ℕ) → l < levels → Apart points (getD begins (facts + facts + l) 0) (getD begins (facts + facts + l + 1) 0)
+    (l : ℕ) → l < levels → StepsApart points (getD begins (facts + facts + l) 0) (getD begins (facts + facts + l + 1) 0)

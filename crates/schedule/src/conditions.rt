@@ -12,7 +12,7 @@ ghost use Rattle.points.specs.Points.{Wanting};
 ghost use Rattle.schedule.specs.Contested.{contested, ScannedBefore};
 ghost use Rattle.schedule.specs.Noted.{Noted};
 ghost use Rattle.schedule.specs.Against.{OfValue, Rising};
-ghost use Rattle.schedule.specs.Conditions.{ConditionsKnown, ConditionAt, Before, Come};
+ghost use Rattle.schedule.specs.Conditions.{ConditionsKnown, ConditionAt, NotPast, Come};
 use crate::effects::opposed_from;
 use job::layout::Job;
 use job::records::fact_initial;
@@ -84,7 +84,7 @@ fn opposing_from(points: &[u64], from: usize, high: usize, value: u16) -> usize
 
 // Goes on to the first tick of a condition, and to the first point from there on that opposes it.
 fn walk_to(points: &[u64], setters: Setters, word: u64, walk: Walk) -> Walk
-    requires { ⌜ Before (now points) setters (wordTick word) walk ⌝ }
+    requires { ⌜ NotPast (now points) setters (wordTick word) walk ⌝ }
     ensures { λ r. ⌜ Come (now (points .entry)) setters (wordTick word) r ⌝ }
 {
     let from = Cursor {

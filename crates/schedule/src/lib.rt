@@ -13,7 +13,7 @@ ghost use Rattle.validity.specs.Checks.{ruleCheck, timingCheck, countCheck, sta
 ghost use Rattle.validity.specs.Promise.{JobPromise, SchedulePromise};
 ghost use Rattle.points.specs.Points.{PointsKnown};
 ghost use Rattle.points.specs.Words.{Small};
-ghost use Rattle.schedule.specs.Timed.{Ordered, Clear, Formed, Settled, settledCheck};
+ghost use Rattle.schedule.specs.Timed.{Ordered, Clear, FormedPoints, Settled, settledCheck};
 ghost use Rattle.schedule.specs.Opened.{Read, Opened, Planned};
 
 mod conditions;
@@ -60,7 +60,7 @@ fn check_settled(
 
 // Refusals 10 to 14.
 fn check_timing(s: &[u8], job: Job, starts: &[u32], points: &[u64], begins: &[u16]) -> Verdict
-    requires { ⌜ Formed (view job (now s)) (scheduleOf (now starts)) (now points) (now begins)
+    requires { ⌜ FormedPoints (view job (now s)) (scheduleOf (now starts)) (now points) (now begins)
         × (length (now starts) ≡ job .count .steps) ⌝ }
     ensures { λ r. ⌜ r ≡ timingCheck (view job (now (s .entry))) (scheduleOf (now (starts .entry))) ⌝ }
 {
@@ -85,7 +85,7 @@ fn check_starts(s: &[u8], job: Job, starts: &[u32]) -> Verdict
 
 // Refusals 8 to 14, of a well-formed job, rule by rule.
 fn check_formed(s: &[u8], job: Job, starts: &[u32], points: &[u64], begins: &[u16]) -> Verdict
-    requires { ⌜ Formed (view job (now s)) (scheduleOf (now starts)) (now points) (now begins) ⌝ }
+    requires { ⌜ FormedPoints (view job (now s)) (scheduleOf (now starts)) (now points) (now begins) ⌝ }
     ensures { λ r. ⌜ r ≡ startsCheck (view job (now (s .entry))) (now (starts .entry)) ⌝ }
 {
     let v = check_starts(s, job, starts);
@@ -97,7 +97,7 @@ fn check_formed(s: &[u8], job: Job, starts: &[u32], points: &[u64], begins: &[u1
 
 // Refusals 8, 9 and 12 to 14, where the walks found nothing else wrong.
 fn check_clear(s: &[u8], job: Job, starts: &[u32], points: &[u64], begins: &[u16]) -> Verdict
-    requires { ⌜ Formed (view job (now s)) (scheduleOf (now starts)) (now points) (now begins)
+    requires { ⌜ FormedPoints (view job (now s)) (scheduleOf (now starts)) (now points) (now begins)
         × Clear (view job (now s)) (scheduleOf (now starts)) ⌝ }
     ensures { λ r. ⌜ r ≡ startsCheck (view job (now (s .entry))) (now (starts .entry)) ⌝ }
 {

@@ -4,7 +4,7 @@ ghost use mathlib.Core.Bool.{false};
 ghost use Prim.Native.Nat.{_+_, _≤_, _<_};
 ghost use lib.ListN.{length};
 ghost use Rattle.schedule.specs.Against.{Rising};
-ghost use Rattle.schedule.specs.UsesApart.{Single, Apart, LevelsListed, LevelsApart};
+ghost use Rattle.schedule.specs.UsesApart.{Single, StepsApart, LevelsListed, LevelsApart};
 use timeline::word::begin_at;
 use timeline::word::step_of;
 use timeline::word::tick_of;
@@ -32,7 +32,7 @@ fn repeated(points: &[u64], low: usize, q: usize) -> bool
 // Whether two points from a place to another have one tick and one step.
 fn twice(points: &[u64], low: usize, high: usize) -> bool
     requires { ⌜ (high ≤ length (now points)) × Rising (now points) low high ⌝ }
-    ensures { λ r. ⌜ (r ≡ false → Apart (now (points .entry)) low high) ⌝ }
+    ensures { λ r. ⌜ (r ≡ false → StepsApart (now (points .entry)) low high) ⌝ }
 {
     let mut q = low;
     while q < high {

@@ -4,7 +4,7 @@ use native.Mathlib.Omega.{arith}
 use borrow.Author.Needs.{needs}
 use Rattle.job.specs.Model.{view}
 use Rattle.links.specs.Linkable.{Linkable}
-use Rattle.links.specs.Linking.{Between, LinksPut}
+use Rattle.links.specs.Linking.{FromTo, LinksPut}
 use Rattle.links.proofs.Putting.{links-size, links-room}
 use Rattle.links.proofs.Linking.{goals-start, goals-more, goals-end}
 use Rattle.links.proofs.support.link_goals.Statement.{statement}
@@ -16,7 +16,7 @@ link-goals-spec =
     (tie.spec
     (λ s job points begins links₀ g₀ links g.
     Linkable (view job s) points begins links₀ × (g ≤ job .count .goals)
-    × LinksPut (view job s) points begins (Between (job .count .conditions) (job .count .conditions + g)) links₀ links)
+    × LinksPut (view job s) points begins (FromTo (job .count .conditions) (job .count .conditions + g)) links₀ links)
     (λ s job points begins links₀ g₀ links g. job .count .goals - g)
     (λ c. (c .before .before .before .before .pre, omega arith, goals-start))
     (λ c κs. let i = c .before .before .loop .inv in (i .0 .form, i .0 .some, c .if1 .taken))

@@ -4,7 +4,7 @@ use mathlib.Core.Path.{refl}
 use native.Mathlib.Omega.{arith}
 use borrow.Author.Needs.{needs}
 use Rattle.laws.proofs.Search.{contrary}
-use Rattle.schedule.specs.UsesApart.{Apart}
+use Rattle.schedule.specs.UsesApart.{StepsApart}
 use Rattle.schedule.proofs.UsesApart.{apart-more}
 use Rattle.schedule.proofs.uses.twice.Statement.{statement}
 use Rattle.schedule.proofs.uses.twice.Tie as tie
@@ -13,7 +13,7 @@ pub twice-spec : {M : Type 1} → statement M
 twice-spec =
     tie.close
     (tie.spec
-    (λ points low high q₀ q. Apart points low q)
+    (λ points low high q₀ q. StepsApart points low q)
     (λ points low high q₀ q. high - q)
     (λ c q l p i g. absurd (omega arith))
     (λ c κs.
