@@ -25,7 +25,7 @@ pub const MOST_POINTS: usize = Job::CONDITIONS as usize
 
 pub const MOST_GROUPS: usize = 2 * Job::FACTS as usize + Job::LEVELS as usize;
 
-// How many a small job has at most: its lists are shorter, since clearing long ones would take most of its time.
+// How many a small job has at most: its lists are shorter, since it would hardly use the long ones that it clears.
 pub const FEW_POINTS: usize = 192;
 
 pub const FEW_GROUPS: usize = 80;
