@@ -39,7 +39,9 @@ module _ {f : ℕ → ℕ} where
       }
 
   -- those of P are those of Q
-  pub put-as : {P Q : ℕ → Type 0} {before list : List ℕ} → FilledWhere P f before list → ((k : ℕ) → P k → Q k) → ((k : ℕ) → Q k → P k) → FilledWhere Q f before list
+  pub put-as :
+      {P Q : ℕ → Type 0} {before list : List ℕ} → FilledWhere P f before list → ((k : ℕ) → P k → Q k) → ((k : ℕ) → Q k → P k)
+      → FilledWhere Q f before list
   put-as a p q = record { size = a .size; there = λ k h. a .there k (q k h); rest = λ k h. a .rest k (λ g. h (p k g)) }
 
   pub put-filled : {n : ℕ} {before list : List ℕ} → FilledWhere (λ k. k < n) f before list → Filled n f before list
