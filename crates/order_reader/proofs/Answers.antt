@@ -8,7 +8,7 @@ use borrow.Author.Tests.{not-true, not-false}
 use lib.Dec.{eqb}
 use Rattle.verdict.specs.Verdict.{nowhere}
 use Rattle.laws.proofs.Search.{either}
-use Rattle.order_file.specs.Contents.{Contents, signedGap}
+use Rattle.order_file.specs.Contents.{Contents}
 use Rattle.order_file.specs.Layout.{contentsOf}
 use Rattle.order_reader.specs.WellFormed.{wellFormed}
 use Rattle.order_reader.specs.Alike.{alikeContents}
@@ -17,7 +17,7 @@ use Rattle.order_reader.specs.Answers.{recordOf, recordThere, recordRead
 use Rattle.order_reader.specs.Answers.{alikeAnswer, alikeNumber, alikePlace, alikeYes, AlikePromise}
 use Rattle.order_reader.specs.declared.HeaderRead.{HeaderRead}
 use Rattle.order_reader.specs.declared.RecordRead.{RecordRead}
-use Rattle.order_reader.specs.declared.RecordRead.the-variants.{Window, Order, Link, Broken}
+use Rattle.order_reader.specs.declared.RecordRead.the-variants.{Broken}
 use Rattle.order_reader.specs.declared.AlikeAnswer.{AlikeAnswer}
 use Rattle.order_reader.specs.declared.AlikeAnswer.the-variants.{Alike, Different, FirstBroken, SecondBroken}
 
@@ -34,21 +34,17 @@ header-promise b r e =
     (either (wellFormed b))
 
 -- a record that is there is no refusal
-one-of : (P : RecordRead → Type 0) (a b : Bool) (w o l : RecordRead) → P w → P o → P l → P (cond a w (cond b o l))
-one-of P true b w o l x y z = x
-one-of P false true w o l x y z = y
-one-of P false false w o l x y z = z
-
 record-counts : (c : Contents) (table k : ℕ) → (recordNumber (recordOf c table k) ≡ 0) × (recordPlace (recordOf c table k) ≡ nowhere)
 unfolding recordOf
 record-counts c table k =
-    one-of (λ r. (recordNumber r ≡ 0) × (recordPlace r ≡ nowhere)) (eqb table 0) (eqb table 1)
-    (Window (c .limit k) (c .latest k) (c .earliest k))
-    (Order (c .first k) (c .second k) (signedGap (c .gap k)))
-    (Link (c .link k))
-    (refl, refl)
-    (refl, refl)
-    (refl, refl)
+    ⊎-elim
+    (λ (t : eqb table 0 ≡ true). (simp t, simp t))
+    (λ (f : eqb table 0 ≡ false).
+    ⊎-elim
+    (λ (t : eqb table 1 ≡ true). (simp (f, t), simp (f, t)))
+    (λ (g : eqb table 1 ≡ false). (simp (f, g), simp (f, g)))
+    (either (eqb table 1)))
+    (either (eqb table 0))
 
 pub record-promise : (b : List ℕ) (table k : ℕ) (r : RecordRead) → r ≡ recordRead b table k → RecordPromise b table k r
 unfolding recordRead

@@ -2,3 +2,4 @@
 pub mod WellFormed
 pub mod Alike
 pub mod Answers
+pub mod ReadBack
