@@ -53,13 +53,15 @@ gap-agrees c d a i k =
 
 -- contents that agree with what is filed of a valid schedule
 module _ (m : Model) (x : ℕ → ℕ) (w : WellFormed m) (v : Valid m x) (c : Contents) (a : Agree c (fileOf m x)) where
+  -- have its gaps
+  pub filed-gap : (i k : ℕ) → i < m .steps → k < m .steps → filedGap c i k ≡ gapOf m x i k
+  filed-gap i k h g = gap-agrees c (fileOf m x) a i k ∙ gap-filed m x w i k h g
+
   settled : (r : ℕ) → settledAfter c r ≡ unchanged (m .steps) (gapOf m x) gapBias (after (m .steps) (gapOf m x) gapBias (limitOf m) r)
   unfolding settledAfter fileOf
   settled r =
       ap (λ n. unchanged n (filedGap c) gapBias (after n (filedGap c) gapBias (c .limit) r)) (a .steps)
-      ∙ unchanged-same (m .steps) (filedGap c) (gapOf m x) gapBias (c .limit) (limitOf m)
-      (λ i k h g. gap-agrees c (fileOf m x) a i k ∙ gap-filed m x w i k h g)
-      (a .limit) r
+      ∙ unchanged-same (m .steps) (filedGap c) (gapOf m x) gapBias (c .limit) (limitOf m) filed-gap (a .limit) r
 
   counted : c .rounds ≡ roundsOf m x
   unfolding fileOf

@@ -1,7 +1,7 @@
 -- What loosening promises, of a job that the job check refuses and of one whose contents were filed. What was filed reads back, so a
 -- choice satisfies the file exactly if it satisfies its contents.
 use Prim.Native.Nat.{ℕ, _≤_, _<_}
-use mathlib.Core.Path.{_≡_, sym, ap, ap₂, _∙_, subst}
+use mathlib.Core.Path.{_≡_, refl, sym, ap, ap₂, _∙_, subst}
 use mathlib.Core.Bool.{true, false}
 use mathlib.Core.List.{List}
 use mathlib.Core.Logic.{inl, inr, ⊎-elim}
@@ -16,7 +16,7 @@ use Rattle.verdict.specs.declared.Verdict.{Verdict}
 use Rattle.verdict.specs.Verdict as verdict
 use Rattle.job.specs.Model.{Model, modelOf}
 use Rattle.job.specs.WellFormed.{WellFormed}
-use Rattle.validity.specs.Ticks.{planned}
+use Rattle.validity.specs.Ticks.{scheduleOf, planned}
 use Rattle.validity.specs.Valid.{Valid}
 use Rattle.validity.specs.Promise.{Sound, JobPromise}
 use Rattle.order_file.specs.Contents.{Contents}
@@ -27,6 +27,8 @@ use Rattle.order_file.specs.Agree.{Agree}
 use Rattle.order_file.specs.Satisfies.{Satisfies, SatisfiesFile}
 use Rattle.order_file.proofs.RoundTrip.{round-trip}
 use Rattle.order_reader.proofs.WellFormed.{encode-well-formed}
+use Rattle.order_reader.proofs.ReadBack.{encoded-read-back}
+use Rattle.validity.proofs.Accepted.{schedule-promise}
 use Rattle.partialize.specs.declared.answer.Answer.{Answer}
 use Rattle.partialize.specs.declared.answer.Answer.the-variants.{Filed, Refused, BufferTooShort}
 use Rattle.partialize.specs.Answer.{number, lengthOf}
@@ -39,7 +41,7 @@ use Rattle.orders.proofs.Sound.{obeying-valid}
 use Rattle.orders.proofs.End.{same-end}
 use Rattle.orders.proofs.Satisfied.{satisfies-obeys, planned-satisfies, earliest-first, earliest-planned, earliest-satisfies}
 use Rattle.orders.proofs.Within.{file-within}
-use Rattle.partialize.proofs.Counted.{some-counted, last-counted, earlier-counted}
+use Rattle.partialize.proofs.Counted.{filed-gap, some-counted, last-counted, earlier-counted}
 
 -- contents that agree are satisfied alike
 module _ (c d : Contents) (a : Agree c d) (y : ℕ → ℕ) where
@@ -104,9 +106,14 @@ module _ (s : List ℕ) (p : Sound s (planned (modelOf s))) where
   unfolding looseOf
   exact-file =
       let m = modelOf s in
+      let x : ℕ → ℕ = planned m in
+      let w = file-within m x (p .wellFormed) (p .valid) in
+      let a = read-back m x (p .wellFormed) (p .valid) in
       record {
-        readable = encode-well-formed (looseOf s) (file-within m (planned m) (p .wellFormed) (p .valid));
-        contents = read-back m (planned m) (p .wellFormed) (p .valid);
+        readable = encode-well-formed (looseOf s) w;
+        contents = a;
+        returned = encoded-read-back (looseOf s) w;
+        gaps = filed-gap m x (p .wellFormed) (p .valid) (contentsOf (encode (looseOf s))) a;
       }
 
   loose-file : Loose s (encode (looseOf s))
@@ -118,6 +125,9 @@ module _ (s : List ℕ) (p : Sound s (planned (modelOf s))) where
       let v = p .valid in
       record {
         valid = λ y h. obeying-valid m x y w v (file-obeys m x w v y h);
+        accepted = λ starts e h.
+            schedule-promise s starts refl .complete e
+            (record { form = p .form; wellFormed = w; valid = obeying-valid m x (scheduleOf starts) w v (file-obeys m x w v (scheduleOf starts) h) });
         sameEnd = λ y h. same-end m x y w v (file-obeys m x w v y h);
         atOrAfter = λ y h k l. omega (arith, earliest-filed m x w v k l, earliest-first m x w v y (file-obeys m x w v y h) k l);
         earliestSatisfy = filed-satisfies m x w v;

@@ -7,8 +7,10 @@ use mathlib.Core.Logic.{_⊎_}
 use lib.ListN.{length, take}
 use lib.Dec.{leb}
 use Rattle.laws.specs.Fold.{largest}
+use Rattle.verdict.specs.Verdict as verdict
 use Rattle.job.specs.Model.{modelOf}
-use Rattle.validity.specs.Ticks.{planned}
+use Rattle.validity.specs.Ticks.{scheduleOf, planned}
+use Rattle.validity.specs.Checks.{scheduleCheck}
 use Rattle.validity.specs.Valid.{Valid}
 use Rattle.validity.specs.EndState.{SameEnd}
 use Rattle.validity.specs.Promise.{Sound}
@@ -17,6 +19,8 @@ use Rattle.order_file.specs.Encode.{encode}
 use Rattle.order_file.specs.Agree.{Agree}
 use Rattle.order_file.specs.Layout.{contentsOf}
 use Rattle.order_reader.specs.WellFormed.{wellFormed}
+use Rattle.order_reader.specs.ReadBack.{ReadBack}
+use Rattle.orders.specs.Gaps.{gapOf}
 use Rattle.order_file.specs.Satisfies.{SatisfiesFile}
 use Rattle.partialize.specs.declared.answer.Answer.{Answer}
 use Rattle.partialize.specs.declared.answer.Answer.the-variants.{Filed, BufferTooShort}
@@ -27,14 +31,20 @@ use Rattle.gaps.specs.Table.{single}
 use Rattle.order_file.specs.Held.{over}
 use Rattle.partialize.specs.Partialization.{looseOf, answerTo, bufferAfter}
 
+-- the gap of the filed order from i to k plus the bias, 0 where none is filed
+unfoldable pub filedGap : Contents → ℕ → ℕ → ℕ
+filedGap c i k = largest (c .orders) (λ o. single (c .first o) (c .second o) (c .gap o) i k)
+
 -- demand 2: the file passes the reader and holds exactly the supporters, orders and start limits of the rules
 pub record Exact (s file : List ℕ) : Type 0 where
   pub readable : wellFormed file ≡ true
   pub contents : Agree (contentsOf file) (looseOf s)
-
--- the gap of the filed order from i to k plus the bias, 0 where none is filed
-unfoldable pub filedGap : Contents → ℕ → ℕ → ℕ
-filedGap c i k = largest (c .orders) (λ o. single (c .first o) (c .second o) (c .gap o) i k)
+  -- reading it returns them all, and nothing else
+  pub returned : ReadBack (looseOf s) file
+  -- the orders filed between two steps have the gap of the rules, and none is filed where the rules give none
+  pub gaps :
+    (i k : ℕ) → i < modelOf s .steps → k < modelOf s .steps
+    → filedGap (contentsOf file) i k ≡ gapOf (modelOf s) (planned (modelOf s)) i k
 
 -- whether one more round changes nothing, after r rounds over the filed orders that begin with the filed limits
 unfoldable pub settledAfter : Contents → ℕ → Bool
@@ -45,6 +55,10 @@ pub record Loose (s file : List ℕ) : Type 0 where
   -- no condition fails, no opposing effects meet, no level passes a bound, no goal or deadline is missed, no serial steps overlap,
   -- every fixed step keeps its tick
   pub valid : (y : ℕ → ℕ) → SatisfiesFile file y → Valid (modelOf s) y
+  -- so the timing check accepts a list of such starts
+  pub accepted :
+      (starts : List ℕ) → length starts ≡ modelOf s .steps → SatisfiesFile file (scheduleOf starts)
+      → verdict.number (scheduleCheck s starts) ≡ 0
   -- the end state is that of the job's own timing
   pub sameEnd : (y : ℕ → ℕ) → SatisfiesFile file y → SameEnd (modelOf s) y (planned (modelOf s))
   -- the printed earliest times are the least
