@@ -2,15 +2,15 @@
 -- choice satisfies the file exactly if it satisfies its contents.
 use Prim.Native.Nat.{ℕ, _≤_, _<_}
 use mathlib.Core.Path.{_≡_, refl, sym, ap, ap₂, _∙_, subst}
-use mathlib.Core.Bool.{true, false}
+use mathlib.Core.Bool.{Bool, true, false, cond, _&&_}
 use mathlib.Core.List.{List}
 use mathlib.Core.Logic.{inl, inr, ⊎-elim}
 use native.Mathlib.Omega.{arith}
 use borrow.Author.Tests.{eq-eqb, ne-eqb}
 use lib.ListN.{length, take, drop}
-use lib.Dec.{leb}
+use lib.Dec.{leb, eqb}
 use lib.Seq.{take-append-seam}
-use Rattle.laws.proofs.Search.{either}
+use Rattle.laws.proofs.Search.{either, contrary}
 use Rattle.laws.proofs.Listed.{getD-tabulate}
 use Rattle.verdict.specs.declared.Verdict.{Verdict}
 use Rattle.verdict.specs.Verdict as verdict
@@ -18,6 +18,7 @@ use Rattle.job.specs.Model.{Model, modelOf}
 use Rattle.job.specs.WellFormed.{WellFormed}
 use Rattle.validity.specs.Ticks.{scheduleOf, planned}
 use Rattle.validity.specs.Valid.{Valid}
+use Rattle.validity.specs.Checks.{jobCheck}
 use Rattle.validity.specs.Promise.{Sound, JobPromise}
 use Rattle.order_file.specs.Contents.{Contents}
 use Rattle.order_file.specs.Layout.{contentsOf}
@@ -31,7 +32,7 @@ use Rattle.order_reader.proofs.ReadBack.{encoded-read-back}
 use Rattle.validity.proofs.Accepted.{schedule-promise}
 use Rattle.partialize.specs.declared.answer.Answer.{Answer}
 use Rattle.partialize.specs.declared.answer.Answer.the-variants.{Filed, Refused, BufferTooShort}
-use Rattle.partialize.specs.Answer.{number, lengthOf}
+use Rattle.partialize.specs.Answer.{number, place, lengthOf}
 use Rattle.orders.specs.Obeys.{Obeys}
 use Rattle.orders.specs.File.{earliestOf, fileOf}
 use Rattle.order_file.specs.Held.{over}
@@ -140,18 +141,64 @@ module _ (s : List ℕ) (p : Sound s (planned (modelOf s))) where
         earlierChanges = earlier-counted m x w v (contentsOf (encode (fileOf m x))) (read-back m x w v);
       }
 
+-- the number, the place and the length of an answer, by the cases of its definition
+answer-cases : (a f : Bool) (n : ℕ) (v : Verdict) → let r = cond a (cond f (Filed n) BufferTooShort) (Refused v) in
+    (number r ≡ cond a (cond f 0 15) (verdict.number v)) × (place r ≡ cond a verdict.nowhere (verdict.place v)) × (lengthOf r ≡ cond (a && f) n 0)
+answer-cases true true n v = (refl, refl, refl)
+answer-cases true false n v = (refl, refl, refl)
+answer-cases false f n v = (refl, refl, refl)
+
+-- a refusal is that of the job check
+refusal : Answer → Bool
+refusal (Filed n) = false
+refusal (Refused v) = true
+refusal BufferTooShort = false
+
+refusal-number : (a f : Bool) (n : ℕ) (v u : Verdict) → a ≡ eqb (verdict.number v) 0
+    → cond a (cond f (Filed n) BufferTooShort) (Refused v) ≡ Refused u → verdict.number u ≡ 0 → ⊥
+unfolding refusal
+refusal-number true true n v u q e z = contrary refl (sym (ap refusal e))
+refusal-number true false n v u q e z = contrary refl (sym (ap refusal e))
+refusal-number false f n v u q e z = contrary (eq-eqb _ _ (ap number e ∙ z)) (sym q)
+
+module _ (s before : List ℕ) (r : Answer) (e : r ≡ answerTo s (length before)) where
+  numbered : number r ≡ cond (accepts s) (cond (fits s (length before)) 0 15) (verdict.number (jobCheck s))
+  unfolding answerTo
+  numbered = ap number e ∙ answer-cases (accepts s) (fits s (length before)) (length (fileBytes s)) (jobCheck s) .0
+
+  placed : place r ≡ cond (accepts s) verdict.nowhere (verdict.place (jobCheck s))
+  unfolding answerTo
+  placed = ap place e ∙ answer-cases (accepts s) (fits s (length before)) (length (fileBytes s)) (jobCheck s) .1
+
+  measured : lengthOf r ≡ cond (accepts s && fits s (length before)) (length (fileBytes s)) 0
+  unfolding answerTo
+  measured = ap lengthOf e ∙ answer-cases (accepts s) (fits s (length before)) (length (fileBytes s)) (jobCheck s) .2
+
+  truly-refused : (v : Verdict) → r ≡ Refused v → verdict.number v ≡ 0 → ⊥
+  unfolding answerTo accepts
+  truly-refused v q = refusal-number (accepts s) (fits s (length before)) (length (fileBytes s)) (jobCheck s) v refl (sym e ∙ q)
+
 module _ (s before : List ℕ) (v : Verdict) (j : JobPromise s v) where
   -- a refusal of the job check
   refuses : (verdict.number v ≡ 0 → ⊥) → accepts s ≡ false
   unfolding accepts
   refuses n = ne-eqb _ _ (λ e. n (ap verdict.number (j .answer) ∙ e))
 
+  refused-answer : (verdict.number v ≡ 0 → ⊥) → Refused v ≡ answerTo s (length before)
+  unfolding answerTo
+  refused-answer n = rw (refuses n) (ap Refused (j .answer))
+
   pub refused-promise : (verdict.number v ≡ 0 → ⊥) → Promise s before before (Refused v)
-  unfolding answerTo bufferAfter
+  unfolding bufferAfter
   refused-promise n =
+      let a = refused-answer n in
       record {
-        answer = rw (refuses n) (ap Refused (j .answer));
+        answer = a;
         buffer = rw (refuses n);
+        number = numbered s before (Refused v) a;
+        place = placed s before (Refused v) a;
+        length = measured s before (Refused v) a;
+        refused = truly-refused s before (Refused v) a;
         sound = λ e. absurd (n e);
         complete = λ h. absurd (n (j .complete h));
         exact = λ e. absurd (n e);
@@ -183,6 +230,10 @@ module _ (s before after : List ℕ) (v : Verdict) (r : Answer) (j : JobPromise 
       record {
         answer = answered;
         buffer = buffered;
+        number = numbered s before r answered;
+        place = placed s before r answered;
+        length = measured s before r answered;
+        refused = truly-refused s before r answered;
         sound = λ _. j .sound z;
         complete = λ _. inl (ap number e);
         exact = λ _. subst (Exact s) (sym f) (exact-file s (j .sound z));
@@ -199,6 +250,10 @@ module _ (s before after : List ℕ) (v : Verdict) (r : Answer) (j : JobPromise 
       record {
         answer = answered;
         buffer = buffered;
+        number = numbered s before r answered;
+        place = placed s before r answered;
+        length = measured s before r answered;
+        refused = truly-refused s before r answered;
         sound = λ n. absurd (short e n);
         complete = λ _. inr e;
         exact = λ n. absurd (short e n);

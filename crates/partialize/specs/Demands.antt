@@ -1,16 +1,17 @@
 -- What loosening promises of the file that it wrote, one field a clause of the user's demands.
 use Prim.Native.Nat.{ℕ, suc, _≤_, _<_}
 use mathlib.Core.Path.{_≡_}
-use mathlib.Core.Bool.{Bool, true, false, cond}
+use mathlib.Core.Bool.{Bool, true, false, cond, _&&_}
 use mathlib.Core.List.{List}
 use mathlib.Core.Logic.{_⊎_}
 use lib.ListN.{length, take}
 use lib.Dec.{leb}
 use Rattle.laws.specs.Fold.{largest}
+use Rattle.verdict.specs.declared.Verdict.{Verdict}
 use Rattle.verdict.specs.Verdict as verdict
 use Rattle.job.specs.Model.{modelOf}
 use Rattle.validity.specs.Ticks.{scheduleOf, planned}
-use Rattle.validity.specs.Checks.{scheduleCheck}
+use Rattle.validity.specs.Checks.{jobCheck, scheduleCheck}
 use Rattle.validity.specs.Valid.{Valid}
 use Rattle.validity.specs.EndState.{SameEnd}
 use Rattle.validity.specs.Promise.{Sound}
@@ -23,13 +24,13 @@ use Rattle.order_reader.specs.ReadBack.{ReadBack}
 use Rattle.orders.specs.Gaps.{gapOf}
 use Rattle.order_file.specs.Satisfies.{SatisfiesFile}
 use Rattle.partialize.specs.declared.answer.Answer.{Answer}
-use Rattle.partialize.specs.declared.answer.Answer.the-variants.{Filed, BufferTooShort}
-use Rattle.partialize.specs.Answer.{number, lengthOf}
+use Rattle.partialize.specs.declared.answer.Answer.the-variants.{Filed, Refused, BufferTooShort}
+use Rattle.partialize.specs.Answer.{number, place, lengthOf}
 use Rattle.rounds.specs.Rounds.{after, unchanged}
 use Rattle.order_file.specs.Contents.{gapBias}
 use Rattle.gaps.specs.Table.{single}
 use Rattle.order_file.specs.Held.{over}
-use Rattle.partialize.specs.Partialization.{looseOf, answerTo, bufferAfter}
+use Rattle.partialize.specs.Partialization.{looseOf, fileBytes, accepts, fits, answerTo, bufferAfter}
 
 -- the gap of the filed order from i to k plus the bias, 0 where none is filed
 unfoldable pub filedGap : Contents → ℕ → ℕ → ℕ
@@ -91,3 +92,9 @@ pub record Promise (s before after : List ℕ) (r : Answer) : Type 0 where
   pub complete : Sound s (planned (modelOf s)) → (number r ≡ 0) ⊎ (r ≡ BufferTooShort)
   pub exact : number r ≡ 0 → Exact s (take (lengthOf r) after)
   pub loose : number r ≡ 0 → Loose s (take (lengthOf r) after)
+  -- no refusal says accepted
+  pub refused : (v : Verdict) → r ≡ Refused v → verdict.number v ≡ 0 → ⊥
+  -- the number, the place and the length, 0 for a refusal
+  pub number : number r ≡ cond (accepts s) (cond (fits s (length before)) 0 15) (verdict.number (jobCheck s))
+  pub place : place r ≡ cond (accepts s) verdict.nowhere (verdict.place (jobCheck s))
+  pub length : lengthOf r ≡ cond (accepts s && fits s (length before)) (length (fileBytes s)) 0
