@@ -1,13 +1,13 @@
 -- The numbers that the readers of order files put into a lent list, and the list afterwards.
 use Prim.Native.Nat.{ℕ, suc, _-_}
 use mathlib.Core.Bool.{cond}
-use mathlib.Core.List.{List, [], _∷_, _++_}
+use mathlib.Core.List.{List, [], _++_, map}
 use lib.Dec.{eqb}
 use lib.IntN.{ℤ, pos, negsuc}
 use lib.ListN.{length, take, drop}
 use Rattle.little_endian.specs.Bytes.{values}
 use Rattle.order_reader.specs.declared.HeaderRead.{HeaderRead}
-use Rattle.order_reader.specs.Answers.{headerNumber, headerValues}
+use Rattle.order_reader.specs.Answers.{headerNumber, headerValues, recordValues}
 use Rattle.order_reader.specs.declared.RecordRead.{RecordRead}
 use Rattle.order_reader.specs.declared.RecordRead.the-variants as recorded
 
@@ -24,9 +24,13 @@ bits (negsuc n) = values - suc n
 abbrev pub headerList : HeaderRead → List ℕ
 headerList a = cond (eqb (headerNumber a) 0) (headerValues a) []
 
--- a record's numbers; none after a refusal
+-- how many numbers a record has; none after a refusal
+abbrev pub recordSize : RecordRead → ℕ
+recordSize (recorded.Window limit latest earliest) = 3
+recordSize (recorded.Order first second gap) = 3
+recordSize (recorded.Link link) = 1
+recordSize recorded.Broken = 0
+
+-- a record's numbers
 abbrev pub recordList : RecordRead → List ℕ
-recordList (recorded.Window limit latest earliest) = limit ∷ latest ∷ earliest ∷ []
-recordList (recorded.Order first second gap) = first ∷ second ∷ bits gap ∷ []
-recordList (recorded.Link link) = link ∷ []
-recordList recorded.Broken = []
+recordList a = take (recordSize a) (map bits (recordValues a))
