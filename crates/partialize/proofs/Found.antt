@@ -24,8 +24,7 @@ use Rattle.gaps.specs.Table.{TableOf}
 use Rattle.links.specs.LinkList.{LinksOf}
 use Rattle.orders.specs.File.{fileOf}
 use Rattle.order_file.specs.Held.{entered, heldIn, over, NoneFrom}
-use Rattle.partialize.specs.Holds.{Holds}
-use Rattle.partialize.specs.Demands.{Filing}
+use Rattle.partialize.specs.Holds.{Holds, Filing}
 use Rattle.rounds.proofs.Same.{rounds-same, earliest-same}
 use Rattle.partialize.proofs.Filed.{held-file}
 

@@ -37,7 +37,8 @@ use Rattle.orders.specs.Obeys.{Obeys}
 use Rattle.orders.specs.File.{earliestOf, fileOf}
 use Rattle.order_file.specs.Held.{over}
 use Rattle.partialize.specs.Partialization.{looseOf, fileBytes, accepts, fits, answerTo, bufferAfter}
-use Rattle.partialize.specs.Demands.{Exact, Loose, Filing, Promise}
+use Rattle.partialize.specs.Demands.{Exact, Loose, Promise}
+use Rattle.partialize.specs.Holds.{Filing}
 use Rattle.orders.proofs.Sound.{obeying-valid}
 use Rattle.orders.proofs.End.{same-end}
 use Rattle.orders.proofs.Satisfied.{satisfies-obeys, planned-satisfies, earliest-first, earliest-planned, earliest-satisfies}

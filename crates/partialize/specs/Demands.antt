@@ -5,7 +5,6 @@ use mathlib.Core.Bool.{Bool, true, false, cond, _&&_}
 use mathlib.Core.List.{List}
 use mathlib.Core.Logic.{_⊎_}
 use lib.ListN.{length, take}
-use lib.Dec.{leb}
 use Rattle.laws.specs.Fold.{largest}
 use Rattle.verdict.specs.declared.Verdict.{Verdict}
 use Rattle.verdict.specs.Verdict as verdict
@@ -15,8 +14,7 @@ use Rattle.validity.specs.Checks.{jobCheck, scheduleCheck}
 use Rattle.validity.specs.Valid.{Valid}
 use Rattle.validity.specs.EndState.{SameEnd}
 use Rattle.validity.specs.Promise.{Sound}
-use Rattle.order_file.specs.Contents.{Contents}
-use Rattle.order_file.specs.Encode.{encode}
+use Rattle.order_file.specs.Contents.{Contents, gapBias}
 use Rattle.order_file.specs.Agree.{Agree}
 use Rattle.order_file.specs.Layout.{contentsOf}
 use Rattle.order_reader.specs.WellFormed.{wellFormed}
@@ -24,12 +22,10 @@ use Rattle.order_reader.specs.ReadBack.{ReadBack}
 use Rattle.orders.specs.Gaps.{gapOf}
 use Rattle.order_file.specs.Satisfies.{SatisfiesFile}
 use Rattle.partialize.specs.declared.answer.Answer.{Answer}
-use Rattle.partialize.specs.declared.answer.Answer.the-variants.{Filed, Refused, BufferTooShort}
+use Rattle.partialize.specs.declared.answer.Answer.the-variants.{Refused, BufferTooShort}
 use Rattle.partialize.specs.Answer.{number, place, lengthOf}
 use Rattle.rounds.specs.Rounds.{after, unchanged}
-use Rattle.order_file.specs.Contents.{gapBias}
 use Rattle.gaps.specs.Table.{single}
-use Rattle.order_file.specs.Held.{over}
 use Rattle.partialize.specs.Partialization.{looseOf, fileBytes, accepts, fits, answerTo, bufferAfter}
 
 -- the gap of the filed order from i to k plus the bias, 0 where none is filed
@@ -44,8 +40,8 @@ pub record Exact (s file : List ℕ) : Type 0 where
   pub returned : ReadBack (looseOf s) file
   -- the orders filed between two steps have the gap of the rules, and none is filed where the rules give none
   pub gaps :
-    (i k : ℕ) → i < modelOf s .steps → k < modelOf s .steps
-    → filedGap (contentsOf file) i k ≡ gapOf (modelOf s) (planned (modelOf s)) i k
+      (i k : ℕ) → i < modelOf s .steps → k < modelOf s .steps
+      → filedGap (contentsOf file) i k ≡ gapOf (modelOf s) (planned (modelOf s)) i k
 
 -- whether one more round changes nothing, after r rounds over the filed orders that begin with the filed limits
 unfoldable pub settledAfter : Contents → ℕ → Bool
@@ -77,11 +73,6 @@ pub record Loose (s file : List ℕ) : Type 0 where
   pub lastUnchanged : (r : ℕ) → suc r ≡ contentsOf file .rounds → settledAfter (contentsOf file) r ≡ true
   -- and every earlier one changes some start
   pub earlierChanges : (r : ℕ) → suc r < contentsOf file .rounds → settledAfter (contentsOf file) r ≡ false
-
--- the answer and the buffer where contents c are to be filed: the file's length and the file, or 15 and no change
-pub record Filing (c : Contents) (before after : List ℕ) (r : Answer) : Type 0 where
-  pub answer : r ≡ cond (leb (length (encode c)) (length before)) (Filed (length (encode c))) BufferTooShort
-  pub buffer : after ≡ cond (leb (length (encode c)) (length before)) (over (encode c) before) before
 
 -- what loosening promises of its answer and of the buffer at exit
 pub record Promise (s before after : List ℕ) (r : Answer) : Type 0 where

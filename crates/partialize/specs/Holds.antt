@@ -1,13 +1,16 @@
--- Inner: lists of links and gaps to be filed, and lists that hold what is filed.
+-- Inner: lists of links and gaps to be filed, lists that hold what is filed, and the answer and the buffer once it is filed.
 use Prim.Native.Nat.{ℕ, _+_, _<_}
 use mathlib.Core.Path.{_≡_}
+use mathlib.Core.Bool.{cond}
 use mathlib.Core.List.{List}
 use lib.ListN.{length, getD}
+use lib.Dec.{leb}
 use Rattle.job.specs.Model.{Model}
 use Rattle.job.specs.WellFormed.{WellFormed}
-use Rattle.order_file.specs.Contents.{linkLimit}
+use Rattle.order_file.specs.Contents.{Contents, linkLimit}
+use Rattle.order_file.specs.Encode.{encode}
 use Rattle.order_file.specs.Table.{rowWidth, gapIn, startIn, Gaps}
-use Rattle.order_file.specs.Held.{NoneFrom}
+use Rattle.order_file.specs.Held.{NoneFrom, over}
 use Rattle.orders.specs.Links.{conditionLink, goalLink}
 use Rattle.orders.specs.Gaps.{gapOf}
 use Rattle.orders.specs.Windows.{limitOf, latestOf}
@@ -15,7 +18,7 @@ use Rattle.orders.specs.File.{roundsOf, earliestOf, fileOf}
 use Rattle.links.specs.LinkList.{LinksOf}
 use Rattle.gaps.specs.Table.{TableOf}
 use Rattle.partialize.specs.declared.answer.Answer.{Answer}
-use Rattle.partialize.specs.Demands.{Filing}
+use Rattle.partialize.specs.declared.answer.Answer.the-variants.{Filed, BufferTooShort}
 
 -- lists that hold what is filed of a job
 pub record Holds (m : Model) (x : ℕ → ℕ) (rounds : ℕ) (limits latest earliest gaps linked : List ℕ) : Type 0 where
@@ -35,6 +38,11 @@ pub record Fileable (m : Model) (links gaps : List ℕ) : Type 0 where
   pub table : Gaps gaps
   pub linkCount : length links ≡ linkLimit
   pub rows : NoneFrom (m .steps) gaps
+
+-- the answer and the buffer where contents c are to be filed: the file's length and the file, or 15 and no change
+pub record Filing (c : Contents) (before after : List ℕ) (r : Answer) : Type 0 where
+  pub answer : r ≡ cond (leb (length (encode c)) (length before)) (Filed (length (encode c))) BufferTooShort
+  pub buffer : after ≡ cond (leb (length (encode c)) (length before)) (over (encode c) before) before
 
 -- what is filed of links and gaps, whatever schedule they belong to
 abbrev pub FiledOf : Model → List ℕ → List ℕ → List ℕ → List ℕ → Answer → Type 0

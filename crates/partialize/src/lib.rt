@@ -6,8 +6,8 @@ ghost use Rattle.schedule.specs.Opened.{Planned};
 ghost use Rattle.points.specs.Words.{Small};
 ghost use Rattle.gaps.specs.Raised.{ValidPoints};
 ghost use Rattle.partialize.specs.Formed.{Formed};
-ghost use Rattle.partialize.specs.Holds.{Fileable, FiledOf};
-ghost use Rattle.partialize.specs.Demands.{Filing, Promise};
+ghost use Rattle.partialize.specs.Holds.{Fileable, Filing, FiledOf};
+ghost use Rattle.partialize.specs.Demands.{Promise};
 
 pub mod answer;
 
