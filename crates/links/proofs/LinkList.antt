@@ -11,7 +11,8 @@ use Rattle.job.specs.WellFormed.{WellFormed}
 use Rattle.validity.specs.Valid.{Valid}
 use Rattle.orders.specs.Links.{conditionLink, goalLink, nthLink}
 use Rattle.links.specs.LinkList.{LinksOf, Named}
-use Rattle.orders.proofs.Links.{Linked, initially, produced, condition-linked}
+use Rattle.orders.specs.Supporter.{byInitialState, byEffect, ConditionLinkedTo}
+use Rattle.orders.proofs.Supporter.{condition-supported}
 
 module _ (m : Model) (x : ℕ → ℕ) (links : List ℕ) (w : LinksOf m x links) where
   pub condition-link : (c : ℕ) → c < m .conditions → getD links c 0 ≡ conditionLink m x c
@@ -29,10 +30,8 @@ module _ (m : Model) (x : ℕ → ℕ) (links : List ℕ) (w : LinksOf m x links
       ∙ ap (goalLink m x) e
 
   pub valid-named : WellFormed m → Valid m x → Named m links
-  valid-named f v c h d = named (condition-linked m x f v c h)
+  valid-named f v c h d = named (condition-supported m x f v c h)
     where
-      named :
-          Linked m x (m .conditionFact c) (m .conditionValue c) (x (m .conditionStep c) + m .conditionFrom c) (conditionLink m x c) → getD links c
-          0 < m .effects
-      named (initially e _ _) = absurd (d (condition-link c h ∙ e))
-      named (produced g _ _) = rw (condition-link c h) (g .known)
+      named : ConditionLinkedTo m x c (conditionLink m x c) → getD links c 0 < m .effects
+      named (byInitialState e _) = absurd (d (condition-link c h ∙ e))
+      named (byEffect _ p) = rw (condition-link c h) (p .candidate .known)

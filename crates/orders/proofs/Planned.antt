@@ -21,9 +21,11 @@ use Rattle.orders.specs.Links.{conditionLink, goalLink}
 use Rattle.orders.specs.Gaps.{strictly, supportOrder, supportGap, opposingOrder, opposingGap, beforeOrder, afterOrder, conditionGap}
 use Rattle.orders.specs.Gaps.{levelOrder, levelGap, serialGap, gapOf}
 use Rattle.orders.specs.Windows.{limitOf, allowed, latestOf}
+use Rattle.orders.specs.Supporter.{byInitialState, byEffect, ConditionLinkedTo}
 use Rattle.orders.specs.Obeys.{Obeys}
 use Rattle.orders.proofs.Orders.{room}
-use Rattle.orders.proofs.Links.{Linked, initially, produced, least-at, condition-linked, goal-link-in-time}
+use Rattle.orders.proofs.Supporter.{least-at, condition-supported}
+use Rattle.orders.proofs.Links.{goal-link-in-time}
 use Rattle.orders.proofs.Limits.{limit-fixed, limit-free, latest-fixed, latest-free}
 
 -- a gap that its test chooses fits where the test's parts make it fit
@@ -48,13 +50,11 @@ ordered x i k j n p q c =
 module _ (m : Model) (x : ℕ → ℕ) (w : WellFormed m) (s : Valid m x) where
   link-before :
       (c : ℕ) → c < m .conditions → (conditionLink m x c ≡ initialState → ⊥) → effectTick m x (conditionLink m x c) < firstTick m x c
-  link-before c h n = by (condition-linked m x w s c h)
+  link-before c h n = by (condition-supported m x w s c h)
     where
-      by :
-          Linked m x (m .conditionFact c) (m .conditionValue c) (firstTick m x c) (conditionLink m x c)
-          → effectTick m x (conditionLink m x c) < firstTick m x c
-      by (initially z i o) = absurd (n z)
-      by (produced g l o) = l
+      by : ConditionLinkedTo m x c (conditionLink m x c) → effectTick m x (conditionLink m x c) < firstTick m x c
+      by (byInitialState z i) = absurd (n z)
+      by (byEffect o p) = p .inTime
 
   support-fits : (i k : ℕ) → supportGap m x i k ≤ room x i k
   unfolding supportGap supportOrder

@@ -21,9 +21,11 @@ use Rattle.validity.proofs.Levels.{Within, rises-within, falls-within, last-use
 use Rattle.order_file.specs.Contents.{initialState, noLatest}
 use Rattle.orders.specs.Links.{conditionLink, goalLink}
 use Rattle.orders.specs.Windows.{allowed, latestOf}
+use Rattle.orders.specs.Supporter.{byInitialState, byEffect, ConditionLinkedTo, GoalLinkedTo}
 use Rattle.orders.specs.Obeys.{Obeys}
 use Rattle.orders.proofs.Orders.{Opposer, kept-opposing, kept-support, kept-before, kept-after, kept-uses, kept-serial}
-use Rattle.orders.proofs.Links.{Linked, initially, produced, condition-linked, goal-linked, goal-link-in-time}
+use Rattle.orders.proofs.Supporter.{giver, giver-opposes, condition-supported, goal-supported}
+use Rattle.orders.proofs.Links.{goal-link-in-time}
 use Rattle.orders.proofs.Limits.{limit-fixed, latest-fixed, latest-free, allowed-linked}
 
 module _ (m : Model) (x y : ℕ → ℕ) (w : WellFormed m) (s : Valid m x) (o : Obeys m x y) where
@@ -121,19 +123,22 @@ module _ (m : Model) (x y : ℕ → ℕ) (w : WellFormed m) (s : Valid m x) (o :
 
   condition-seen :
       (c t : ℕ) → c < m .conditions → firstTick m y c ≤ t → t ≤ lastTick m y c → seen m y (m .conditionFact c) t ≡ m .conditionValue c
-  condition-seen c t h l r = by (condition-linked m x w s c h)
+  condition-seen c t h l r = by (condition-supported m x w s c h)
     where
-      by :
-          Linked m x (m .conditionFact c) (m .conditionValue c) (firstTick m x c) (conditionLink m x c)
-          → seen m y (m .conditionFact c) t ≡ m .conditionValue c
-      by (initially z i n) =
-          seen-by-initial m y (m .conditionFact c) (m .conditionValue c) t (w .conditionValue c h) i
-          (λ f g k. n f g (opposed-before c f h g (omega arith)))
-      by (produced g b n) =
+      by : ConditionLinkedTo m x c (conditionLink m x c) → seen m y (m .conditionFact c) t ≡ m .conditionValue c
+      by (byInitialState z i) =
+          seen-by-initial m y (m .conditionFact c) (m .conditionValue c) t (w .conditionValue c h) (i .wanted)
+          (λ f g k. i .unopposed f (g .known) (giver-opposes m _ _ f g) (opposed-before c f h g (omega arith)))
+      by (byEffect n p) =
+          let fact = m .conditionFact c in
+          let v = m .conditionValue c in
           let e = conditionLink m x c in
-          seen-by-effect m y (m .conditionFact c) (m .conditionValue c) t e (w .conditionValue c h) g
-          (omega (arith, kept-support m x y w o c h (not-initial e (g .known)) (g .known) b))
-          (λ f k q. kept-givers (m .conditionFact c) (m .conditionValue c) e f g k (n f k (opposed-before c f h k (omega arith))))
+          let b = p .candidate in
+          let g = giver m fact v e (b .known) (b .wanted) in
+          seen-by-effect m y fact v t e (w .conditionValue c h) g
+          (omega (arith, kept-support m x y w o c h (not-initial e (b .known)) (b .known) (p .inTime)))
+          (λ f k q.
+          kept-givers fact v e f g k (b .after f (k .known) (giver-opposes m fact v f k) (opposed-before c f h k (omega arith))))
 
   -- a fact keeps the value of an effect that was planned after all that opposes it
   pub carried :
@@ -178,17 +183,19 @@ module _ (m : Model) (x y : ℕ → ℕ) (w : WellFormed m) (s : Valid m x) (o :
   goal-seen :
       (g t : ℕ) → g < m .goals → (goalLink m x g < m .effects → effectTick m y (goalLink m x g) < t)
       → seen m y (m .goalFact g) t ≡ m .goalValue g
-  goal-seen g t h l = by (goal-linked m x w s g h)
+  goal-seen g t h l = by (goal-supported m x w s g h)
     where
-      by :
-          Linked m x (m .goalFact g) (m .goalValue g) (afterAll m x) (goalLink m x g)
-          → seen m y (m .goalFact g) t ≡ m .goalValue g
-      by (initially z i n) =
-          seen-by-initial m y (m .goalFact g) (m .goalValue g) t (w .goalValue g h) i (λ f k _. n f k (afterAll-ge m x f (k .known)))
-      by (produced e b n) =
-          carried (m .goalFact g) (m .goalValue g) t (goalLink m x g) (w .goalValue g h) e
-          (λ f k. n f k (afterAll-ge m x f (k .known)))
-          (l (e .known))
+      by : GoalLinkedTo m x g (goalLink m x g) → seen m y (m .goalFact g) t ≡ m .goalValue g
+      by (byInitialState z i) =
+          seen-by-initial m y (m .goalFact g) (m .goalValue g) t (w .goalValue g h) (i .wanted)
+          (λ f k _. i .unopposed f (k .known) (giver-opposes m _ _ f k) tt)
+      by (byEffect n p) =
+          let fact = m .goalFact g in
+          let v = m .goalValue g in
+          let b = p .candidate in
+          carried fact v t (goalLink m x g) (w .goalValue g h) (giver m fact v (goalLink m x g) (b .known) (b .wanted))
+          (λ f k. b .after f (k .known) (giver-opposes m fact v f k) tt)
+          (l (b .known))
 
   goal-reached : (g : ℕ) → g < m .goals → seen m y (m .goalFact g) (afterAll m y) ≡ m .goalValue g
   goal-reached g h = goal-seen g (afterAll m y) h (afterAll-ge m y (goalLink m x g))

@@ -25,10 +25,11 @@ use Rattle.orders.specs.Gaps.{strictly, supportOrder, supportGap, opposi
 use Rattle.orders.specs.Gaps.{levelGap, serialFirst, serialGap, gapOf}
 use Rattle.orders.specs.Windows.{limitOf, allowed, latestOf}
 use Rattle.rounds.specs.Rounds.{earliest}
+use Rattle.orders.specs.Supporter.{LinkedTo, byInitialState, byEffect}
 use Rattle.orders.specs.File.{roundsOf, earliestOf, ordered, pairOf, fileOf}
 use Rattle.rounds.proofs.Rounds.{after-above, after-most, rounds-le}
 use Rattle.orders.proofs.Near.{effect-near, to-near, use-near, limit-most}
-use Rattle.orders.proofs.Links.{Linked, initially, produced, condition-linked, goal-linked}
+use Rattle.orders.proofs.Supporter.{condition-supported, goal-supported}
 use Rattle.orders.proofs.Limits.{latest-fixed, latest-free}
 use Rattle.orders.proofs.Planned.{planned-obeys}
 use Rattle.orders.proofs.Satisfied.{ordered-out, pair-ordered, earliest-planned}
@@ -45,9 +46,11 @@ near :
 near x i k j n p q c h = chosen-near (eqb j i && eqb n k && c && ltb (x j + p) (x n + q)) p q (λ _. h)
 
 -- a link is an effect's number, or stands for the initial state
-link-known : (m : Model) (x : ℕ → ℕ) (fact v t link : ℕ) → Linked m x fact v t link → (link < m .effects) ⊎ (link ≡ initialState)
-link-known m x fact v t link (initially z i o) = inr z
-link-known m x fact v t link (produced g l o) = inl (g .known)
+link-known :
+    (m : Model) (x : ℕ → ℕ) (fact v : ℕ) (before : ℕ → Type 0) (link : ℕ) → LinkedTo m x fact v before link
+    → (link < m .effects) ⊎ (link ≡ initialState)
+link-known m x fact v before link (byInitialState z i) = inr z
+link-known m x fact v before link (byEffect n p) = inl (p .candidate .known)
 
 module _ (m : Model) (x : ℕ → ℕ) (w : WellFormed m) (s : Valid m x) where
   support-most : (i k : ℕ) → supportGap m x i k ≤ mostGap
@@ -62,7 +65,7 @@ module _ (m : Model) (x : ℕ → ℕ) (w : WellFormed m) (s : Valid m x) where
       ⊎-elim
       (λ (l : e < m .effects). effect-near m w e l)
       (λ (z : e ≡ initialState). absurd (n z))
-      (link-known m x _ _ _ e (condition-linked m x w s c h))))
+      (link-known m x _ _ _ e (condition-supported m x w s c h))))
 
   opposing-most : (i k : ℕ) → opposingGap m x i k ≤ mostGap
   unfolding opposingGap opposingOrder
@@ -171,10 +174,10 @@ module _ (m : Model) (x : ℕ → ℕ) (w : WellFormed m) (s : Valid m x) where
   unfolding nthLink
   link-most j h =
       elim (decLt j (m .conditions)) [
-        | yes l ↦ rw (lt-ltb _ _ l) (most (conditionLink m x j) (link-known m x _ _ _ _ (condition-linked m x w s j l)))
+        | yes l ↦ rw (lt-ltb _ _ l) (most (conditionLink m x j) (link-known m x _ _ _ _ (condition-supported m x w s j l)))
         | no l ↦
             rw (le-ltb j (m .conditions) (omega arith))
-            (most (goalLink m x (j - m .conditions)) (link-known m x _ _ _ _ (goal-linked m x w s (j - m .conditions) (omega arith))))
+            (most (goalLink m x (j - m .conditions)) (link-known m x _ _ _ _ (goal-supported m x w s (j - m .conditions) (omega arith))))
       ]
     where
       most : (link : ℕ) → (link < m .effects) ⊎ (link ≡ initialState) → (link ≤ lastEffect) ⊎ (link ≡ initialState)

@@ -1,0 +1,42 @@
+-- Orders from a sound job, rule 1, in plain words: what a condition or goal is linked to. x is the schedule by whose ticks it is found.
+-- `before` holds of the ticks that count: for a condition those "before its first tick", "for a goal" those "of all" effects.
+use Prim.Native.Nat.{ℕ, _≤_, _<_}
+use mathlib.Core.Path.{_≡_}
+use mathlib.Core.Bool.{true}
+use mathlib.Core.Logic.{_⊎_}
+use Rattle.job.specs.Model.{Model}
+use Rattle.validity.specs.Ticks.{effectTick, firstTick, gives, opposes}
+use Rattle.order_file.specs.Contents.{initialState}
+
+-- an "effect after that which gives the wanted value": after the last opposing effect before, so after each of them
+pub record Candidate (m : Model) (x : ℕ → ℕ) (fact value : ℕ) (before : ℕ → Type 0) (e : ℕ) : Type 0 where
+  pub known : e < m .effects
+  pub wanted : gives m e fact value ≡ true
+  pub after :
+      (f : ℕ) → f < m .effects → opposes m f fact value ≡ true → before (effectTick m x f) → effectTick m x f < effectTick m x e
+
+-- "The supporter is the earliest" of them; "ties go to the lower effect number"; it "lies strictly before the condition's first tick"
+pub record Supporter (m : Model) (x : ℕ → ℕ) (fact value : ℕ) (before : ℕ → Type 0) (e : ℕ) : Type 0 where
+  pub candidate : Candidate m x fact value before e
+  pub earliest :
+      (f : ℕ) → Candidate m x fact value before f
+      → (effectTick m x e < effectTick m x f) ⊎ ((effectTick m x e ≡ effectTick m x f) × (e ≤ f))
+  pub inTime : before (effectTick m x e)
+
+-- "With no opposing effect before, and the initial value as wanted"
+pub record Initially (m : Model) (x : ℕ → ℕ) (fact value : ℕ) (before : ℕ → Type 0) : Type 0 where
+  pub wanted : m .initial fact ≡ value
+  pub unopposed : (f : ℕ) → f < m .effects → opposes m f fact value ≡ true → before (effectTick m x f) → ⊥
+
+-- then "the initial state supports", and else the supporter. This leaves one link: of two supporters each would come before the other
+pub data LinkedTo (m : Model) (x : ℕ → ℕ) (fact value : ℕ) (before : ℕ → Type 0) (link : ℕ) : Type 0 where
+  byInitialState : link ≡ initialState → Initially m x fact value before → LinkedTo m x fact value before link
+  byEffect :
+      (Initially m x fact value before → ⊥) → Supporter m x fact value before link → LinkedTo m x fact value before link
+
+-- the link of condition c, and of goal g
+abbrev pub ConditionLinkedTo : Model → (ℕ → ℕ) → ℕ → ℕ → Type 0
+ConditionLinkedTo m x c link = LinkedTo m x (m .conditionFact c) (m .conditionValue c) (λ tick. tick < firstTick m x c) link
+
+abbrev pub GoalLinkedTo : Model → (ℕ → ℕ) → ℕ → ℕ → Type 0
+GoalLinkedTo m x g link = LinkedTo m x (m .goalFact g) (m .goalValue g) (λ tick. Unit {0}) link
