@@ -140,13 +140,13 @@ module _ (n : ℕ) (gap : ℕ → ℕ → ℕ) (bias : ℕ) (before : List ℕ) 
   -- all rounds are done
   pub reached-end :
       (r : ℕ) (starts : List ℕ) → Reached n gap bias before r starts → n ≤ r
-      → (r ≡ rounds n gap bias (startIn before)) × Filled n (earliest n gap bias (startIn before)) before starts
+      → (r ≡ rounds n gap bias (startIn before)) × (Filled n (earliest n gap bias (startIn before)) before starts × (r ≤ n))
   unfolding rounds
   reached-end r starts w g =
       let e : r ≡ rounds n gap bias (startIn before) =
       omega (arith, lowest-end (λ q. unchanged n gap bias (after n gap bias (startIn before) q)) n r (w .changing) (w .count) g)
       in
-      (e, filled-earliest r starts e (w .filled))
+      (e, (filled-earliest r starts e (w .filled), w .count))
 
   -- one more round, from starts to next, and whether these are the same
   module _ (r : ℕ) (starts next : List ℕ) (w : Reached n gap bias before r starts) (v : Filled n (raised n gap bias (startIn starts)) starts next) where
@@ -179,13 +179,13 @@ module _ (n : ℕ) (gap : ℕ → ℕ → ℕ) (bias : ℕ) (before : List ℕ) 
 
     pub reached-last :
         {same : Bool} → r < n → same ≡ all n (λ k. eqb (startIn next k) (startIn starts k)) → same ≡ true
-        → (r + 1 ≡ rounds n gap bias (startIn before)) × Filled n (earliest n gap bias (startIn before)) before next
+        → (r + 1 ≡ rounds n gap bias (startIn before)) × (Filled n (earliest n gap bias (startIn before)) before next × (r + 1 ≤ n))
     unfolding rounds
     reached-last h q t =
         let e : r + 1 ≡ rounds n gap bias (startIn before) =
         omega (arith, lowest-found (λ q. unchanged n gap bias (after n gap bias (startIn before) q)) n r (w .changing) h (q ∙ same-unchanged) t)
         in
-        (e, filled-earliest (r + 1) next e filled-next)
+        (e, (filled-earliest (r + 1) next e filled-next, omega arith))
 
 -- as many rounds as steps, from limits of at most 1,000,000, stay below the bound
 pub reached-bounded :

@@ -92,6 +92,7 @@ pub fn earliest_starts(limits: Starts, n: usize, gaps: &[u32]) -> Earliest
     requires { ⌜ Gaps (now gaps) × Bounded n lastStart (limits .at) × (n ≤ rowWidth) ⌝ }
     ensures { λ r. ⌜ r .rounds ≡ rounds n (gapIn (now (gaps .entry))) gapBias (startIn (limits .at)) ⌝ }
     ensures { λ r. ⌜ Filled n (earliest n (gapIn (now (gaps .entry))) gapBias (startIn (limits .at))) (limits .at) (r .starts .at) ⌝ }
+    ensures { λ r. ⌜ r .rounds ≤ n ⌝ }
 {
     let mut starts = limits;
     let mut last = Starts {

@@ -44,7 +44,7 @@ module _ (c : tie.After-link-at) where
     held =
         found-holds model x _ limits latest early gaps links l t (c .before .before .before .before .limits .ensures .0)
         (c .before .before .before .latest-starts .ensures .0 x l) (c .before .before .earliest-starts .ensures .0)
-        (c .before .before .earliest-starts .ensures .1)
+        (c .before .before .earliest-starts .ensures .1 .0)
 
     fits : c .link-at .result ≡ length (encode (fileOf model x))
     fits =
@@ -74,7 +74,7 @@ file-found-spec =
     let p = d .before .before .before .before .before .before .before .before .before .before .before .before .pre in
     let w = p .form in
     let o = d .before .count-orders .ensures in
-    let e = d .before .before .earliest-starts .ensures .1 .size in
+    let e = d .before .before .earliest-starts .ensures .1 .0 .size in
     let f = d .before .before .before .before .limits .ensures .1 .size in
     record {
       stepCount = w .stepCount;
