@@ -12,7 +12,8 @@ use Rattle.orders.specs.Links.{goalLink}
 unfoldable pub limitOf : Model → ℕ → ℕ
 limitOf m k = cond (eqb (m .fixed k) 1) (m .start k) 0
 
--- what goal g allows of step k: deadline − at, if it has a deadline and an effect of k supports it
+-- what goal g allows of step k: deadline − at, if it has a deadline and an effect of k supports it; nothing is cut off in a sound job,
+-- since the supporter lies at or before the deadline (`goal-link-in-time`)
 unfoldable pub allowed : Model → (ℕ → ℕ) → ℕ → ℕ → ℕ
 allowed m x k g =
     cond
