@@ -1,11 +1,12 @@
 -- Bounds in a well-formed job: no point lies further from its step's start than any gap can tell, and no limit is later than a start.
 use Prim.Native.Nat.{ℕ, _≤_, _<_}
 use mathlib.Core.Bool.{Bool, true, false, cond}
-use lib.Dec.{eqb}
+use native.Mathlib.Decide.{ℕ-discrete}
 use native.Mathlib.Omega.{arith}
 use Rattle.job.specs.Model.{Model, longest}
 use Rattle.job.specs.WellFormed.{WellFormed}
 use Rattle.orders.specs.Windows.{limitOf}
+use Rattle.orders.proofs.Limits.{limit-fixed, limit-free}
 
 -- an amount that counts or not is at most the amount
 pub counted-le : (b : Bool) (a : ℕ) → cond b a 0 ≤ a
@@ -26,5 +27,8 @@ module _ (m : Model) (w : WellFormed m) where
   use-near u h = omega (arith, w .useEnd u h, w .lengthRange (m .useStep u) (w .useStep u h))
 
   pub limit-most : (k : ℕ) → k < m .steps → limitOf m k ≤ 1000000
-  unfolding limitOf
-  limit-most k h = omega (arith, counted-le (eqb (m .fixed k) 1) (m .start k), w .startRange k h)
+  limit-most k h =
+      elim (ℕ-discrete (m .fixed k) 1) [
+        | yes f ↦ omega (arith, limit-fixed m k f, w .startRange k h)
+        | no f ↦ omega (arith, limit-free m k f)
+      ]

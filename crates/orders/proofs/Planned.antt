@@ -144,8 +144,8 @@ module _ (m : Model) (x : ℕ → ℕ) (w : WellFormed m) (s : Valid m x) where
       }
     where
       from : (k : ℕ) → k < m .steps → Dec (m .fixed k ≡ 1) → limitOf m k ≤ x k
-      from k h (yes f) = omega (arith, limit-fixed m x k f, s .fixedKept k h f)
-      from k h (no f) = omega (arith, limit-free m x k f)
+      from k h (yes f) = omega (arith, limit-fixed m k f, s .fixedKept k h f)
+      from k h (no f) = omega (arith, limit-free m k f)
 
       by : (k : ℕ) → k < m .steps → (latestOf m x k ≡ noLatest → ⊥) → Dec (m .fixed k ≡ 1) → x k ≤ latestOf m x k
       by k h n (yes f) = omega (arith, latest-fixed m x k f, s .fixedKept k h f)

@@ -151,7 +151,7 @@ module _ (m : Model) (x y : ℕ → ℕ) (w : WellFormed m) (s : Valid m x) (o :
   fixed-kept : (k : ℕ) → k < m .steps → m .fixed k ≡ 1 → y k ≡ m .start k
   fixed-kept k h f =
       let q : latestOf m x k ≡ m .start k = latest-fixed m x k f in
-      omega (arith, limit-fixed m x k f, o .fromLimit k h, o .byLatest k h (λ z. omega (arith, w .startRange k h)))
+      omega (arith, limit-fixed m k f, o .fromLimit k h, o .byLatest k h (λ z. omega (arith, w .startRange k h)))
 
   -- the link of a goal with a deadline stays in time: its step is fixed, or has a latest start
   link-in-time :
