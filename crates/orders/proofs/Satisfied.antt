@@ -12,7 +12,7 @@ use Rattle.laws.proofs.Nth.{count-below, nth-facts, nth-is}
 use Rattle.job.specs.Model.{Model}
 use Rattle.job.specs.WellFormed.{WellFormed}
 use Rattle.validity.specs.Valid.{Valid}
-use Rattle.order_file.specs.Satisfies.{Satisfies}
+use Rattle.orders.specs.Satisfies.{Satisfies}
 use Rattle.orders.specs.Gaps.{gapOf}
 use Rattle.orders.specs.Windows.{limitOf}
 use Rattle.orders.specs.Obeys.{Obeys}
@@ -73,7 +73,8 @@ module _ (m : Model) (x : ℕ → ℕ) where
           byLatest = s .byLatest;
           keeps = λ i k h g n.
               let f = pair-filed w i k h g n in
-              rw (f .2, f .3) at (s .keeps (f .0) (f .1));
+              let e = rw (f .2, f .3) at (s .keeps (f .0) (f .1)) in
+              omega arith;
         }
 
     pub obeys-satisfies : Obeys m x y → Satisfies (fileOf m x) y

@@ -25,7 +25,7 @@ use Rattle.order_file.specs.Layout.{contentsOf}
 use Rattle.order_file.specs.Encode.{encode}
 use Rattle.order_file.specs.Within.{Within}
 use Rattle.order_file.specs.Agree.{Agree}
-use Rattle.order_file.specs.Satisfies.{Satisfies, SatisfiesFile}
+use Rattle.orders.specs.Satisfies.{Satisfies, SatisfiesFile}
 use Rattle.order_file.proofs.RoundTrip.{round-trip}
 use Rattle.order_reader.proofs.WellFormed.{encode-well-formed}
 use Rattle.order_reader.proofs.ReadBack.{encoded-read-back}

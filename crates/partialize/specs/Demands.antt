@@ -20,7 +20,7 @@ use Rattle.order_file.specs.Layout.{contentsOf}
 use Rattle.order_reader.specs.WellFormed.{wellFormed}
 use Rattle.order_reader.specs.ReadBack.{ReadBack}
 use Rattle.orders.specs.Gaps.{gapOf}
-use Rattle.order_file.specs.Satisfies.{SatisfiesFile}
+use Rattle.orders.specs.Satisfies.{SatisfiesFile}
 use Rattle.partialize.specs.declared.answer.Answer.{Answer}
 use Rattle.partialize.specs.declared.answer.Answer.the-variants.{Refused, BufferTooShort}
 use Rattle.partialize.specs.Answer.{number, place, lengthOf}
