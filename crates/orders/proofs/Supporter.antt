@@ -1,12 +1,12 @@
 -- The link that rule 1 finds is the one of the plain record. A value that is seen has a reason: the initial state with nothing opposing,
--- or an effect after the last opposing one. Where there is such an effect, the search takes the earliest, and of those at its tick the lowest.
-use Prim.Native.Nat.{ℕ, zero, suc, _-_, _≤_, _<_, min}
+-- or an effect after the last opposing one; and where there are such effects, the search takes the earliest, of one tick the lowest.
+use Prim.Native.Nat.{ℕ, zero, suc, _+_, _-_, _≤_, _<_, min}
 use mathlib.Core.Path.{_≡_, refl, sym, ap, ap₂, _∙_}
 use mathlib.Core.Bool.{Bool, true, false, _&&_, not, cond}
 use mathlib.Core.Logic.{_⊎_, inl, inr, ⊎-elim}
 use native.Mathlib.Decide.{ℕ-discrete, decLt, decLe}
 use native.Mathlib.Omega.{arith}
-use borrow.Author.Tests.{leb-true, eqb-true, eqb-false, not-true, le-leb, eq-eqb, ne-eqb}
+use borrow.Author.Tests.{leb-true, eqb-true, eqb-false, not-true, lt-ltb, le-ltb, le-leb, eq-eqb, ne-eqb}
 use lib.Dec.{eqb}
 use Rattle.laws.specs.Search.{lowest}
 use Rattle.laws.specs.Fold.{least}
@@ -18,8 +18,9 @@ use Rattle.validity.specs.Ticks.{effectTick, firstTick, gives, opposes}
 use Rattle.validity.specs.Seen.{lastGiven, seen, afterAll}
 use Rattle.validity.specs.Valid.{Valid}
 use Rattle.validity.proofs.Seen.{Giver, LaterGiver, lastGiven-ge, lastGiven-le, seen-why-apart, afterAll-ge}
-use Rattle.orders.specs.Links.{producer, earliestProduced, supporter, linkOf, conditionLink, goalLink}
-use Rattle.orders.specs.Supporter.{Candidate, Supporter, Initially, LinkedTo, byInitialState, byEffect, ConditionLinkedTo, GoalLinkedTo}
+use Rattle.orders.specs.Links.{producer, earliestProduced, supporter, linkOf, conditionLink, goalLink, nthLink}
+use Rattle.orders.specs.Supporter.{Candidate, Supporter, Initially, LinkedTo, byInitialState, byEffect}
+use Rattle.orders.specs.Supporter.{ConditionLinkedTo, GoalLinkedTo, LinksSupported}
 
 -- the least is the number for none or some value
 pub least-at : (f : ℕ → ℕ) (none n : ℕ) → (least n none f ≡ none) ⊎ ((k : ℕ) × (k < n) × (f k ≡ least n none f))
@@ -125,6 +126,11 @@ module _ (m : Model) (x : ℕ → ℕ) (fact v t : ℕ) (before : ℕ → Type 0
       (lastGiven-le m x fact (1 - v) t (effectTick m x e)
       (λ f g l. c .after f (g .known) (giver-opposes m fact v f g) (u .out f (g .known) l))))
 
+  -- what opposes before t is at most the last that does
+  opposed-by-last :
+      (f : ℕ) → f < m .effects → opposes m f fact v ≡ true → before (effectTick m x f) → effectTick m x f < lastGiven m x fact (1 - v) t
+  opposed-by-last f h o l = lastGiven-ge m x fact (1 - v) t f (opposes-giver m fact v f w b h o) (u .into f h l)
+
   producer-candidate : (e : ℕ) → e < m .effects → producer m x fact v t e ≡ true → Candidate m x fact v before e
   unfolding producer
   producer-candidate e h p =
@@ -133,7 +139,7 @@ module _ (m : Model) (x : ℕ → ℕ) (fact v t : ℕ) (before : ℕ → Type 0
       record {
         known = h;
         wanted = c .0;
-        after = λ f k o r. omega (arith, lastGiven-ge m x fact (1 - v) t f (opposes-giver m fact v f w b k o) (u .into f k r));
+        after = λ f k o r. omega (arith, opposed-by-last f k o r);
       }
 
   -- of candidates of which one lies before t, the search finds the supporter
@@ -152,6 +158,7 @@ module _ (m : Model) (x : ℕ → ℕ) (fact v t : ℕ) (before : ℕ → Type 0
             (omega (arith, p .2, earliest-le m x fact v t e (c .known) (candidate-produces e c)));
       }
 
+  -- the initial state supports where nothing has opposed
   initially-nothing : Initially m x fact v before → (lastGiven m x fact (1 - v) t ≡ 0) × (m .initial fact ≡ v)
   initially-nothing i =
       let z : lastGiven m x fact (1 - v) t ≤ 0 =
@@ -163,7 +170,7 @@ module _ (m : Model) (x : ℕ → ℕ) (fact v t : ℕ) (before : ℕ → Type 0
   nothing-initially z i =
       record {
         wanted = i;
-        unopposed = λ f k o r. omega (arith, lastGiven-ge m x fact (1 - v) t f (opposes-giver m fact v f w b k o) (u .into f k r));
+        unopposed = λ f k o r. omega (arith, opposed-by-last f k o r);
       }
 
   -- the link of a value that is seen, where no two opposing effects share a tick
@@ -190,7 +197,7 @@ module _ (m : Model) (x : ℕ → ℕ) (fact v t : ℕ) (before : ℕ → Type 0
       (record {
         known = e .1 .known;
         wanted = giver-gives m fact v (e .0) (e .1);
-        after = λ f k o r. omega (arith, e .3, lastGiven-ge m x fact (1 - v) t f (opposes-giver m fact v f w b k o) (u .into f k r));
+        after = λ f k o r. omega (arith, e .3, opposed-by-last f k o r);
       })
       (e .2)))
       (λ (j : (m .initial fact ≡ v) × (lastGiven m x fact (1 - v) t ≡ 0)). absurd (n (nothing-initially (j .1) (j .0))))
@@ -199,7 +206,7 @@ module _ (m : Model) (x : ℕ → ℕ) (fact v t : ℕ) (before : ℕ → Type 0
 
 -- the plain record leaves one link
 module _ (m : Model) (x : ℕ → ℕ) (fact v : ℕ) (before : ℕ → Type 0) (a b : ℕ) where
-  pub linked-once : LinkedTo m x fact v before a → LinkedTo m x fact v before b → a ≡ b
+  linked-once : LinkedTo m x fact v before a → LinkedTo m x fact v before b → a ≡ b
   linked-once (byInitialState p i) (byInitialState q j) = p ∙ sym q
   linked-once (byInitialState p i) (byEffect n s) = absurd (n i)
   linked-once (byEffect n s) (byInitialState p i) = absurd (n i)
@@ -213,6 +220,19 @@ module _ (m : Model) (x : ℕ → ℕ) (fact v : ℕ) (before : ℕ → Type 0) 
       same (inl k) (inr l) = absurd (omega (arith, l .0))
       same (inr k) (inl l) = absurd (omega (arith, k .0))
       same (inr k) (inr l) = omega (arith, k .1, l .1)
+
+-- the links in one list
+module _ (m : Model) (x : ℕ → ℕ) where
+  pub condition-nth : (c : ℕ) → c < m .conditions → nthLink m x c ≡ conditionLink m x c
+  unfolding nthLink
+  condition-nth c h = rw (lt-ltb _ _ h)
+
+  pub goal-nth : (g : ℕ) → nthLink m x (m .conditions + g) ≡ goalLink m x g
+  unfolding nthLink
+  goal-nth g =
+      let k = m .conditions + g in
+      let e : k - m .conditions ≡ g = omega arith in
+      rw (le-ltb k (m .conditions) (omega arith)) (ap (goalLink m x) e)
 
 module _ (m : Model) (x : ℕ → ℕ) (w : WellFormed m) (s : Valid m x) where
   -- in a valid schedule no two opposing effects share a tick, of one step or of two
@@ -243,3 +263,18 @@ module _ (m : Model) (x : ℕ → ℕ) (w : WellFormed m) (s : Valid m x) where
       (record { into = λ e k l. afterAll-ge m x e k; out = λ e k l. tt })
       (apart (m .goalFact g) (m .goalValue g))
       (s .goalReached g h)
+
+  -- so links that are numbered as rule 1's are these, and only these
+  pub links-supported :
+      (link : ℕ → ℕ) → ((j : ℕ) → j < m .conditions + m .goals → link j ≡ nthLink m x j) → LinksSupported m x link
+  links-supported link same =
+      let ofC : (c : ℕ) → c < m .conditions → link c ≡ conditionLink m x c = λ c h. same c (omega arith) ∙ condition-nth m x c h in
+      let ofG : (g : ℕ) → g < m .goals → link (m .conditions + g) ≡ goalLink m x g = λ g h.
+      same (m .conditions + g) (omega arith) ∙ goal-nth m x g
+      in
+      record {
+        condition = λ c h. rw (ofC c h) (condition-supported c h);
+        conditionOnly = λ c e h l. linked-once m x _ _ _ e (conditionLink m x c) l (condition-supported c h) ∙ sym (ofC c h);
+        goal = λ g h. rw (ofG g h) (goal-supported g h);
+        goalOnly = λ g e h l. linked-once m x _ _ _ e (goalLink m x g) l (goal-supported g h) ∙ sym (ofG g h);
+      }

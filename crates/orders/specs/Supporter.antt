@@ -1,6 +1,6 @@
 -- Orders from a sound job, rule 1, in plain words: what a condition or goal is linked to. x is the schedule by whose ticks it is found.
 -- `before` holds of the ticks that count: for a condition those "before its first tick", "for a goal" those "of all" effects.
-use Prim.Native.Nat.{ℕ, _≤_, _<_}
+use Prim.Native.Nat.{ℕ, _+_, _≤_, _<_}
 use mathlib.Core.Path.{_≡_}
 use mathlib.Core.Bool.{true}
 use mathlib.Core.Logic.{_⊎_}
@@ -34,9 +34,16 @@ pub data LinkedTo (m : Model) (x : ℕ → ℕ) (fact value : ℕ) (before : ℕ
   byEffect :
       (Initially m x fact value before → ⊥) → Supporter m x fact value before link → LinkedTo m x fact value before link
 
--- the link of condition c, and of goal g
+-- the link of condition c, and of goal g, for which every tick counts
 abbrev pub ConditionLinkedTo : Model → (ℕ → ℕ) → ℕ → ℕ → Type 0
 ConditionLinkedTo m x c link = LinkedTo m x (m .conditionFact c) (m .conditionValue c) (λ tick. tick < firstTick m x c) link
 
 abbrev pub GoalLinkedTo : Model → (ℕ → ℕ) → ℕ → ℕ → Type 0
 GoalLinkedTo m x g link = LinkedTo m x (m .goalFact g) (m .goalValue g) (λ tick. Unit {0}) link
+
+-- "one for each condition, then each goal": links by their numbers, each what its condition or goal is linked to, and nothing else is that
+pub record LinksSupported (m : Model) (x link : ℕ → ℕ) : Type 0 where
+  pub condition : (c : ℕ) → c < m .conditions → ConditionLinkedTo m x c (link c)
+  pub conditionOnly : (c e : ℕ) → c < m .conditions → ConditionLinkedTo m x c e → e ≡ link c
+  pub goal : (g : ℕ) → g < m .goals → GoalLinkedTo m x g (link (m .conditions + g))
+  pub goalOnly : (g e : ℕ) → g < m .goals → GoalLinkedTo m x g e → e ≡ link (m .conditions + g)
