@@ -1,4 +1,4 @@
--- The fields are the record's, whether it lies within the bytes or not.
+-- The fields are the record's, which lies within the bytes.
 use borrow.Author.Needs.{needs}
 use Rattle.job.proofs.records.effect_of.Statement.{statement}
 use Rattle.job.proofs.records.effect_of.Tie as tie
@@ -8,8 +8,5 @@ effect-of-spec =
     tie.close
     (tie.spec
     (λ c. search needs) (λ c. search needs) (λ c. search needs) (λ c. search needs) (λ c. search needs) (λ c. search needs)
-    (λ c κs. search needs) (λ c. search needs) (λ c. search needs) (λ c κs. search needs) (λ c. search needs) (λ c. search needs)
-    (λ c κs. search needs) (λ c. search needs) (λ c κs. search needs) (λ c. search needs)
-    (λ c. cc)
-    (λ c κs. search needs) (λ c κs. search needs) (λ c κs. search needs) (λ c κs. search needs)
+    (λ c. search needs) (λ c. search needs) (λ c. search needs) (λ c. search needs) (λ c. search needs) (λ c. search needs) (λ c. search needs) (λ c. search needs)
     (λ c. cc))
