@@ -2,3 +2,4 @@
 pub mod WellFormed
 pub mod Steps
 pub mod Unopposed
+pub mod Laid

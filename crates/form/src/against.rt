@@ -6,6 +6,7 @@ ghost use mathlib.Core.Bool.{_&&_, cond};
 ghost use Prim.Native.Nat.{ℕ, min, _≤_, _<_};
 ghost use lib.Dec.{ltb};
 ghost use Rattle.job.specs.Model.{view, effectOf};
+ghost use Rattle.job.specs.Laid.{Laid};
 ghost use Rattle.job.specs.WellFormed.{Ranged};
 ghost use Rattle.form.specs.Keys.{stepKey, effectKey, conditionKey, useKey, SearchBack};
 ghost use Rattle.timeline.specs.Indexed.{keyCount, capacity, Growing};
@@ -142,7 +143,7 @@ fn link_conditions(s: &[u8], job: Job, index: &mut [u16; INDEX_SIZE])
 // The lowest step that sets a fact both ways at one tick or opposes its own condition before its last tick, or the count of steps.
 // The effects before each are linked, and it is held against these.
 fn effects_against(s: &[u8], job: Job) -> u16
-    requires { ⌜ Ranged (view job (now s)) ⌝ }
+    requires { ⌜ Laid job (now s) × Ranged (view job (now s)) ⌝ }
     ensures { λ r. ⌜ r ≡ min (bothWaysStep (view job (now (s .entry)))) (opposesOwnStep (view job (now (s .entry)))) ⌝ }
 {
     let mut conditions = [UNLINKED; INDEX_SIZE];
@@ -190,7 +191,7 @@ fn uses_against(s: &[u8], job: Job) -> u16
 
 // Refusal 7, of a file that refusals 1 to 6 pass.
 pub fn check_steps(s: &[u8], job: Job) -> Verdict
-    requires { ⌜ Ranged (view job (now s)) ⌝ }
+    requires { ⌜ Laid job (now s) × Ranged (view job (now s)) ⌝ }
     ensures { λ r. ⌜ r ≡ stepCheck (view job (now (s .entry))) ⌝ }
 {
     let effects = effects_against(s, job);

@@ -1,6 +1,9 @@
 // Refusal 6: a record that breaks its ranges or names what is not counted.
 ghost use mathlib.Core.Path.{_≡_};
+ghost use mathlib.Core.List.{List};
+ghost use Prim.Native.Nat.{ℕ, _≤_, _<_};
 ghost use Rattle.laws.specs.Search.{lowest};
+ghost use Rattle.job.specs.Laid.{Laid};
 ghost use Rattle.job.specs.Model.{view};
 ghost use Rattle.form.specs.Ranges.{factOk, levelInRange, levelOk, stepOk, conditionOk, effectOk, useOk, goalOk, recordOk, recordBroken, countIn};
 ghost use Rattle.form.specs.Refusals.{tableCheck, recordCheck};
@@ -52,33 +55,40 @@ fn step_ok(s: &[u8], job: Job, k: u16) -> bool
 }
 
 fn condition_ok(s: &[u8], job: Job, k: u16) -> bool
+    requires { ⌜ Laid job (now s) × (k < job .count .conditions) ⌝ }
     ensures { λ r. ⌜ r ≡ conditionOk (view job (now (s .entry))) k ⌝ }
 {
     let c = condition_of(s, job, k);
-    (c.step < job.count.steps)
-        & (c.fact < job.count.facts)
+    if job.count.steps <= c.step {
+        return false;
+    }
+    (c.fact < job.count.facts)
         & (c.from <= c.to)
-        & (c.to <= step_length(s, job, c.step))
+        & (c.to <= length_within(s, job, c.step))
         & (c.value <= 1)
 }
 
 fn effect_ok(s: &[u8], job: Job, k: u16) -> bool
+    requires { ⌜ Laid job (now s) × (k < job .count .effects) ⌝ }
     ensures { λ r. ⌜ r ≡ effectOk (view job (now (s .entry))) k ⌝ }
 {
     let e = effect_of(s, job, k);
-    (e.step < job.count.steps)
-        & (e.fact < job.count.facts)
-        & (e.at <= step_length(s, job, e.step))
-        & (e.value <= 1)
+    if job.count.steps <= e.step {
+        return false;
+    }
+    (e.fact < job.count.facts) & (e.at <= length_within(s, job, e.step)) & (e.value <= 1)
 }
 
 fn use_ok(s: &[u8], job: Job, k: u16) -> bool
+    requires { ⌜ Laid job (now s) × (k < job .count .uses) ⌝ }
     ensures { λ r. ⌜ r ≡ useOk (view job (now (s .entry))) k ⌝ }
 {
     let u = use_of(s, job, k);
-    (u.step < job.count.steps)
-        & (u.level < job.count.levels)
-        & (u.at <= step_length(s, job, u.step))
+    if job.count.steps <= u.step {
+        return false;
+    }
+    (u.level < job.count.levels)
+        & (u.at <= length_within(s, job, u.step))
         & (LOWEST_AMOUNT <= u.amount)
         & (u.amount <= HIGHEST_AMOUNT)
         & (u.amount != SIGN_BIAS)
@@ -94,6 +104,7 @@ fn goal_ok(s: &[u8], job: Job, k: u16) -> bool
 }
 
 fn record_ok(s: &[u8], job: Job, table: Table, k: u16) -> bool
+    requires { ⌜ Laid job (now s) × (k < countIn (view job (now s)) table) ⌝ }
     ensures { λ r. ⌜ r ≡ recordOk (view job (now (s .entry))) table k ⌝ }
 {
     match table {
@@ -107,8 +118,8 @@ fn record_ok(s: &[u8], job: Job, table: Table, k: u16) -> bool
     }
 }
 
-fn count_in(s: &[u8], job: Job, table: Table) -> u16
-    ensures { λ r. ⌜ r ≡ countIn (view job (now (s .entry))) table ⌝ }
+fn count_in(job: Job, table: Table) -> u16
+    ensures { λ r. ⌜ ((s : List ℕ) → r ≡ countIn (view job s) table) ⌝ }
 {
     match table {
         Table::Facts => job.count.facts,
@@ -123,6 +134,7 @@ fn count_in(s: &[u8], job: Job, table: Table) -> u16
 
 // The lowest of the first n records of a table that is broken, or n.
 fn first_broken(s: &[u8], job: Job, table: Table, n: u16) -> u16
+    requires { ⌜ Laid job (now s) × (n ≤ countIn (view job (now s)) table) ⌝ }
     ensures { λ r. ⌜ r ≡ lowest n (recordBroken (view job (now (s .entry))) table) ⌝ }
 {
     let mut k = 0;
@@ -136,12 +148,13 @@ fn first_broken(s: &[u8], job: Job, table: Table, n: u16) -> u16
 }
 
 fn table_after(before: Verdict, s: &[u8], job: Job, table: Table) -> Verdict
+    requires { ⌜ Laid job (now s) ⌝ }
     ensures { λ r. ⌜ r ≡ (before then tableCheck (view job (now (s .entry))) table) ⌝ }
 {
     if number(before) != 0 {
         return before;
     }
-    let n = count_in(s, job, table);
+    let n = count_in(job, table);
     let k = first_broken(s, job, table, n);
     if k < n {
         Verdict::RecordOutOfRange(k)
@@ -150,10 +163,13 @@ fn table_after(before: Verdict, s: &[u8], job: Job, table: Table) -> Verdict
     }
 }
 
-// Refusal 6: the tables in their order, in each the lowest broken record.
+// Refusal 6: the tables in their order, in each the lowest broken record. They lie within the bytes where refusal 5 passed.
 pub fn check_records(s: &[u8], job: Job) -> Verdict
-    ensures { λ r. ⌜ r ≡ recordCheck (view job (now (s .entry))) ⌝ }
+    ensures { λ r. ⌜ (Laid job (now (s .entry)) → r ≡ recordCheck (view job (now (s .entry)))) ⌝ }
 {
+    if !is_laid(s, job) {
+        return Verdict::LayoutDisagrees;
+    }
     let v = table_after(Verdict::Accepted, s, job, Table::Facts);
     let v = table_after(v, s, job, Table::Levels);
     let v = table_after(v, s, job, Table::Steps);

@@ -7,6 +7,7 @@ use Rattle.job.specs.Layout.{jobOf}
 use Rattle.form.specs.declared.Form.{Form}
 use Rattle.form.specs.Refusals.{formCheck, FormPromise}
 use Rattle.form.proofs.WellFormed.{well-formed}
+use Rattle.form.proofs.Laid.{read-laid}
 use Rattle.form.proofs.Unopposed.{read-ranged, read-refused, read-passed}
 use borrow.Author.Needs.{needs}
 use Rattle.form.proofs.read_form.Statement.{statement}
@@ -24,7 +25,11 @@ read-form-spec =
     (λ c.
     let p = c .before .before .read-records .ensures in
     promise _ (read-refused p (λ z. c .if1 .taken (c .before .number .ensures ∙ z))) (p .job))
-    (λ c κs. let b = c .before .before in read-ranged (b .before .read-records .ensures) (sym (b .number .ensures) ∙ c .before .if1 .left))
+    (λ c κs.
+    let b = c .before .before in
+    let p = b .before .read-records .ensures in
+    let z = sym (b .number .ensures) ∙ c .before .if1 .left in
+    (read-laid p z, read-ranged p z))
     (λ c.
     let b = c .before .before .before in
     let p = b .before .read-records .ensures in

@@ -1,9 +1,10 @@
 -- The header, then the records, chained; what passes is in range.
-use mathlib.Core.Path.{_≡_, sym, ap, _∙_}
+use mathlib.Core.Path.{_≡_, sym, ap, subst, _∙_}
 use mathlib.Core.List.{List}
 use Prim.Native.Nat.{ℕ}
 use denote.Ref.{now}
 use Rattle.job.specs.declared.layout.Job.{Job}
+use Rattle.job.specs.Laid.{Laid}
 use Rattle.job.specs.Layout.{jobOf}
 use Rattle.job.specs.Model.{view, modelOf}
 use Rattle.form.specs.declared.Form.{Form}
@@ -12,6 +13,7 @@ use Rattle.form.specs.Refusals.{recordCheck, RecordsPromise}
 use Rattle.verdict.specs.Verdict.{number, _then_}
 use Rattle.verdict.proofs.Chain.{stands, decides}
 use Rattle.form.proofs.WellFormed.{ranged}
+use Rattle.form.proofs.Laid.{header-laid}
 use borrow.Author.Needs.{needs}
 use Rattle.form.proofs.read_records.Statement.{statement}
 use Rattle.form.proofs.read_records.Tie as tie
@@ -36,5 +38,8 @@ read-records-spec =
     let j = h .before .read .ensures in
     promise _
     (decides (h .check-header .ensures) (c .before .before .number .ensures) (c .before .if1 .left)
-    (c .check-file .ensures ∙ ap (λ (x : Job). recordCheck (view x (now (h .before .before .before .args .s)))) j))
+    (c .check-file .ensures
+    (subst (λ (x : Job). Laid x (now (h .before .before .before .args .s))) (sym j)
+    (header-laid _ (sym (ap number (h .check-header .ensures)) ∙ sym (c .before .before .number .ensures) ∙ c .before .if1 .left)))
+    ∙ ap (λ (x : Job). recordCheck (view x (now (h .before .before .before .args .s)))) j))
     j))

@@ -24,7 +24,7 @@ effects-against-spec =
     × (sets ≡ lowestOwner (job .count .steps) k (view job s .effectStep) (setBefore (view job s)))
     × (opposes ≡ lowestOwner (job .count .steps) k (view job s .effectStep) (opposesAny (view job s))))
     (λ s job conditions effects₀ sets₀ opposes₀ n k₀ effects sets opposes k. n - k)
-    (λ c κs. (growing-start _, c .before .before .pre .conditionCount))
+    (λ c κs. (growing-start _, c .before .before .pre .1 .conditionCount))
     (λ c. (search needs, growing-start _, sym (owner-start _ _ _), sym (owner-start _ _ _)))
     (λ c κs. search needs) (λ c κs. search needs)
     (λ c. sym (c .before .before .before .before .loop .inv .1 .size))
@@ -34,7 +34,7 @@ effects-against-spec =
     let r = c .before .before .effect-of .ensures in (
       record {
         growing = l .before .loop .inv .1;
-        few = omega (arith, l .loop-test .taken, l .before .before .before .before .before .pre .effectCount);
+        few = omega (arith, l .loop-test .taken, l .before .before .before .before .before .pre .1 .effectCount);
         same = k .0 ∙ ap (λ (x : Effect). stepKey (x .step) (x .fact)) r;
         low = k .1;
       },
@@ -46,7 +46,7 @@ effects-against-spec =
     let k = c .before .before .before .before .step-key .ensures in
     record {
       growing = c .before .before .before .before .before .before .before .before .link-conditions .ensures;
-      few = c .before .before .before .before .before .before .before .before .before .before .before .pre .conditionCount;
+      few = c .before .before .before .before .before .before .before .before .before .before .before .pre .1 .conditionCount;
       same = k .0;
       low = k .1;
     })
@@ -55,16 +55,21 @@ effects-against-spec =
     let l = c .before .before .before .before .before .before .before .before .before in (
       c .before .before .before .before .before .before .before .step-key .ensures .1,
       omega
-          (arith, l .loop-test .taken, l .before .before .before .before .before .pre .effectCount),
+          (arith, l .loop-test .taken, l .before .before .before .before .before .pre .1 .effectCount),
     ))
-    (λ c. search needs) (λ c. search needs)
+    (λ c.
+    let l = c .before .before .before .before .before .before .before .before .before .before in
+    let t = l .loop-test .taken in
+    let few = l .before .before .before .before .before .pre .1 .effectCount in
+    search needs)
+    (λ c. search needs)
     (λ c.
     let l = c .before .before .before .before .before .before .before .before .before .before in
     let v = l .before .loop .inv in
     let k = c .before .before .before .before .before .before .before .before .step-key .ensures in
     let r = c .before .before .before .before .before .before .before .before .before .effect-of .ensures in (
       search needs,
-      growing-more _ _ _ _ (omega (arith, l .loop-test .taken, l .before .before .before .before .before .pre .effectCount))
+      growing-more _ _ _ _ (omega (arith, l .loop-test .taken, l .before .before .before .before .before .pre .1 .effectCount))
           (k .0 ∙ ap (λ (x : Effect). stepKey (x .step) (x .fact)) r) (k .1) (v .1) (c .link .ensures),
       owner-more _ _ _ _ (v .2) (c .before .before .before .before .before .before .set-before .ensures) (ap (λ (x : Effect). x .step) r)
           (c .before .before .before .before .before .lower-if .ensures),

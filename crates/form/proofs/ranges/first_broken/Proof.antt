@@ -2,6 +2,7 @@
 use Prim.Native.Nat.{_≤_, _-_}
 use mathlib.Core.Path.{_≡_, ap}
 use mathlib.Core.Bool.{not}
+use native.Mathlib.Omega.{arith}
 use Rattle.laws.specs.Search.{lowest}
 use Rattle.laws.proofs.Search.{lowest-start, lowest-more, lowest-found, lowest-end}
 use Rattle.job.specs.Model.{view}
@@ -17,7 +18,10 @@ first-broken-spec =
     (λ s job table n k₀ k. (k ≤ n) × (lowest k (recordBroken (view job s) table) ≡ k))
     (λ s job table n k₀ k. n - k)
     (λ c. (search needs, lowest-start _))
-    (λ c κs. search needs)
+    (λ c κs.
+    let p = c .before .before .before .pre in
+    let l = c .loop-test .taken in
+    (p .0, omega (arith, p .1)))
     (λ c. lowest-found _ _ _ (c .before .before .before .loop .inv .1) (c .before .before .loop-test .taken) (ap not (c .before .record-ok .ensures))
     (c .if1 .taken))
     (λ c. search needs) (λ c. search needs)

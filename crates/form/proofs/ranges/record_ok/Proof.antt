@@ -8,7 +8,9 @@ record-ok-spec =
     tie.close
     (tie.spec
     (λ c. search needs) (λ c κs. search needs) (λ c. search needs) (λ c κs. search needs) (λ c. search needs) (λ c κs. search needs)
-    (λ c. search needs) (λ c κs. search needs) (λ c. search needs) (λ c κs. search needs) (λ c. search needs) (λ c κs. search needs)
+    (λ c. search needs) (λ c κs. let p = c .before .before .before .pre in (p .0, rw (c .enum-told4 .given .1) at (p .1)))
+    (λ c. search needs) (λ c κs. let p = c .before .before .before .pre in (p .0, rw (c .enum-told5 .given .1) at (p .1)))
+    (λ c. search needs) (λ c κs. let p = c .before .before .before .pre in (p .0, rw (c .enum-told6 .given .1) at (p .1)))
     (λ c. search needs) (λ c κs. search needs)
     (λ c. rw (c .before .enum-told .given .1) (c .fact-ok .ensures))
     (λ c. rw (c .before .enum-told2 .given .1) (c .level-ok .ensures))

@@ -1,5 +1,7 @@
 -- A refusal so far stands; else the lowest broken record is refused.
 use mathlib.Core.Path.{sym, _∙_}
+use native.Mathlib.Omega.{arith}
+use denote.Ref.{now}
 use Rattle.form.specs.Refusals.{tableCheck}
 use Rattle.verdict.proofs.Chain.{then-refused, then-accepted, lowest-refused, lowest-passed}
 use borrow.Author.Needs.{needs}
@@ -13,12 +15,17 @@ table-after-spec =
     (tie.spec
     (λ c κs. search needs)
     (λ c. then-refused _ _ (λ e. c .if1 .taken (c .before .number .ensures ∙ e)))
-    (λ c κs. search needs) (λ c κs. search needs)
+    (λ c κs. search needs)
+    (λ c κs.
+    let a = c .before .before .before .before in
+    (a .pre, omega (arith, c .count-in .ensures (now (a .args .s)))))
     (λ c.
     let d = c .before .before in
-    lowest-refused _ _ _ (rw (d .count-in .ensures) at (c .before .first-broken .ensures)) (rw (d .count-in .ensures) at (c .if2 .taken))
+    let n = d .count-in .ensures (now (d .before .before .before .before .args .s)) in
+    lowest-refused _ _ _ (rw n at (c .before .first-broken .ensures)) (rw n at (c .if2 .taken))
     ∙ then-accepted _ _ (sym (d .before .before .number .ensures) ∙ d .before .if1 .left))
     (λ c.
     let d = c .before .before in
-    lowest-passed _ _ _ (rw (d .count-in .ensures) at (c .before .first-broken .ensures)) (rw (d .count-in .ensures) at (c .if2 .left))
+    let n = d .count-in .ensures (now (d .before .before .before .before .args .s)) in
+    lowest-passed _ _ _ (rw n at (c .before .first-broken .ensures)) (rw n at (c .if2 .left))
     ∙ then-accepted _ _ (sym (d .before .before .number .ensures) ∙ d .before .if1 .left)))

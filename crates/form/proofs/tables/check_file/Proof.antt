@@ -34,6 +34,7 @@ use denote.Triple.Table.{entered, cited}
 use denote.Triple.Walked.{says, Stays, stay-none, stay-none-slice, walkOf, goes-none, goes-none-slice, ends-at, walked, walk-meets}
 use denote.Exit.{yes}
 use denote.Triple.Clauses.{ensured, lasts}
+use Rattle.job.specs.Laid.{Laid}
 use Rattle.job.specs.Model.{view}
 use Rattle.job.specs.declared.layout.Job.{Job}
 use Rattle.job.specs.declared.reader.JobReader.{JobReader}
@@ -70,8 +71,9 @@ module _ {M : Type 1} (𝓤 : URA M) (H : Heap 𝓤) (A : Atoms 𝓤) (W : Given
   abbrev at : Vals check-file.signature (κ, tt)
   at = (slice s ∷ [], (J′.lowered j ∷ [], tt))
 
-  abbrev found : Verdict
-  found = recordCheck (view j (now s))
+  -- what is found, where the tables lie within the bytes
+  abbrev Found : Verdict → Type 0
+  Found r = Laid j (now s) → r ≡ recordCheck (view j (now s))
 
   abbrev Post : Val → SProp 𝓤
   Post = walkOf 𝓤 H A check-file.ended stayed (check-file.clauses 𝓤 H A mem run) .post (((κ, tt), (q, tt), tt, (s, (j, tt)), at), tt)
@@ -103,10 +105,10 @@ module _ {M : Type 1} (𝓤 : URA M) (H : Heap 𝓤) (A : Atoms 𝓤) (W : Given
       move ! (4 ∷ 0 ∷ []) $ use2 W (raw (Check 𝓤 H A mem run .pre to)) asked $ frame ! $ fjoin ! $ move ! (1 ∷ 0 ∷ []) $ fjoin ! $ done !
 
   -- of the callee's `ensured`, the clause alone: it has no `&mut`, so nothing is said of last values
-  said : (r : Verdict) → ent 𝓤 (ensured 𝓤 H A check-tables.ended (check-tables.clauses 𝓤 H A mem run) (κ, tt) (d, tt) tt r) (fact 𝓤 (r ≡ found))
-  said r = exE 𝓤 _ (λ ws. snd∗ 𝓤 (sem 𝓤 H A (lasts check-tables.ended (κ, tt) (d, tt) ws)) (fact 𝓤 (r ≡ found)))
+  said : (r : Verdict) → ent 𝓤 (ensured 𝓤 H A check-tables.ended (check-tables.clauses 𝓤 H A mem run) (κ, tt) (d, tt) tt r) (fact 𝓤 (Found r))
+  said r = exE 𝓤 _ (λ ws. snd∗ 𝓤 (sem 𝓤 H A (lasts check-tables.ended (κ, tt) (d, tt) ws)) (fact 𝓤 (Found r)))
 
-  exits : (r : Verdict) (u : Val) → r ≡ found → ent 𝓤 (⋆ 𝓤 H A (‵ (S.the-row .own r (u ∷ [])) ∷ (‵ (flft κ q) ⊛ ‵ ftrue) ∷ ‵ Params ∷ [])) (Post u)
+  exits : (r : Verdict) (u : Val) → Found r → ent 𝓤 (⋆ 𝓤 H A (‵ (S.the-row .own r (u ∷ [])) ∷ (‵ (flft κ q) ⊛ ‵ ftrue) ∷ ‵ Params ∷ [])) (Post u)
   exits r u e =
       qed W (‵ (S.the-row .own r (u ∷ [])) ∷ (‵ (flft κ q) ⊛ ‵ ftrue) ∷ ‵ Params ∷ []) ∵
       suffices ! _
@@ -133,7 +135,7 @@ module _ {M : Type 1} (𝓤 : URA M) (H : Heap 𝓤) (A : Atoms 𝓤) (W : Given
         (later (some (λ (r : Verdict). ((‵ (flft κ q) ⊛ ‵ ftrue) ⊛ ‵ (S.the-row .own r (u ∷ [])))
         ⊛ raw (ensured 𝓤 H A check-tables.ended (check-tables.clauses 𝓤 H A mem run) (κ, tt) (d, tt) tt r))))
         (id⊢ 𝓤 _) $ await ! tt $ pick ! (λ r.
-        split ! $ move ! (1 ∷ []) $ use1 W (raw (fact 𝓤 (r ≡ found))) (said r) $ heard ! (r ≡ found) (λ e. split ! $ move ! (1 ∷ []) $
+        split ! $ move ! (1 ∷ []) $ use1 W (raw (fact 𝓤 (Found r))) (said r) $ heard ! (Found r) (λ e. split ! $ move ! (1 ∷ []) $
         -- [the result; the token; what the parameters own; _3; …; _2; …; _1; …; room for _0; …]
         peeks ! S.the-row (Is S.the-row) (shows 𝓤 H A S.the-row) r (u ∷ []) (λ is.
         land ! (from ! (stop !)) (init ! 9 refl (EL.lawful S.the-type S′.the-laws 𝓤 H A W tt .typed r _ is .0)) $
