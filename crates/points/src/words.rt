@@ -3,6 +3,7 @@ ghost use mathlib.Core.Path.{_≡_};
 ghost use mathlib.Core.Bool.{true};
 ghost use Prim.Native.Nat.{_+_, _≤_, _<_};
 ghost use lib.ListN.{length};
+ghost use Rattle.job.specs.Laid.{Laid};
 ghost use Rattle.job.specs.Model.{view};
 ghost use Rattle.job.specs.WellFormed.{Ranged};
 ghost use Rattle.points.specs.Points.{PointsKnown};
@@ -41,7 +42,7 @@ pub fn is_small(job: Job) -> bool
 }
 
 fn condition_word(s: &[u8], job: Job, starts: &[u32], c: u16) -> u64
-    requires { ⌜ Ranged (view job (now s)) × (c < job .count .conditions) ⌝ }
+    requires { ⌜ Ranged (view job (now s)) × (c < job .count .conditions) × Laid job (now s) ⌝ }
     ensures { λ r. ⌜ (r ≡ conditionWord (view job (now (s .entry))) (scheduleOf (now (starts .entry))) c)
         × (firstTick (view job (now (s .entry))) (scheduleOf (now (starts .entry))) c < tickSpan) ⌝ }
 {
@@ -51,7 +52,7 @@ fn condition_word(s: &[u8], job: Job, starts: &[u32], c: u16) -> u64
 }
 
 fn effect_word(s: &[u8], job: Job, starts: &[u32], e: u16) -> u64
-    requires { ⌜ Ranged (view job (now s)) × (e < job .count .effects) ⌝ }
+    requires { ⌜ Ranged (view job (now s)) × (e < job .count .effects) × Laid job (now s) ⌝ }
     ensures { λ r. ⌜ (r ≡ effectWord (view job (now (s .entry))) (scheduleOf (now (starts .entry))) e)
         × (effectTick (view job (now (s .entry))) (scheduleOf (now (starts .entry))) e < tickSpan) ⌝ }
 {
@@ -66,7 +67,7 @@ fn effect_word(s: &[u8], job: Job, starts: &[u32], e: u16) -> u64
 }
 
 fn use_word(s: &[u8], job: Job, starts: &[u32], u: u16) -> u64
-    requires { ⌜ Ranged (view job (now s)) × (u < job .count .uses) ⌝ }
+    requires { ⌜ Ranged (view job (now s)) × (u < job .count .uses) × Laid job (now s) ⌝ }
     ensures { λ r. ⌜ (r ≡ useWord (view job (now (s .entry))) (scheduleOf (now (starts .entry))) u)
         × (useTick (view job (now (s .entry))) (scheduleOf (now (starts .entry))) u < tickSpan) ⌝ }
 {
@@ -83,7 +84,7 @@ fn use_word(s: &[u8], job: Job, starts: &[u32], u: u16) -> u64
 
 // Puts the words of all conditions into the first places of a list.
 fn put_conditions(s: &[u8], job: Job, starts: &[u32], points: &mut [u64])
-    requires { ⌜ Ranged (view job (now s)) × (job .count .conditions ≤ length (now points)) ⌝ }
+    requires { ⌜ Ranged (view job (now s)) × (job .count .conditions ≤ length (now points)) × Laid job (now s) ⌝ }
     ensures { λ _. ⌜ ConditionsPut (view job (now (s .entry))) (scheduleOf (now (starts .entry))) (now (points .entry)) (now (points .exit)) ⌝ }
 {
     let n = job.count.conditions;
@@ -96,7 +97,7 @@ fn put_conditions(s: &[u8], job: Job, starts: &[u32], points: &mut [u64])
 
 // Puts those of all effects into the next ones.
 fn put_effects(s: &[u8], job: Job, starts: &[u32], points: &mut [u64])
-    requires { ⌜ Ranged (view job (now s)) × (job .count .conditions + job .count .effects ≤ length (now points)) ⌝ }
+    requires { ⌜ Ranged (view job (now s)) × (job .count .conditions + job .count .effects ≤ length (now points)) × Laid job (now s) ⌝ }
     ensures { λ _. ⌜ EffectsPut (view job (now (s .entry))) (scheduleOf (now (starts .entry))) (now (points .entry)) (now (points .exit)) ⌝ }
 {
     let from = job.count.conditions as usize;
@@ -110,7 +111,7 @@ fn put_effects(s: &[u8], job: Job, starts: &[u32], points: &mut [u64])
 
 // Puts those of all uses behind them.
 fn put_uses(s: &[u8], job: Job, starts: &[u32], points: &mut [u64])
-    requires { ⌜ Ranged (view job (now s)) × (pointCount (view job (now s)) ≤ length (now points)) ⌝ }
+    requires { ⌜ Ranged (view job (now s)) × (pointCount (view job (now s)) ≤ length (now points)) × Laid job (now s) ⌝ }
     ensures { λ _. ⌜ UsesPut (view job (now (s .entry))) (scheduleOf (now (starts .entry))) (now (points .entry)) (now (points .exit)) ⌝ }
 {
     let from = job.count.conditions as usize + job.count.effects as usize;
@@ -124,7 +125,7 @@ fn put_uses(s: &[u8], job: Job, starts: &[u32], points: &mut [u64])
 
 // Lists the words of all points of a job.
 fn put_words(s: &[u8], job: Job, starts: &[u32], points: &mut [u64])
-    requires { ⌜ Ranged (view job (now s)) × (pointCount (view job (now s)) ≤ length (now points)) ⌝ }
+    requires { ⌜ Ranged (view job (now s)) × (pointCount (view job (now s)) ≤ length (now points)) × Laid job (now s) ⌝ }
     ensures { λ _. ⌜ WordsListed (view job (now (s .entry))) (scheduleOf (now (starts .entry))) (now (points .exit))
         × (length (now (points .exit)) ≡ length (now (points .entry))) ⌝ }
 {
@@ -142,7 +143,7 @@ pub fn list_points(
     points: &mut [u64],
     begins: &mut [u16],
 )
-    requires { ⌜ Ranged (view job (now s)) × PointRoom (view job (now s)) (now spare) (now points) (now begins) ⌝ }
+    requires { ⌜ Ranged (view job (now s)) × PointRoom (view job (now s)) (now spare) (now points) (now begins) × Laid job (now s) ⌝ }
     ensures { λ _. ⌜ PointsKnown (view job (now (s .entry))) (scheduleOf (now (starts .entry))) (now (points .exit)) (now (begins .exit)) ⌝ }
 {
     put_words(s, job, starts, points);

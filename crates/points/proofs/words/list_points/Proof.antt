@@ -9,7 +9,7 @@ pub list-points-spec : {M : Type 1} → statement M
 list-points-spec =
     tie.close
     (tie.spec
-    (λ c κs. let p = c .before .before .before .before .before .before .pre in (p .0, p .1 .listed))
+    (λ c κs. let p = c .before .before .before .before .before .before .pre in (p .0, p .1 .listed, p .2))
     (λ c. search needs) (λ c. search needs) (λ c. search needs) (λ c. search needs) (λ c. search needs) (λ c. search needs) (λ c. search needs)
     (λ c. search needs) (λ c. search needs)
     (λ c κs.

@@ -18,7 +18,7 @@ put-conditions-spec =
     Putting 0 n (conditionWord (view job s) (scheduleOf starts)) (firstTick (view job s) (scheduleOf starts)) points₀ points c)
     (λ s job starts points₀ n c₀ points c. n - c)
     (λ c. putting-start (omega arith))
-    (λ c κs. (c .before .before .before .before .before .pre .0, c .loop-test .taken))
+    (λ c κs. let p = c .before .before .before .before .before .pre in (p .0, c .loop-test .taken, p .2))
     (λ c. search needs) (λ c. search needs)
     (λ c. rw zero-add at (putting-room (c .before .before .loop .inv) (c .before .loop-test .taken)))
     (λ c. search needs) (λ c. search needs)

@@ -18,7 +18,7 @@ put-uses-spec =
     (λ s job starts points₀ from n u₀ points u. n - u)
     (λ c. search needs) (λ c. search needs) (λ c. search needs)
     (λ c. putting-start (omega arith))
-    (λ c κs. (c .before .before .before .before .before .before .before .pre .0, c .loop-test .taken))
+    (λ c κs. let p = c .before .before .before .before .before .before .before .pre in (p .0, c .loop-test .taken, p .2))
     (λ c. search needs) (λ c. search needs) (λ c. search needs)
     (λ c. putting-room (c .before .before .loop .inv) (c .before .loop-test .taken))
     (λ c. search needs) (λ c. search needs)

@@ -9,16 +9,16 @@ pub put-words-spec : {M : Type 1} → statement M
 put-words-spec =
     tie.close
     (tie.spec
-    (λ c κs. let p = c .before .before .before .before .pre in (p .0, omega arith))
+    (λ c κs. let p = c .before .before .before .before .pre in (p .0, omega arith, p .2))
     (λ c κs.
     let conditions = c .before .before .before in
     let p = conditions .before .before .before .before .before .pre in
-    (p .0, omega (arith, conditions .put-conditions .ensures .size)))
+    (p .0, omega (arith, conditions .put-conditions .ensures .size), p .2))
     (λ c κs.
     let effects = c .before .before .before in
     let conditions = effects .before .before .before .before in
     let p = conditions .before .before .before .before .before .pre in
-    (p .0, omega (arith, effects .put-effects .ensures .size, conditions .put-conditions .ensures .size)))
+    (p .0, omega (arith, effects .put-effects .ensures .size, conditions .put-conditions .ensures .size), p .2))
     (λ c.
     let uses = c .before .before in
     let effects = uses .before .before .before .before in
