@@ -31,10 +31,12 @@ pub fn effect_tick(s: &[u8], job: Job, starts: &[u32], e: u16) -> usize
     start_of(starts, effect_step(s, job, e)) + effect_at(s, job, e)
 }
 
-pub fn last_tick(s: &[u8], job: Job, starts: &[u32], c: u16) -> usize
+// The last tick of condition c, by its step.
+pub fn last_tick(s: &[u8], job: Job, starts: &[u32], c: u16, step: u16) -> usize
+    requires { ⌜ step ≡ view job (now s) .conditionStep c ⌝ }
     ensures { λ r. ⌜ (r ≡ lastTick (view job (now (s .entry))) (scheduleOf (now (starts .entry))) c) × (r < tickSpan) ⌝ }
 {
-    start_of(starts, condition_step(s, job, c)) + condition_to(s, job, c)
+    start_of(starts, step) + condition_to(s, job, c)
 }
 
 pub fn finish(s: &[u8], job: Job, starts: &[u32], k: u16) -> usize

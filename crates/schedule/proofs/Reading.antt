@@ -6,10 +6,12 @@ use native.Mathlib.Omega.{arith}
 use Rattle.verdict.specs.declared.Verdict.{Verdict}
 use Rattle.verdict.specs.Verdict.{number, _then_}
 use Rattle.job.specs.declared.layout.Job.{Job}
+use Rattle.job.specs.Laid.{Laid}
 use Rattle.job.specs.Model.{Model, view}
 use Rattle.job.specs.WellFormed.{WellFormed, Ranged}
 use Rattle.form.specs.Refusals.{stepCheck, formCheck}
 use Rattle.form.proofs.WellFormed.{ranged, well-formed}
+use Rattle.form.proofs.Laid.{passed-laid}
 use Rattle.form.proofs.Unopposed.{steps-pass, form-passes, records-passed}
 use Rattle.validity.specs.Ticks.{effectTick}
 use Rattle.schedule.specs.Opened.{Read}
@@ -27,6 +29,9 @@ clear-steps {m} {x} clear =
 module _ {s : List ℕ} {job : Job} (read : Read s job) where
   pub read-in-range : Ranged (view job s)
   read-in-range = subst (λ (j : Job). Ranged (view j s)) (sym (read .header)) (ranged s (read .passed))
+
+  pub read-lies : Laid job s
+  read-lies = passed-laid s job (read .passed) (read .header)
 
   -- a job that 7 passes too is well formed
   pub read-formed : number (stepCheck (view job s)) ≡ 0 → WellFormed (view job s)

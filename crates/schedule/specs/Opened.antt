@@ -5,6 +5,7 @@ use mathlib.Core.List.{List}
 use Rattle.verdict.specs.Verdict.{number, _then_}
 use Rattle.job.specs.declared.layout.Job.{Job}
 use Rattle.job.specs.Layout.{jobOf}
+use Rattle.job.specs.Laid.{Laid}
 use Rattle.job.specs.Model.{view, modelOf}
 use Rattle.job.specs.WellFormed.{Ranged}
 use Rattle.form.specs.declared.Form.{Form}
@@ -24,6 +25,7 @@ pub record Opened (s : List ℕ) (r : Form) : Type 0 where
   pub refused : (number (r .verdict) ≡ 0 → ⊥) → JobPromise s (r .verdict)
   pub read : number (r .verdict) ≡ 0 → Read s (r .job)
   pub ranged : number (r .verdict) ≡ 0 → Ranged (view (r .job) s)
+  pub laid : number (r .verdict) ≡ 0 → Laid (r .job) s
 
 -- a file that refusals 1 to 6 pass, and its points at its written starts in the order of their ticks
 pub record Planned (s : List ℕ) (job : Job) (starts points begins : List ℕ) : Type 0 where

@@ -151,9 +151,10 @@ fn is_contested(
     ensures { λ r. ⌜ r ≡ contested (view job (now (s .entry))) (scheduleOf (now (starts .entry))) (wordNumber word) ⌝ }
 {
     let value = value_of(word);
-    let last = last_tick(s, job, starts, number_of(word));
+    let step = step_of(word);
+    let last = last_tick(s, job, starts, number_of(word), step);
     let from = opposing(walk, value);
-    let broken = opposed_from(points, from, setters.high, last, value, step_of(word));
+    let broken = opposed_from(points, from, setters.high, last, value, step);
     let early = opposed_before(points, from, setters.high, last, value);
     (seen_at(points, setters, walk.place) != value) | broken | early
 }

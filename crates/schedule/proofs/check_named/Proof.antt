@@ -2,7 +2,7 @@
 use mathlib.Core.Path.{sym, ap, _∙_}
 use Rattle.verdict.specs.Verdict.{number}
 use Rattle.verdict.proofs.Chain.{stands, decides}
-use Rattle.schedule.proofs.Reading.{read-in-range, read-formed}
+use Rattle.schedule.proofs.Reading.{read-in-range, read-lies, read-formed}
 use borrow.Author.Needs.{needs}
 use Rattle.schedule.proofs.check_named.Statement.{statement}
 use Rattle.schedule.proofs.check_named.Tie as tie
@@ -11,7 +11,7 @@ pub check-named-spec : {M : Type 1} → statement M
 check-named-spec =
     tie.close
     (tie.spec
-    (λ c κs. read-in-range (c .before .before .before .before .pre .read))
+    (λ c κs. let r = c .before .before .before .before .pre .read in (read-lies r, read-in-range r))
     (λ c κs. search needs)
     (λ c. stands _ (c .before .before .check-steps .ensures) (c .before .number .ensures) (c .if1 .taken))
     (λ c κs.

@@ -1,5 +1,5 @@
 -- The points in the order of their ticks, then the refusals.
-use Rattle.schedule.proofs.Reading.{read-in-range}
+use Rattle.schedule.proofs.Reading.{read-in-range, read-lies}
 use borrow.Author.Needs.{needs}
 use Rattle.schedule.proofs.check_read.Statement.{statement}
 use Rattle.schedule.proofs.check_read.Tie as tie
@@ -12,7 +12,10 @@ check-read-spec =
     (λ c κs. (c .before .before .before .before .pre, c .before .is-small .ensures (c .if1 .taken)))
     (λ c. search needs)
     (λ c. search needs) (λ c. search needs) (λ c. search needs)
-    (λ c κs. let w = read-in-range (c .before .before .before .before .before .before .before .pre) in search needs)
+    (λ c κs.
+    let r = c .before .before .before .before .before .before .before .pre in
+    let w = read-in-range r in
+    let l = read-lies r in search needs)
     (λ c. search needs) (λ c. search needs)
     (λ c κs.
     let listed = c .before .before .before .before .before in

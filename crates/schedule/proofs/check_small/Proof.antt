@@ -1,5 +1,5 @@
 -- The points in the order of their ticks, then the refusals.
-use Rattle.schedule.proofs.Reading.{read-in-range}
+use Rattle.schedule.proofs.Reading.{read-in-range, read-lies}
 use borrow.Author.Needs.{needs}
 use Rattle.schedule.proofs.check_small.Statement.{statement}
 use Rattle.schedule.proofs.check_small.Tie as tie
@@ -9,8 +9,11 @@ check-small-spec =
     tie.close
     (tie.spec
     (λ c. search needs) (λ c. search needs) (λ c. search needs)
-    (λ c κs. let w = read-in-range (c .before .before .before .before .before .pre .0) in
-    let few = c .before .before .before .before .before .pre .1 in search needs)
+    (λ c κs.
+    let p = c .before .before .before .before .before .pre in
+    let w = read-in-range (p .0) in
+    let l = read-lies (p .0) in
+    let few = p .1 in search needs)
     (λ c. search needs) (λ c. search needs)
     (λ c κs.
     let listed = c .before .before .before .before .before in

@@ -2,6 +2,7 @@
 use mathlib.Core.Path.{sym, ap, _∙_}
 use Rattle.verdict.specs.Verdict.{number}
 use Rattle.verdict.proofs.Chain.{then-refused}
+use Rattle.form.proofs.Laid.{read-laid}
 use Rattle.form.proofs.Unopposed.{read-ranged, read-refused}
 use Rattle.validity.specs.Checks.{jobCheck}
 use Rattle.validity.proofs.Accepted.{job-promise}
@@ -21,4 +22,5 @@ open-job-spec =
       refused = λ h. let e = read-refused f h in job-promise _ (e ∙ then-refused _ _ (λ z. h (ap number e ∙ z)));
       read = λ z. record { passed = sym (ap number (f .verdict)) ∙ z; header = f .job };
       ranged = read-ranged f;
+      laid = read-laid f;
     }))

@@ -8,5 +8,5 @@ pub last-tick-spec : {M : Type 1} → statement M
 last-tick-spec =
     tie.close
     (tie.spec
-    (λ c κs. search needs) (λ c κs. search needs) (λ c κs. search needs) (λ c. search needs)
+    (λ c κs. search needs) (λ c κs. search needs) (λ c. search needs)
     (λ c. (cc, omega arith)))
