@@ -39,6 +39,8 @@ use Rattle.order_file.specs.Held.{over}
 use Rattle.partialize.specs.Partialization.{looseOf, fileBytes, accepts, fits, answerTo, bufferAfter}
 use Rattle.partialize.specs.Demands.{Exact, Loose, Promise}
 use Rattle.partialize.specs.Holds.{Filing}
+use Rattle.orders.specs.Links.{nthLink}
+use Rattle.orders.proofs.Supporter.{links-supported}
 use Rattle.orders.proofs.Sound.{obeying-valid}
 use Rattle.orders.proofs.End.{same-end}
 use Rattle.orders.proofs.Satisfied.{satisfies-obeys, planned-satisfies, earliest-first, earliest-planned, earliest-satisfies}
@@ -102,6 +104,12 @@ module _ (m : Model) (x : ℕ → ℕ) (w : WellFormed m) (v : Valid m x) where
   unfolding fileOf
   rounds-filed = omega (arith, read-back .rounds, file-within m x w v .rounds)
 
+-- contents that agree with what is filed have its links
+filed-links :
+    (m : Model) (x : ℕ → ℕ) {c : Contents} → Agree c (fileOf m x) → (j : ℕ) → j < m .conditions + m .goals → c .link j ≡ nthLink m x j
+unfolding fileOf
+filed-links m x a = a .link
+
 -- demands 2 and 3 of the file of a sound job
 module _ (s : List ℕ) (p : Sound s (planned (modelOf s))) where
   exact-file : Exact s (encode (looseOf s))
@@ -115,6 +123,7 @@ module _ (s : List ℕ) (p : Sound s (planned (modelOf s))) where
         readable = encode-well-formed (looseOf s) w;
         contents = a;
         returned = encoded-read-back (looseOf s) w;
+        supporters = links-supported m x (p .wellFormed) (p .valid) (contentsOf (encode (looseOf s)) .link) (filed-links m x a);
         gaps = filed-gap m x (p .wellFormed) (p .valid) (contentsOf (encode (looseOf s))) a;
       }
 

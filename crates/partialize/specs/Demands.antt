@@ -19,6 +19,7 @@ use Rattle.order_file.specs.Agree.{Agree}
 use Rattle.order_file.specs.Layout.{contentsOf}
 use Rattle.order_reader.specs.WellFormed.{wellFormed}
 use Rattle.order_reader.specs.ReadBack.{ReadBack}
+use Rattle.orders.specs.Supporter.{LinksSupported}
 use Rattle.orders.specs.Gaps.{gapOf}
 use Rattle.orders.specs.Satisfies.{SatisfiesFile}
 use Rattle.partialize.specs.declared.answer.Answer.{Answer}
@@ -38,6 +39,8 @@ pub record Exact (s file : List ℕ) : Type 0 where
   pub contents : Agree (contentsOf file) (looseOf s)
   -- reading it returns them all, and nothing else
   pub returned : ReadBack (looseOf s) file
+  -- the links are the supporters of rule 1, and nothing else is linked so
+  pub supporters : LinksSupported (modelOf s) (planned (modelOf s)) (contentsOf file .link)
   -- the orders filed between two steps have the gap of the rules, and none is filed where the rules give none
   pub gaps :
       (i k : ℕ) → i < modelOf s .steps → k < modelOf s .steps

@@ -12,7 +12,11 @@ loosen-spec =
     (λ c. search needs)
     (λ c. search needs)
     (λ c. search needs) (λ c. search needs) (λ c. search needs)
-    (λ c κs. let w = c .before .before .before .before .before .before .before .before .pre .ranged in search needs)
+    (λ c κs.
+    let p = c .before .before .before .before .before .before .before .before .pre in
+    let w = p .ranged in
+    let l = p .laid in
+    search needs)
     (λ c. search needs) (λ c. search needs)
     (λ c κs.
     let p = c .before .before .before .before .before .before .before .before .before .before .before .before .before .before .before .pre in

@@ -8,7 +8,11 @@ loosen-small-spec =
     tie.close
     (tie.spec
     (λ c. search needs) (λ c. search needs) (λ c. search needs)
-    (λ c κs. let p = c .before .before .before .before .before .before .pre in search needs)
+    (λ c κs.
+    let p = c .before .before .before .before .before .before .pre in
+    let w = p .0 .ranged in
+    let l = p .0 .laid in
+    search needs)
     (λ c. search needs) (λ c. search needs)
     (λ c κs.
     let p = c .before .before .before .before .before .before .before .before .before .before .before .before .before .pre .0 in

@@ -35,6 +35,6 @@ partialize-spec =
     (λ c κs.
     let d = c .before .before .before .before in
     let f = d .before .before .before .open-job .ensures in
-    record { read = f .read (passed d); ranged = ranged d; written = c .before .before .planned-starts .ensures .1 })
+    record { read = f .read (passed d); ranged = ranged d; laid = f .laid (passed d); written = c .before .before .planned-starts .ensures .1 })
     (λ c. search needs)
     (λ c. search needs))
