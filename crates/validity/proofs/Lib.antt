@@ -3,4 +3,5 @@ pub mod Seen
 pub mod Levels
 pub mod Planned
 pub mod Tested
+pub mod EndState
 pub mod Accepted

@@ -247,7 +247,7 @@ module _ (m : Model) (x : ℕ → ℕ) (w : WellFormed m) where
       (eqb-true _ _ (not-false _ (b .0)))
 
   -- two effects on a fact at one tick agree
-  agree :
+  pub agree :
       Valid m x → (e f : ℕ) → e < m .effects → f < m .effects → m .effectFact e ≡ m .effectFact f → effectTick m x e ≡ effectTick m x f
       → m .effectValue e ≡ m .effectValue f
   agree v e f h g a t =
