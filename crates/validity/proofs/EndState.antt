@@ -1,8 +1,8 @@
 -- A sound timing ends with the value set last of each fact, and with each level's initial amount plus the amounts of all its uses.
-use Prim.Native.Nat.{ℕ, zero, suc, _+_, _-_, _≤_, _<_}
-use mathlib.Core.Path.{_≡_, refl, sym, ap, ap₂, _∙_}
+use Prim.Native.Nat.{ℕ, zero, suc, _+_, _<_}
+use mathlib.Core.Path.{_≡_, refl, sym, ap, _∙_}
 use mathlib.Core.Bool.{Bool, true, false, _&&_, cond, and-true}
-use mathlib.Core.Logic.{_⊎_, inl, inr, ⊎-elim}
+use mathlib.Core.Logic.{⊎-elim}
 use native.Mathlib.Decide.{ℕ-discrete}
 use native.Mathlib.Omega.{arith}
 use borrow.Author.Tests.{eqb-true, eq-eqb, lt-ltb}
@@ -13,7 +13,8 @@ use Rattle.laws.proofs.Search.{either}
 use Rattle.little_endian.specs.Bytes.{signBias}
 use Rattle.job.specs.Model.{Model}
 use Rattle.job.specs.WellFormed.{WellFormed}
-use Rattle.validity.specs.Ticks.{effectTick, useTick}
+use Rattle.validity.specs.declared.Rule.the-variants.{Effects}
+use Rattle.validity.specs.Ticks.{effectTick}
 use Rattle.validity.specs.Seen.{afterAll}
 use Rattle.validity.specs.Levels.{rise, fall, usedBy, risesBefore, fallsBefore, afterUses}
 use Rattle.validity.specs.Valid.{Valid}
@@ -21,6 +22,7 @@ use Rattle.validity.specs.EndState.{endValue, endLevel, SetsLast, overUs
 use Rattle.validity.proofs.Seen.{latest, latest-ge, latest-at, seen-by-effect, seen-by-initial, afterAll-ge}
 use Rattle.validity.proofs.Levels.{falls-ascend, afterUses-ge}
 use Rattle.validity.proofs.Tested.{agree}
+use Rattle.validity.proofs.Kept.{valid-kept}
 
 -- numbers that balance one by one balance in sum
 sum-balance :
@@ -81,7 +83,9 @@ module _ (m : Model) (x : ℕ → ℕ) (w : WellFormed m) (v : Valid m x) where
       (afterAll-ge m x e (s .known))
       (λ d g _.
       elim (ℕ-discrete (effectTick m x d) (effectTick m x e)) [
-        | yes t ↦ absurd (omega (arith, b, g .ofValue, agree m x w v d e (g .known) (s .known) (g .ofFact ∙ sym (s .onFact)) t))
+        | yes t ↦
+            let a = agree m x w (valid-kept m x v Effects) d e (g .known) (s .known) (g .ofFact ∙ sym (s .onFact)) t in
+            absurd (omega (arith, a, b, g .ofValue))
         | no t ↦ omega (arith, s .latest d (g .known) (g .ofFact))
       ])
 

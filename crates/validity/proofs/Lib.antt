@@ -3,5 +3,7 @@ pub mod Seen
 pub mod Levels
 pub mod Planned
 pub mod Tested
+pub mod Kept
 pub mod EndState
+pub mod Refused
 pub mod Accepted

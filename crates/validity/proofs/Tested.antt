@@ -16,8 +16,9 @@ use Rattle.job.specs.WellFormed.{WellFormed}
 use Rattle.validity.specs.Ticks.{effectTick, firstTick, lastTick, useTick, finish, opposes}
 use Rattle.validity.specs.Seen.{seen, afterAll}
 use Rattle.validity.specs.Levels.{risesBefore, fallsBefore, usedBy, rise, fall, aboveLeast, belowMost}
-use Rattle.validity.specs.Valid.{Valid}
 use Rattle.validity.specs.Checks.{moved, meets, conflicts, breaks, conditionFails, passes, levelFails, undoes, late, goalFails, overlaps, crowded}
+use Rattle.validity.specs.declared.Rule.the-variants.{Effects, Steps}
+use Rattle.validity.specs.Refused.{Keeps, Kept, ConditionHolds, LevelHolds, GoalHolds}
 use Rattle.validity.proofs.Seen.{Giver, seen-persists, seen-other}
 use Rattle.validity.proofs.Levels.{rises-idle, falls-idle, rises-ascend, falls-ascend, last-use}
 
@@ -31,7 +32,7 @@ other-value h g d = omega arith
 
 module _ (m : Model) (x : ℕ → ℕ) where
   -- an effect opposes exactly if it is on the fact with another value
-  opposes-out : (e fact value : ℕ) → opposes m e fact value ≡ true → (m .effectFact e ≡ fact) × (m .effectValue e ≡ value → ⊥)
+  pub opposes-out : (e fact value : ℕ) → opposes m e fact value ≡ true → (m .effectFact e ≡ fact) × (m .effectValue e ≡ value → ⊥)
   opposes-out e fact value h = let b = and-both _ _ h in (eqb-true _ _ (b .0), eqb-false _ _ (not-true _ (b .1)))
 
   opposes-in : (e fact value : ℕ) → m .effectFact e ≡ fact → (m .effectValue e ≡ value → ⊥) → opposes m e fact value ≡ true
@@ -61,9 +62,9 @@ module _ (m : Model) (x : ℕ → ℕ) where
             (any-false (meets m x e) (m .effects) n f h)
       ]
 
-  pub none-conflicts : Valid m x → (e : ℕ) → e < m .effects → conflicts m x e ≡ false
+  pub none-conflicts : (e : ℕ) → Keeps m x Effects e → conflicts m x e ≡ false
   unfolding conflicts meets
-  none-conflicts v e h =
+  none-conflicts e v =
       any-none (meets m x e) (m .effects)
       (λ f g.
       fails _
@@ -71,7 +72,7 @@ module _ (m : Model) (x : ℕ → ℕ) where
       let b = and-both _ _ t in
       let a = and-both _ _ (b .0) in
       let o = opposes-out e (m .effectFact f) (m .effectValue f) (a .1) in
-      o .1 (v .effectsApart e f h g (eqb-false _ _ (not-true _ (a .0))) (o .0) (eqb-true _ _ (b .1)))))
+      o .1 (v f g (eqb-false _ _ (not-true _ (a .0))) (o .0) (eqb-true _ _ (b .1)))))
 
   -- refusal 11
   pub breaks-none :
@@ -88,9 +89,9 @@ module _ (m : Model) (x : ℕ → ℕ) where
             (any-false (breaks m x c) (m .effects) n e h)
       ]
 
-  none-breaks : Valid m x → (c : ℕ) → c < m .conditions → any (m .effects) (breaks m x c) ≡ false
+  none-breaks : (c : ℕ) → ConditionHolds m x c → any (m .effects) (breaks m x c) ≡ false
   unfolding breaks
-  none-breaks v c h =
+  none-breaks c v =
       any-none (breaks m x c) (m .effects)
       (λ e g.
       fails _
@@ -99,7 +100,7 @@ module _ (m : Model) (x : ℕ → ℕ) where
       let b = and-both _ _ (d .0) in
       let a = and-both _ _ (b .0) in
       let o = opposes-out e (m .conditionFact c) (m .conditionValue c) (a .1) in
-      o .1 (v .conditionKept c e h g (eqb-false _ _ (not-true _ (a .0))) (o .0) (leb-true _ _ (b .1)) (leb-true _ _ (d .1)))))
+      o .1 (v .unopposed e g (eqb-false _ _ (not-true _ (a .0))) (o .0) (leb-true _ _ (b .1)) (leb-true _ _ (d .1)))))
 
   -- refusal 12
   idle-falls : (l t : ℕ) → ((u : ℕ) → u < m .uses → m .useLevel u ≡ l → useTick m x u < t → ⊥) → fallsBefore m x l t ≡ 0
@@ -153,16 +154,16 @@ module _ (m : Model) (x : ℕ → ℕ) where
       omega (arith, b, f, falls-ascend m x l (useTick m x (w .0)) t (omega (arith, w .3))))
       (last-use m x l (suc t))
 
-  pub none-passes : Valid m x → (l : ℕ) → l < m .levels → levelFails m x l ≡ false
+  pub none-passes : (l : ℕ) → LevelHolds m x l → levelFails m x l ≡ false
   unfolding levelFails passes
-  none-passes v l h =
+  none-passes l v =
       any-none (passes m x l) (m .uses)
       (λ u g.
       fails _
       (λ t.
       let b = and-both (eqb (m .useLevel u) l) _ t in
       contrary
-      (ap₂ _&&_ (le-leb _ _ (v .levelLow l (useTick m x u) h)) (le-leb _ _ (v .levelHigh l (useTick m x u) h)))
+      (ap₂ _&&_ (le-leb _ _ (v .low (useTick m x u))) (le-leb _ _ (v .high (useTick m x u))))
       (not-true _ (b .1))))
 
   -- refusal 14
@@ -178,9 +179,9 @@ module _ (m : Model) (x : ℕ → ℕ) where
             (ap₂ _&&_ (ap not (ne-eqb _ _ d)) (ap not (fails (leb (finish m x i) (x k)) (λ t. l (leb-true _ _ t)))))) ∙ o)))
       ]
 
-  pub none-crowded : Valid m x → (i : ℕ) → i < m .steps → crowded m x i ≡ false
+  pub none-crowded : (i : ℕ) → Keeps m x Steps i → crowded m x i ≡ false
   unfolding crowded overlaps
-  none-crowded v i h =
+  none-crowded i v =
       fails _
       (λ t.
       let s = and-both _ _ t in
@@ -194,7 +195,7 @@ module _ (m : Model) (x : ℕ → ℕ) where
       ⊎-elim
       (λ (l : finish m x i ≤ x k). contrary (le-leb _ _ l) (not-true _ (a .1)))
       (λ (l : finish m x k ≤ x i). contrary (le-leb _ _ l) (not-true _ (b .1)))
-      (v .serialApart (eqb-true _ _ (s .0)) i k h g (eqb-false _ _ (not-true _ (a .0))))))))
+      (v (eqb-true _ _ (s .0)) k g (eqb-false _ _ (not-true _ (a .0))))))))
 
   -- the two halves of 11, and those of 13
   pub condition-holds :
@@ -224,12 +225,12 @@ module _ (m : Model) (x : ℕ → ℕ) (w : WellFormed m) where
       ])
       (b .0)
 
-  pub none-condition-fails : Valid m x → (c : ℕ) → c < m .conditions → conditionFails m x c ≡ false
+  pub none-condition-fails : (c : ℕ) → c < m .conditions → ConditionHolds m x c → conditionFails m x c ≡ false
   unfolding conditionFails
-  none-condition-fails v c h =
+  none-condition-fails c h v =
       ap₂ _||_
-      (ap not (eq-eqb _ _ (v .conditionSeen c (firstTick m x c) h (omega arith) (omega (arith, w .conditionSpan c h)))))
-      (none-breaks m x v c h)
+      (ap not (eq-eqb _ _ (v .seenThroughout (firstTick m x c) (omega arith) (omega (arith, w .conditionSpan c h)))))
+      (none-breaks m x c v)
 
   -- refusal 13
   pub goal-in-time :
@@ -248,26 +249,21 @@ module _ (m : Model) (x : ℕ → ℕ) (w : WellFormed m) where
 
   -- two effects on a fact at one tick agree
   pub agree :
-      Valid m x → (e f : ℕ) → e < m .effects → f < m .effects → m .effectFact e ≡ m .effectFact f → effectTick m x e ≡ effectTick m x f
+      Kept m x Effects → (e f : ℕ) → e < m .effects → f < m .effects → m .effectFact e ≡ m .effectFact f → effectTick m x e ≡ effectTick m x f
       → m .effectValue e ≡ m .effectValue f
   agree v e f h g a t =
       elim (ℕ-discrete (m .effectStep e) (m .effectStep f)) [
         | yes s ↦ let q : x (m .effectStep e) ≡ x (m .effectStep f) = ap x s in w .oneWay e f h g s a (omega arith)
-        | no s ↦ v .effectsApart e f h g s a t
+        | no s ↦ v e h f g s a t
       ]
 
-  -- what opposes a goal after its deadline is seen at the next tick
-  none-undoes : Valid m x → (g : ℕ) → g < m .goals → (m .goalDeadline g ≡ noDeadline → ⊥) → any (m .effects) (undoes m x g) ≡ false
-  unfolding undoes
-  none-undoes v g h d =
-      any-none (undoes m x g) (m .effects)
-      (λ e k.
-      fails _
-      (λ t.
-      let b = and-both _ _ t in
-      let o = opposes-out m x e (m .goalFact g) (m .goalValue g) (b .0) in
-      let a : m .goalDeadline g < effectTick m x e = ltb-true _ _ (b .1) in
-      let z = v .goalInTime g (suc (effectTick m x e)) h d (omega arith) in
+  -- what opposes a goal is seen at the next tick
+  pub undone :
+      Kept m x Effects → (g e : ℕ) → g < m .goals → e < m .effects → opposes m e (m .goalFact g) (m .goalValue g) ≡ true
+      → seen m x (m .goalFact g) (suc (effectTick m x e)) ≡ m .goalValue g
+      → ⊥
+  undone v g e h k t z =
+      let o = opposes-out m x e (m .goalFact g) (m .goalValue g) t in
       let r = w .goalValue g h in
       let giver : Giver m (m .goalFact g) (1 - m .goalValue g) e = record { known = k; ofFact = o .0; ofValue = other-value (w .effectValue e k) r (o .1) } in
       let y = seen-other m x (m .goalFact g) (m .goalValue g) (suc (effectTick m x e)) e r giver (omega arith)
@@ -277,16 +273,28 @@ module _ (m : Model) (x : ℕ → ℕ) (w : WellFormed m) where
         | no p ↦ omega arith
       ])
       in
-      omega (arith, z, y, r)))
+      omega (arith, z, y, r)
 
-  pub none-goal-fails : Valid m x → (g : ℕ) → g < m .goals → goalFails m x g ≡ false
+  none-undoes :
+      Kept m x Effects → (g : ℕ) → g < m .goals → GoalHolds m x g → (m .goalDeadline g ≡ noDeadline → ⊥) → any (m .effects) (undoes m x g) ≡ false
+  unfolding undoes
+  none-undoes v g h q d =
+      any-none (undoes m x g) (m .effects)
+      (λ e k.
+      fails _
+      (λ t.
+      let b = and-both _ _ t in
+      let a : m .goalDeadline g < effectTick m x e = ltb-true _ _ (b .1) in
+      undone v g e h k (b .0) (q .inTime (suc (effectTick m x e)) d (omega arith))))
+
+  pub none-goal-fails : Kept m x Effects → (g : ℕ) → g < m .goals → GoalHolds m x g → goalFails m x g ≡ false
   unfolding goalFails late
-  none-goal-fails v g h =
-      ap₂ _||_ (ap not (eq-eqb _ _ (v .goalReached g h)))
+  none-goal-fails v g h q =
+      ap₂ _||_ (ap not (eq-eqb _ _ (q .reached)))
       (elim (ℕ-discrete (m .goalDeadline g) noDeadline) [
         | yes d ↦ ap (λ b. not
             b && (not (eqb (seen m x (m .goalFact g) (suc (m .goalDeadline g))) (m .goalValue g)) || any (m .effects) (undoes m x g))) (eq-eqb _ _ d)
         | no d ↦
             ap₂ _&&_ (ap not (ne-eqb _ _ d))
-            (ap₂ _||_ (ap not (eq-eqb _ _ (v .goalInTime g (suc (m .goalDeadline g)) h d (omega arith)))) (none-undoes v g h d))
+            (ap₂ _||_ (ap not (eq-eqb _ _ (q .inTime (suc (m .goalDeadline g)) d (omega arith)))) (none-undoes v g h q d))
       ])

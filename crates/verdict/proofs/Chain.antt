@@ -1,11 +1,13 @@
 -- Laws of the chain of checks: what an accepted or a refused verdict so far makes of the next check.
 use Prim.Native.Nat.{ℕ, _<_, _≤_}
-use mathlib.Core.Path.{_≡_, refl, sym, ap, _∙_}
+use mathlib.Core.Path.{_≡_, refl, sym, ap, subst, _∙_}
 use mathlib.Core.Bool.{Bool, true, false}
-use native.Mathlib.Decide.{ℕ-discrete}
+use mathlib.Core.Logic.{_⊎_, inl, inr}
+use native.Mathlib.Decide.{ℕ-discrete, decLt}
+use native.Mathlib.Omega.{arith}
 use borrow.Author.Tests.{eq-eqb, ne-eqb, lt-ltb, le-ltb}
 use Rattle.laws.specs.Search.{lowest}
-use Rattle.laws.proofs.Search.{any-none, any-false, any-lowest}
+use Rattle.laws.proofs.Search.{any-none, any-false, any-lowest, lowest-facts}
 use Rattle.verdict.specs.declared.Verdict.{Verdict}
 use Rattle.verdict.specs.declared.Verdict.the-variants.{Accepted}
 use Rattle.verdict.specs.Verdict.{number, _then_, refuseIf, refuseLowest}
@@ -80,3 +82,28 @@ stands {v} {a} b e q h = e ∙ then-refused a b (λ z. h (q ∙ ap number e ∙ 
 
 pub decides : {v a w b : Verdict} {n : ℕ} → v ≡ a → n ≡ number v → n ≡ 0 → w ≡ b → w ≡ (a then b)
 decides {v} {a} {w} {b} e q z g = g ∙ then-accepted a b (sym (ap number e) ∙ sym q ∙ z)
+
+-- what holds of two checks' verdicts holds of their chain's, and what holds of a refusal and of acceptance holds of either
+pub then-either : (P : Verdict → Type 0) (v w : Verdict) → P v → P w → P (v then w)
+then-either P v w h g =
+    elim (ℕ-discrete (number v) 0) [
+      | yes z ↦ subst P (then-accepted v w z) g
+      | no z ↦ subst P (then-refused v w z) h
+    ]
+
+pub refuse-either : (P : Verdict → Type 0) (b : Bool) (v : Verdict) → P v → P Accepted → P (refuseIf b v)
+unfolding refuseIf
+refuse-either P true v h g = h
+refuse-either P false v h g = g
+
+-- a test names no record, or the refusal is of the lowest that it names
+pub lowest-outcome :
+    (n : ℕ) (p : ℕ → Bool) (refusal : ℕ → Verdict)
+    → ((refuseLowest n p refusal ≡ Accepted) × ((k : ℕ) → k < n → p k ≡ false))
+    ⊎ ((k : ℕ) × (k < n) × (p k ≡ true) × ((j : ℕ) → j < k → p j ≡ false) × (refuseLowest n p refusal ≡ refusal k))
+lowest-outcome n p refusal =
+    let f = lowest-facts p n in
+    elim (decLt (lowest n p) n) [
+      | yes l ↦ inr (lowest n p, l, f .2 l, f .1, sym (lowest-refused n p refusal refl l))
+      | no l ↦ inl (sym (lowest-passed n p refusal refl (omega arith)), λ k h. f .1 k (omega arith))
+    ]

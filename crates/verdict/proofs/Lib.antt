@@ -1,2 +1,3 @@
--- The laws of a chain of checks.
+-- The laws of a chain of checks, and of places.
 pub mod Chain
+pub mod Unplaced
