@@ -25,12 +25,12 @@ use Rattle.job.specs.WellFormed.{WellFormed, Ranged}
 use Rattle.verdict.proofs.Chain.{then-zero, refuse-zero, lowest-zero}
 
 -- once refusal 6 passes, every record of every table is in order
-table-zero : (m : Model) (t : Table) → number (tableCheck m t) ≡ 0 → (k : ℕ) → k < countIn m t → recordOk m t k ≡ true
+pub table-zero : (m : Model) (t : Table) → number (tableCheck m t) ≡ 0 → (k : ℕ) → k < countIn m t → recordOk m t k ≡ true
 unfolding tableCheck
 table-zero m t e k h =
     not-false (recordOk m t k) (lowest-zero (countIn m t) (recordBroken m t) RecordOutOfRange (λ j z. let y : _≡_ {A = ℕ} 6 0 = z in omega arith) e k h)
 
-tables : (m : Model) → number (recordCheck m) ≡ 0 → (t : Table) (k : ℕ) → k < countIn m t → recordOk m t k ≡ true
+pub tables : (m : Model) → number (recordCheck m) ≡ 0 → (t : Table) (k : ℕ) → k < countIn m t → recordOk m t k ≡ true
 unfolding recordCheck
 tables m e =
     let g = then-zero _ _ e in
@@ -135,7 +135,7 @@ goal-in m k e =
     (ltb-true _ _ (a .0), leb-true _ _ (a .1), deadline (b .1))
 
 -- no count exceeds its highest
-counts : (c : Counts) → countTooHigh c ≡ false → (t : ℕ) → t < 7 → getD (countList c) t 0 ≤ getD highest t 0
+pub counts : (c : Counts) → countTooHigh c ≡ false → (t : ℕ) → t < 7 → getD (countList c) t 0 ≤ getD highest t 0
 unfolding countTooHigh
 counts c e t h = ltb-false _ _ (any-false _ 7 e t h)
 

@@ -4,3 +4,4 @@ pub mod Ranges
 pub mod Against
 pub mod Keys
 pub mod Refusals
+pub mod Refused

@@ -2,6 +2,7 @@
 ghost use mathlib.Core.Path.{_≡_};
 ghost use Rattle.job.specs.Model.{modelOf};
 ghost use Rattle.form.specs.Refusals.{formCheck, RecordsPromise, FormPromise};
+ghost use Rattle.form.specs.Refused.{FormRefusal};
 ghost use Rattle.verdict.specs.Verdict.{number as numberOf};
 ghost use Rattle.job.specs.WellFormed.{WellFormed};
 
@@ -48,10 +49,11 @@ pub fn read_form(s: &[u8]) -> Form
 }
 
 // Whether a file is well formed: accepted, or the first of refusals 1 to 7 that fits. Of an accepted file every record is in
-// range, names what exists, and no step is against itself.
+// range, names what exists, and no step is against itself; a refusal's number and place name what fails first.
 pub fn check_form(s: &[u8]) -> Verdict
     ensures { λ r. ⌜ r ≡ formCheck (now (s .entry)) ⌝ }
     ensures { λ r. ⌜ (numberOf r ≡ 0 → WellFormed (modelOf (now (s .entry)))) ⌝ }
+    ensures { λ r. ⌜ FormRefusal (now (s .entry)) r ⌝ }
 {
     let form = read_form(s);
     form.verdict

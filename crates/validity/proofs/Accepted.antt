@@ -18,7 +18,7 @@ use Rattle.verdict.proofs.Chain.{then-refused, then-accepted, then-zero, refuse
 use Rattle.verdict.proofs.Unplaced.{unplaced}
 use Rattle.form.specs.Refusals.{formCheck}
 use Rattle.form.proofs.WellFormed.{well-formed}
-use Rattle.form.proofs.Refused.{form-most}
+use Rattle.form.proofs.Refused.{form-most, form-refusal}
 use Rattle.validity.specs.declared.Rule.{Rule}
 use Rattle.validity.specs.declared.Rule.the-variants.{FixedSteps, Effects, Conditions, Levels, Goals, Steps}
 use Rattle.validity.specs.Ticks.{scheduleOf, planned}
@@ -74,7 +74,12 @@ module _ (s : List ℕ) (x : ℕ → ℕ) (t : Verdict) {r : Verdict} (e : r ≡
               | yes z ↦
                   let q = timing-decides z in
                   absurd (omega (arith, ap number q, from (λ y. n (ap number q ∙ y))))
-              | no z ↦ form-stands z
+              | no z ↦ (form-stands z, form-refusal s (form-stands z))
+            ];
+        wellFormed = λ l.
+            elim (ℕ-discrete (number (formCheck s)) 0) [
+              | yes z ↦ well-formed s z
+              | no z ↦ absurd (omega (arith, ap number (form-stands z), form-most s))
             ];
         first = c .named;
         most = c .most;

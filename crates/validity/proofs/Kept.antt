@@ -1,14 +1,14 @@
 -- Each rule's test against what the rule asks of one record: it keeps the rule, or it violates it.
 use Prim.Native.Nat.{ℕ, suc, _+_, _≤_, _<_}
-use mathlib.Core.Path.{_≡_, sym, ap₂, _∙_}
-use mathlib.Core.Bool.{Bool, true, false, not, _&&_}
+use mathlib.Core.Path.{_≡_, ap₂}
+use mathlib.Core.Bool.{true, false, not, _&&_}
 use mathlib.Core.Logic.{inl, inr, ⊎-elim}
 use native.Mathlib.Decide.{decLe}
 use native.Mathlib.Omega.{arith}
 use borrow.Author.Tests.{ltb-true, leb-true, eqb-true, eqb-false, not-true, le-leb}
 use lib.Dec.{leb, eqb}
-use Rattle.laws.specs.Search.{any, lowest}
-use Rattle.laws.proofs.Search.{contrary, and-both, or-out, any-lowest, lowest-facts}
+use Rattle.laws.specs.Search.{any}
+use Rattle.laws.proofs.Search.{contrary, and-both, or-out, any-elim}
 use Rattle.job.specs.Model.{Model}
 use Rattle.job.specs.WellFormed.{WellFormed}
 use Rattle.validity.specs.declared.Rule.{Rule}
@@ -24,10 +24,6 @@ use Rattle.validity.specs.Refused.{Moved, ConflictsWith, UnseenAt, Oppos
 use Rattle.validity.proofs.Tested.{opposes-out, moved-none, none-moved, conflicts-none, none-conflicts, breaks-none, low-everywhere}
 use Rattle.validity.proofs.Tested.{high-everywhere, none-passes, crowded-none, none-crowded, condition-holds, condition-seen}
 use Rattle.validity.proofs.Tested.{none-condition-fails, goal-holds, goal-in-time, undone, none-goal-fails}
-
--- some index passes
-found : (p : ℕ → Bool) (n : ℕ) → any n p ≡ true → (k : ℕ) × (k < n) × (p k ≡ true)
-found p n e = let l = ltb-true _ _ (sym (any-lowest p n) ∙ e) in (lowest n p, l, lowest-facts p n .2 l)
 
 -- a test of order that fails
 above : (a b : ℕ) → (leb a b ≡ true → ⊥) → b < a
@@ -120,7 +116,7 @@ module _ (m : Model) (x : ℕ → ℕ) (w : WellFormed m) where
   conflicts-violates : (e : ℕ) → conflicts m x e ≡ true → (f : ℕ) × ConflictsWith m x e f
   unfolding conflicts meets
   conflicts-violates e h =
-      let f = found (meets m x e) (m .effects) h in
+      let f = any-elim (meets m x e) (m .effects) h in
       let b = and-both _ _ (f .2) in
       let a = and-both _ _ (b .0) in
       let o = opposes-out m x e (m .effectFact (f .0)) (m .effectValue (f .0)) (a .1) in (
@@ -137,7 +133,7 @@ module _ (m : Model) (x : ℕ → ℕ) (w : WellFormed m) where
   breaks-violates : (c : ℕ) → any (m .effects) (breaks m x c) ≡ true → (e : ℕ) × OpposedBy m x c e
   unfolding breaks
   breaks-violates c h =
-      let f = found (breaks m x c) (m .effects) h in
+      let f = any-elim (breaks m x c) (m .effects) h in
       let d = and-both _ _ (f .2) in
       let b = and-both _ _ (d .0) in
       let a = and-both _ _ (b .0) in
@@ -172,7 +168,7 @@ module _ (m : Model) (x : ℕ → ℕ) (w : WellFormed m) where
   level-violates : (l : ℕ) → levelFails m x l ≡ true → (t : ℕ) × OutOfBounds m x l t
   unfolding levelFails passes
   level-violates l e =
-      let f = found (passes m x l) (m .uses) e in
+      let f = any-elim (passes m x l) (m .uses) e in
       let t = useTick m x (f .0) in
       let b = and-both (eqb (m .useLevel (f .0)) l) _ (f .2) in (
         t,
@@ -191,7 +187,7 @@ module _ (m : Model) (x : ℕ → ℕ) (w : WellFormed m) where
       (λ (a : not (eqb (seen m x (m .goalFact g) (suc (m .goalDeadline g))) (m .goalValue g)) ≡ true).
       (suc (m .goalDeadline g), record { deadline = d; after = omega arith; otherValue = eqb-false _ _ (not-true _ a) }))
       (λ (a : any (m .effects) (undoes m x g) ≡ true).
-      let f = found (undoes m x g) (m .effects) a in
+      let f = any-elim (undoes m x g) (m .effects) a in
       let c = and-both _ _ (f .2) in
       let l : m .goalDeadline g < effectTick m x (f .0) = ltb-true _ _ (c .1) in
       (suc (effectTick m x (f .0)), record { deadline = d; after = omega arith; otherValue = undone m x w apart g (f .0) h (f .1) (c .0) }))
@@ -209,7 +205,7 @@ module _ (m : Model) (x : ℕ → ℕ) (w : WellFormed m) where
   unfolding crowded overlaps
   steps-violate i e =
       let s = and-both _ _ e in
-      let f = found (overlaps m x i) (m .steps) (s .1) in
+      let f = any-elim (overlaps m x i) (m .steps) (s .1) in
       let b = and-both _ _ (f .2) in
       let a = and-both _ _ (b .0) in (
         f .0,

@@ -1,13 +1,14 @@
 -- Laws of the chain of checks: what an accepted or a refused verdict so far makes of the next check.
-use Prim.Native.Nat.{ℕ, _<_, _≤_}
+use Prim.Native.Nat.{ℕ, zero, suc, _<_, _≤_}
 use mathlib.Core.Path.{_≡_, refl, sym, ap, subst, _∙_}
 use mathlib.Core.Bool.{Bool, true, false}
-use mathlib.Core.Logic.{_⊎_, inl, inr}
+use mathlib.Core.Logic.{_⊎_, inl, inr, ⊎-elim}
+use native.Mathlib.Nat.{not-suc-le-zero}
 use native.Mathlib.Decide.{ℕ-discrete, decLt}
 use native.Mathlib.Omega.{arith}
 use borrow.Author.Tests.{eq-eqb, ne-eqb, lt-ltb, le-ltb}
 use Rattle.laws.specs.Search.{lowest}
-use Rattle.laws.proofs.Search.{any-none, any-false, any-lowest, lowest-facts}
+use Rattle.laws.proofs.Search.{last-or-below, any-none, any-false, any-lowest, lowest-facts}
 use Rattle.verdict.specs.declared.Verdict.{Verdict}
 use Rattle.verdict.specs.declared.Verdict.the-variants.{Accepted}
 use Rattle.verdict.specs.Verdict.{number, _then_, refuseIf, refuseLowest}
@@ -59,6 +60,11 @@ unfolding refuseIf
 refuse-zero true v h e = absurd (h e)
 refuse-zero false v h e = refl
 
+pub refuse-says : (b : Bool) (v : Verdict) → (number (refuseIf b v) ≡ 0 → ⊥) → b ≡ true
+unfolding refuseIf
+refuse-says true v h = refl
+refuse-says false v h = absurd (h refl)
+
 pub lowest-zero :
     (n : ℕ) (p : ℕ → Bool) (refusal : ℕ → Verdict) → ((k : ℕ) → number (refusal k) ≡ 0 → ⊥) → number (refuseLowest n p refusal) ≡ 0 → (k : ℕ) → k < n
     → p k ≡ false
@@ -107,3 +113,47 @@ lowest-outcome n p refusal =
       | yes l ↦ inr (lowest n p, l, f .2 l, f .1, sym (lowest-refused n p refusal refl l))
       | no l ↦ inl (sym (lowest-passed n p refusal refl (omega arith)), λ k h. f .1 k (omega arith))
     ]
+
+-- the first n of a row of checks, each in its turn
+unfoldable pub inTurn : (ℕ → Verdict) → ℕ → Verdict
+inTurn check zero = Accepted
+inTurn check (suc n) = inTurn check n then check n
+
+-- check j is the first of them that refuses, and its verdict is theirs
+pub record FirstRefuses (check : ℕ → Verdict) (n j : ℕ) : Type 0 where
+  pub below : j < n
+  pub refuses : number (check j) ≡ 0 → ⊥
+  pub verdict : inTurn check n ≡ check j
+  pub earlier : (i : ℕ) → i < j → number (check i) ≡ 0
+
+module _ (check : ℕ → Verdict) where
+  -- every check accepts, or one is the first that refuses
+  pub in-turn : (n : ℕ) → ((number (inTurn check n) ≡ 0) × ((k : ℕ) → k < n → number (check k) ≡ 0)) ⊎ ((j : ℕ) × FirstRefuses check n j)
+  unfolding inTurn
+  in-turn zero = inl (refl, λ k h. absurd (not-suc-le-zero h))
+  in-turn (suc n) =
+      ⊎-elim
+      (λ (a : (number (inTurn check n) ≡ 0) × ((k : ℕ) → k < n → number (check k) ≡ 0)).
+      elim (ℕ-discrete (number (check n)) 0) [
+        | yes z ↦ inl (
+          zero-then (inTurn check n) (check n) (a .0) z,
+          λ k h. ⊎-elim (λ (q : k ≡ n). ap (λ i. number (check i)) q ∙ z) (λ (l : k < n). a .1 k l) (last-or-below h),
+        )
+        | no z ↦ inr (
+          n,
+          record { below = omega arith; refuses = z; verdict = sym (then-accepted (inTurn check n) (check n) (a .0)); earlier = a .1 },
+        )
+      ])
+      (λ (a : (j : ℕ) × FirstRefuses check n j).
+      let f = a .1 in
+      let z : number (inTurn check n) ≡ 0 → ⊥ = λ y. f .refuses (sym (ap number (f .verdict)) ∙ y) in
+      inr (
+        a .0,
+        record {
+          below = omega (arith, f .below);
+          refuses = f .refuses;
+          verdict = sym (then-refused (inTurn check n) (check n) z) ∙ f .verdict;
+          earlier = f .earlier;
+        },
+      ))
+      (in-turn n)
