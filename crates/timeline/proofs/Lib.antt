@@ -4,7 +4,7 @@ pub mod Counting
 pub mod Words
 pub mod Walking
 pub mod Ranks
-pub mod Permuting
+pub mod Rearranging
 pub mod Arranging
 pub mod Dealing
 pub mod PlacedSums
