@@ -3,7 +3,6 @@
 ghost use mathlib.Core.Path.{_≡_};
 ghost use mathlib.Core.Bool.{true};
 ghost use Prim.Native.Nat.{_+_, _*_, _<_};
-
 ghost use Rattle.job.specs.Laid.{Laid};
 ghost use Rattle.job.specs.Layout.{stepWidth, conditionWidth, effectWidth, useWidth};
 ghost use Rattle.job.specs.Model.{view, levelOf, conditionOf, effectOf, useOf};

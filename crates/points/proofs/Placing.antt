@@ -353,11 +353,10 @@ module _ {m : Model} {x : ℕ → ℕ} {list : List ℕ} (form : Ranged m) (know
         }
 
   pub points-known : {points begins : List ℕ} → Rearranged (pointCount m) list points → Grouped (pointCount m) (groupCount m) points begins
-      → pointCount m ≤ length list
+      → pointCount m ≤ length points
       → groupCount m < length begins
       → PointsKnown m x points begins
-  points-known {points} {begins} same grouped long room =
-      let fits : pointCount m ≤ length points = omega (arith, same .size) in
+  points-known same grouped fits room =
       record {
         room = room;
         setters = λ f low. placed (setters-held f low) distinct-words same grouped (omega arith) fits;

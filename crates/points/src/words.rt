@@ -146,7 +146,7 @@ pub fn list_points(
     requires { ⌜ Ranged (view job (now s)) × PointRoom (view job (now s)) (now spare) (now points) (now begins) × Laid job (now s) ⌝ }
     ensures { λ _. ⌜ PointsKnown (view job (now (s .entry))) (scheduleOf (now (starts .entry))) (now (points .exit)) (now (begins .exit)) ⌝ }
 {
-    put_words(s, job, starts, points);
+    put_words(s, job, starts, spare);
     let facts = job.count.facts as usize;
     let groups = facts + facts + job.count.levels as usize;
     let n = job.count.conditions as usize + job.count.effects as usize + job.count.uses as usize;

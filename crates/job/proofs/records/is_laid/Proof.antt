@@ -28,8 +28,9 @@ is-laid-spec =
     let steps = c .before .before .before .steps-end .ensures in
     let conditions = c .before .before .conditions-end .ensures in
     let effects = c .before .effects-end .ensures in
-    let uses = c .uses-end .ensures in
-    ( rw (uses, effects, conditions, steps) (λ e.
-    let p = parts _ _ _ _ _ e in
-    record { steps = p .0; conditions = p .1; effects = p .2; uses = p .3 })
-    , rw (uses, effects, conditions, steps) (λ l. whole _ _ _ _ _ (l .steps) (l .conditions) (l .effects) (l .uses)) )))
+    let uses = c .uses-end .ensures in (
+      rw (uses, effects, conditions, steps) (λ e.
+          let p = parts _ _ _ _ _ e in
+          record { steps = p .0; conditions = p .1; effects = p .2; uses = p .3 }),
+      rw (uses, effects, conditions, steps) (λ l. whole _ _ _ _ _ (l .steps) (l .conditions) (l .effects) (l .uses)),
+    )))
