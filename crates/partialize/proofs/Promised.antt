@@ -1,6 +1,6 @@
 -- What loosening promises, of a job that the job check refuses and of one whose contents were filed. What was filed reads back, so a
 -- choice satisfies the file exactly if it satisfies its contents.
-use Prim.Native.Nat.{ℕ, _≤_, _<_}
+use Prim.Native.Nat.{ℕ, _+_, _≤_, _<_}
 use mathlib.Core.Path.{_≡_, refl, sym, ap, ap₂, _∙_, subst}
 use mathlib.Core.Bool.{Bool, true, false, cond, _&&_}
 use mathlib.Core.List.{List}
@@ -29,6 +29,7 @@ use Rattle.orders.specs.Satisfies.{Satisfies, SatisfiesFile}
 use Rattle.order_file.proofs.RoundTrip.{round-trip}
 use Rattle.order_reader.proofs.WellFormed.{encode-well-formed}
 use Rattle.order_reader.proofs.ReadBack.{encoded-read-back}
+use Rattle.validity.proofs.EndState.{valid-ends}
 use Rattle.validity.proofs.Accepted.{schedule-promise}
 use Rattle.partialize.specs.declared.answer.Answer.{Answer}
 use Rattle.partialize.specs.declared.answer.Answer.the-variants.{Filed, Refused, BufferTooShort}
@@ -139,6 +140,7 @@ module _ (s : List ℕ) (p : Sound s (planned (modelOf s))) where
         accepted = λ starts e h.
             schedule-promise s starts refl .complete e
             (record { form = p .form; wellFormed = w; valid = obeying-valid m x (scheduleOf starts) w v (file-obeys m x w v (scheduleOf starts) h) });
+        ends = λ y h. valid-ends m y w (obeying-valid m x y w v (file-obeys m x w v y h));
         sameEnd = λ y h. same-end m x y w v (file-obeys m x w v y h);
         atOrAfter = λ y h k l. omega (arith, earliest-filed m x w v k l, earliest-first m x w v y (file-obeys m x w v y h) k l);
         earliestSatisfy = filed-satisfies m x w v;

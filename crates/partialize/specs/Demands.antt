@@ -12,7 +12,7 @@ use Rattle.job.specs.Model.{modelOf}
 use Rattle.validity.specs.Ticks.{scheduleOf, planned}
 use Rattle.validity.specs.Checks.{jobCheck, scheduleCheck}
 use Rattle.validity.specs.Valid.{Valid}
-use Rattle.validity.specs.EndState.{SameEnd}
+use Rattle.validity.specs.EndState.{SameEnd, EndsWith}
 use Rattle.validity.specs.Promise.{Sound}
 use Rattle.order_file.specs.Contents.{Contents, gapBias}
 use Rattle.order_file.specs.Agree.{Agree}
@@ -59,6 +59,8 @@ pub record Loose (s file : List ℕ) : Type 0 where
   pub accepted :
       (starts : List ℕ) → length starts ≡ modelOf s .steps → SatisfiesFile file (scheduleOf starts)
       → verdict.number (scheduleCheck s starts) ≡ 0
+  -- it ends with the values set last and with all uses of each level
+  pub ends : (y : ℕ → ℕ) → SatisfiesFile file y → EndsWith (modelOf s) y
   -- the end state is that of the job's own timing
   pub sameEnd : (y : ℕ → ℕ) → SatisfiesFile file y → SameEnd (modelOf s) y (planned (modelOf s))
   -- the printed earliest times are the least
