@@ -14,6 +14,9 @@ pub const COMMANDS: &str = "wcthral";
 
 pub const LONGEST_FIELD: usize = 65_536;
 
+/// The most starts that a case adds to the list in its field.
+pub const MOST_FURTHER: usize = 65_536;
+
 /// What a buffer holds before loosening.
 const FILLING: u8 = 165;
 
@@ -31,13 +34,18 @@ impl Case {
     }
 
     pub fn timing(job: Vec<u8>, starts: &[u32]) -> Case {
+        Case::timing_and_further(job, starts, 0)
+    }
+
+    /// A list too long for a field: so many starts of 0 follow those in the field.
+    pub fn timing_and_further(job: Vec<u8>, starts: &[u32], further: usize) -> Case {
         let mut list = Vec::new();
         for &start in starts {
             put_u32(&mut list, start);
         }
         Case {
             command: 't',
-            fields: vec![job, list],
+            fields: vec![job, list, number_field(further as u32)],
         }
     }
 
@@ -112,8 +120,8 @@ fn next_case(rest: &mut &[u8]) -> Option<Case> {
 fn fields_of(command: char) -> Option<usize> {
     match command {
         'w' | 'c' | 'h' => Some(1),
-        't' | 'l' | 'a' => Some(2),
-        'r' => Some(3),
+        'l' | 'a' => Some(2),
+        't' | 'r' => Some(3),
         _ => None,
     }
 }
@@ -145,7 +153,12 @@ pub fn answer(case: &Case) -> Option<String> {
         'w' => Some(verdict_line('w', &well_formed(field(0)))),
         'c' => Some(verdict_line('c', &check_job(field(0)))),
         't' => {
-            let starts = numbers_in(field(1))?;
+            let mut starts = numbers_in(field(1))?;
+            let further = number_in(field(2))? as usize;
+            if further > MOST_FURTHER {
+                return None;
+            }
+            starts.resize(starts.len() + further, 0);
             Some(verdict_line('t', &check_timing(field(0), &starts)))
         }
         'h' => Some(header_line(field(0))),
@@ -209,14 +222,20 @@ fn alike_line(a: &[u8], b: &[u8]) -> String {
     with_numbers(verdict_line('a', &answer), &[yes])
 }
 
+/// The buffer is printed up to its last byte unlike the filling; how many follow is counted.
 fn loosening_line(job: &[u8], length: usize) -> String {
     let mut buffer = vec![FILLING; length];
     let answer = loosen(job, &mut buffer);
-    let hex: String = buffer.iter().map(|byte| format!("{byte:02x}")).collect();
+    let last = buffer.iter().rposition(|&byte| byte != FILLING);
+    let (front, rest) = buffer.split_at(last.map_or(0, |last| last + 1));
+    let hex: String = front.iter().map(|byte| format!("{byte:02x}")).collect();
     let hex = if hex.is_empty() { "-" } else { &hex };
     format!(
-        "l {} {} {} {hex}",
-        answer.number, answer.place, answer.length
+        "l {} {} {} {hex} {}",
+        answer.number,
+        answer.place,
+        answer.length,
+        rest.len()
     )
 }
 

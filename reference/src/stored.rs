@@ -1,6 +1,6 @@
 //! The stored cases of the replay program, and the lines expected of them.
 
-use crate::cases::{answers, cases_file, Case};
+use crate::cases::{answers, cases_file, Case, LONGEST_FIELD, MOST_FURTHER};
 use crate::job::Job;
 use crate::loosen::order_file_of;
 use crate::made::made_case;
@@ -13,7 +13,7 @@ use crate::make::order_files::{
     too_many_orders, unlike_files,
 };
 use crate::make::own_conflicts::own_conflicts;
-use crate::make::telling::{empty_job, telling_jobs};
+use crate::make::telling::{empty_job, small_job, telling_jobs};
 use crate::make::timings::telling_timings;
 use crate::order_file::OrderFile;
 use crate::random::Random;
@@ -146,6 +146,7 @@ fn timing_cases() -> Vec<Case> {
     // A list of another length is found only after what is wrong with the job.
     let broken = damage::one_of_each().into_iter();
     cases.extend(broken.map(|file| Case::timing(file, &[0])));
+    cases.extend(lists_too_long());
     let mut random = Random::seeded(14);
     for number in 10..=14 {
         let missed = (0..25).map(|_| near_miss(&mut random, number));
@@ -153,6 +154,18 @@ fn timing_cases() -> Vec<Case> {
     }
     cases.push(at_written_starts(&highest_job(4, 8)));
     cases.extend(made('t', 700));
+    cases
+}
+
+/// Lists whose lengths differ from the steps only above their lowest 8 or 16 bits.
+fn lists_too_long() -> Vec<Case> {
+    let mut cases = Vec::new();
+    for job in [empty_job(), small_job(), chain_of_all_steps()] {
+        let starts = list(&job.written_starts());
+        for further in [1, 256, MOST_FURTHER] {
+            cases.push(Case::timing_and_further(job.to_file(), &starts, further));
+        }
+    }
     cases
 }
 
@@ -194,7 +207,30 @@ fn loosening_cases() -> Vec<Case> {
         cases.push(Case::loosening(file, length));
     }
     cases.push(Case::loosening(highest_job(6, 256).to_file(), 24));
+    cases.extend(long_buffers());
     cases.extend(made('l', 500));
+    cases
+}
+
+/// Buffers longer than the file by more than a record, or than a number of a few bits tells; for a
+/// refused job, as long; and buffers shorter than a file by as much.
+fn long_buffers() -> Vec<Case> {
+    let mut random = Random::seeded(17);
+    let mut jobs = vec![empty_job(), small_job()];
+    jobs.extend((10..=14).map(|number| near_miss(&mut random, number)));
+    let mut cases = Vec::new();
+    for file in [to_files(jobs), damage::one_of_each()].concat() {
+        let length = length_for(&file);
+        for length in [length + 9, length + 64, length + 1_000, LONGEST_FIELD] {
+            cases.push(Case::loosening(file.clone(), length));
+        }
+    }
+    let file = every_pair_ordered_both_ways().to_file();
+    let length = length_for(&file);
+    for missing in [1, 9, 64, 1_000, length - 24] {
+        cases.push(Case::loosening(file.clone(), length - missing));
+    }
+    cases.push(Case::loosening(file, LONGEST_FIELD));
     cases
 }
 

@@ -45,6 +45,8 @@ fn lines_of_each_command() {
         Case::job('w', job.clone()),
         Case::job('c', job.clone()),
         Case::timing(job.clone(), &[10, 15]),
+        Case::timing_and_further(job.clone(), &[10, 20], 0),
+        Case::timing_and_further(job.clone(), &[10, 20], 256),
         Case::header(orders.clone()),
         Case::header(vec![]),
         Case::record(orders.clone(), 1, 3),
@@ -55,12 +57,15 @@ fn lines_of_each_command() {
         Case::alike(orders.clone(), orders.clone()),
         Case::alike(orders, vec![]),
         Case::loosening(job.clone(), 3),
-        Case::loosening(job, 0),
+        Case::loosening(job.clone(), 0),
+        Case::loosening(job, 67),
     ];
     let lines = "\
 w 0 65535
 c 0 65535
 t 11 0
+t 0 65535
+t 8 65535
 h 0 65535 1 4 5 4 3 24 72 112
 h 16 0 0 0 0 0 0 0 0 0
 r 0 65535 2 0 -99
@@ -70,8 +75,13 @@ r 16 0 0
 r 16 0 0 0 0
 a 0 65535 1
 a 16 1 0
-l 15 65535 0 a5a5a5
-l 15 65535 0 -
+l 15 65535 0 - 3
+l 15 65535 0 - 0
+l 0 65535 58 010002000100010002000000180000003000000038000000\
+00000000ffffffff00000000\
+00000000ffffffff06000000\
+0000010006000000\
+0000 9
 ";
     assert_eq!(answers(&cases_file(&cases)), lines);
 }
@@ -97,9 +107,11 @@ fn a_damaged_file_of_cases_ends_with_a_line() {
         then(&cases_file(&[Case::loosening(job.clone(), 65_537)])),
         bad
     );
+    let too_many_starts = Case::timing_and_further(job.clone(), &[10, 20], 65_537);
+    assert_eq!(then(&cases_file(&[too_many_starts])), bad);
     let odd_starts = Case {
         command: 't',
-        fields: vec![job.clone(), vec![0; 7]],
+        fields: vec![job.clone(), vec![0; 7], vec![0; 4]],
     };
     assert_eq!(then(&cases_file(&[odd_starts])), bad);
     let odd_number = Case {

@@ -211,7 +211,11 @@ fn to_files(files: Vec<OrderFile>) -> Vec<Vec<u8>> {
 }
 
 fn patched(at: usize, bytes: &[u8]) -> Vec<u8> {
-    let mut file = plain_file().to_file();
+    patch(&plain_file(), at, bytes)
+}
+
+fn patch(file: &OrderFile, at: usize, bytes: &[u8]) -> Vec<u8> {
+    let mut file = file.to_file();
     file[at..at + bytes.len()].copy_from_slice(bytes);
     file
 }
@@ -234,17 +238,41 @@ fn editions() -> Vec<Vec<u8>> {
 fn offsets() -> Vec<Vec<u8>> {
     let mut files = Vec::new();
     for (at, offset) in [(12, 24), (16, 72), (20, 112)] {
-        let wrong: [u32; 6] = [
-            offset + 1,
-            offset - 1,
-            0,
-            offset + 65_536,
-            offset + 0x8000_0000,
-            u32::MAX,
-        ];
+        let wrong = wrong_offsets(offset);
         files.extend(wrong.map(|number| patched(at, &number.to_le_bytes())));
     }
+    files.extend(offsets_of_empty_tables());
     files
+}
+
+/// A table without records has its offset too.
+fn offsets_of_empty_tables() -> Vec<Vec<u8>> {
+    let no_links = changed(|file| file.links.clear());
+    let no_orders = changed(|file| file.orders.clear());
+    let empty = OrderFile::default();
+    let mut files = Vec::new();
+    for (file, at, offset) in [
+        (&no_links, 20, 112),
+        (&no_orders, 16, 72),
+        (&empty, 12, 24),
+        (&empty, 16, 24),
+        (&empty, 20, 24),
+    ] {
+        let wrong = wrong_offsets(offset);
+        files.extend(wrong.map(|number| patch(file, at, &number.to_le_bytes())));
+    }
+    files
+}
+
+fn wrong_offsets(offset: u32) -> [u32; 6] {
+    [
+        offset + 1,
+        offset - 1,
+        0,
+        offset + 65_536,
+        offset + 0x8000_0000,
+        u32::MAX,
+    ]
 }
 
 /// Bytes too many or too few, and counts that the tables do not bear out.

@@ -1,6 +1,5 @@
 -- The bytes are printed one by one.
 use Prim.Native.Nat.{_≤_, _-_}
-use lib.ListN.{length}
 use borrow.Author.Needs.{needs}
 use Rattle.replay.proofs.loosen.print_hex.Statement.{statement}
 use Rattle.replay.proofs.loosen.print_hex.Tie as tie
@@ -9,7 +8,7 @@ pub print-hex-spec : {M : Type 1} → statement M
 print-hex-spec =
     tie.close
     (tie.spec
-    (λ bytes i₀ i. i ≤ length bytes)
-    (λ bytes i₀ i. length bytes - i)
+    (λ bytes end i₀ i. i ≤ end)
+    (λ bytes end i₀ i. end - i)
     (λ c. search needs) (λ c. search needs) (λ c κs. search needs) (λ c. search needs) (λ c. search needs) (λ c. search needs)
     (λ c. search needs))

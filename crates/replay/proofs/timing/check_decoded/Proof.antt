@@ -1,4 +1,4 @@
--- The first n starts are lent.
+-- As many starts are lent as were asked for.
 use mathlib.Core.Path.{sym}
 use lib.Seq.{length-take-le}
 use borrow.Author.Needs.{needs}
@@ -11,6 +11,6 @@ check-decoded-spec =
     tie.close
     (tie.spec
     (λ c κs. search needs) (λ c. search needs)
-    (λ c. sym (length-take-le (c .before .before .before .before .args .n) (c .before .decode .result) (omega (arith, c .before .decode .ensures))))
+    (λ c. sym (length-take-le (c .before .before .before .before .args .all) (c .before .decode .result) (omega (arith, c .before .decode .ensures))))
     (λ c κs. search needs)
     (λ c. search needs))

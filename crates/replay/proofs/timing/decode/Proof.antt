@@ -10,7 +10,7 @@ pub decode-spec : {M : Type 1} → statement M
 decode-spec =
     tie.close
     (tie.spec
-    (λ bytes n starts₀ i₀ starts i. (i ≤ n) × (length starts ≡ 16384))
+    (λ bytes n starts₀ i₀ starts i. (i ≤ n) × (length starts ≡ 81920))
     (λ bytes n starts₀ i₀ starts i. n - i)
     (λ c. (search needs, refl))
     (λ c. search needs) (λ c κs. search needs) (λ c. search needs) (λ c. search needs) (λ c. search needs) (λ c. search needs)
