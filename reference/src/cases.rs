@@ -110,6 +110,16 @@ pub fn answers(file: &[u8]) -> String {
     lines
 }
 
+/// All cases of a file, or nothing where it is damaged.
+pub fn cases_in(file: &[u8]) -> Option<Vec<Case>> {
+    let mut cases = Vec::new();
+    let mut rest = file;
+    while !rest.is_empty() {
+        cases.push(next_case(&mut rest)?);
+    }
+    Some(cases)
+}
+
 fn next_case(rest: &mut &[u8]) -> Option<Case> {
     let command = char::from(take(rest, 1)?[0]);
     let fields = (0..fields_of(command)?).map(|_| next_field(rest));
@@ -144,35 +154,37 @@ fn take<'a>(rest: &mut &'a [u8], length: usize) -> Option<&'a [u8]> {
 }
 
 // ---------------------------------------------------------------------------------------------
-// The lines
+// What a case asks
 
-/// The line of a case, or nothing where a field does not have the length it must have.
-pub fn answer(case: &Case) -> Option<String> {
-    let field = |number: usize| case.fields[number].as_slice();
-    match case.command {
-        'w' => Some(verdict_line('w', &well_formed(field(0)))),
-        'c' => Some(verdict_line('c', &check_job(field(0)))),
-        't' => {
-            let mut starts = numbers_in(field(1))?;
-            let further = number_in(field(2))? as usize;
-            if further > MOST_FURTHER {
-                return None;
+pub enum Asked<'a> {
+    WellFormed(&'a [u8]),
+    Check(&'a [u8]),
+    Timing(&'a [u8], Vec<u32>),
+    Header(&'a [u8]),
+    Record(&'a [u8], u32, u32),
+    Alike(&'a [u8], &'a [u8]),
+    Loosening(&'a [u8], usize),
+}
+
+impl Case {
+    /// Nothing where a field does not have the length it must have.
+    pub fn asked(&self) -> Option<Asked<'_>> {
+        let field = |number: usize| self.fields[number].as_slice();
+        Some(match self.command {
+            'w' => Asked::WellFormed(field(0)),
+            'c' => Asked::Check(field(0)),
+            't' => {
+                let mut starts = numbers_in(field(1))?;
+                let further = number_up_to(MOST_FURTHER, field(2))?;
+                starts.resize(starts.len() + further, 0);
+                Asked::Timing(field(0), starts)
             }
-            starts.resize(starts.len() + further, 0);
-            Some(verdict_line('t', &check_timing(field(0), &starts)))
-        }
-        'h' => Some(header_line(field(0))),
-        'r' => {
-            let table = number_in(field(1))?;
-            let number = number_in(field(2))?;
-            Some(record_line(field(0), table, number))
-        }
-        'a' => Some(alike_line(field(0), field(1))),
-        'l' => {
-            let length = number_in(field(1))? as usize;
-            (length <= LONGEST_FIELD).then(|| loosening_line(field(0), length))
-        }
-        _ => None,
+            'h' => Asked::Header(field(0)),
+            'r' => Asked::Record(field(0), number_in(field(1))?, number_in(field(2))?),
+            'a' => Asked::Alike(field(0), field(1)),
+            'l' => Asked::Loosening(field(0), number_up_to(LONGEST_FIELD, field(1))?),
+            _ => return None,
+        })
     }
 }
 
@@ -180,9 +192,29 @@ fn number_in(field: &[u8]) -> Option<u32> {
     (field.len() == 4).then(|| u32_at(field, 0))
 }
 
+fn number_up_to(most: usize, field: &[u8]) -> Option<usize> {
+    let number = number_in(field)? as usize;
+    (number <= most).then_some(number)
+}
+
 fn numbers_in(field: &[u8]) -> Option<Vec<u32>> {
     let numbers = field.chunks(4);
     numbers.map(number_in).collect()
+}
+
+// ---------------------------------------------------------------------------------------------
+// The lines
+
+pub fn answer(case: &Case) -> Option<String> {
+    Some(match case.asked()? {
+        Asked::WellFormed(job) => verdict_line('w', &well_formed(job)),
+        Asked::Check(job) => verdict_line('c', &check_job(job)),
+        Asked::Timing(job, starts) => verdict_line('t', &check_timing(job, &starts)),
+        Asked::Header(file) => header_line(file),
+        Asked::Record(file, table, number) => record_line(file, table, number),
+        Asked::Alike(a, b) => alike_line(a, b),
+        Asked::Loosening(job, length) => loosening_line(job, length),
+    })
 }
 
 fn verdict_line<T>(command: char, answer: &Result<T, Refusal>) -> String {

@@ -39,10 +39,13 @@ impl Both {
     /// With a buffer of the file's length and the slack. Gives the order file, if there is one.
     pub fn partialize(&mut self, job: &[u8], slack: isize) -> Result<Option<Vec<u8>>, String> {
         let file = order_file_of(job).ok().map(|file| file.to_file());
-        let length = file
-            .as_ref()
-            .map_or(0, Vec::len)
-            .saturating_add_signed(slack);
+        let length = file.as_ref().map_or(0, Vec::len);
+        self.partialize_into(job, length.saturating_add_signed(slack))?;
+        Ok(file)
+    }
+
+    /// With a buffer of this length.
+    pub fn partialize_into(&mut self, job: &[u8], length: usize) -> Result<(), String> {
         let lent = MARGIN..MARGIN + length;
         let mut expected_buffer = vec![FILLING; length + 2 * MARGIN];
         let mut buffer = expected_buffer.clone();
@@ -56,8 +59,7 @@ impl Both {
             pack(expected.length, verdict),
             inputs,
         )?;
-        same("buffer", &buffer, &expected_buffer, inputs)?;
-        Ok(file)
+        same("buffer", &buffer, &expected_buffer, inputs)
     }
 
     pub fn header(&mut self, file: &[u8], length: usize) -> Result<(), String> {

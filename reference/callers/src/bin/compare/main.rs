@@ -1,15 +1,16 @@
 //! `compare N SEED`: made jobs, starts, order files and damaged bytes go through the static library
-//! and through the second program, N calls of each. Every answer and every lent byte must agree,
-//! and every refusal must have occurred.
+//! and through the second program, N calls of each. `compare CASES`: a file of cases does. Every
+//! answer and every lent byte must agree, and every refusal must have occurred.
 
 mod both;
 mod source;
 mod tally;
 
 use std::process::ExitCode;
-use std::{env, thread};
+use std::{env, fs, thread};
 
 use both::Both;
+use reference::cases::{cases_in, Asked, Case};
 use source::{Pool, Source};
 use tally::Tally;
 
@@ -17,12 +18,14 @@ use tally::Tally;
 const THREADS: u64 = 2;
 
 fn main() -> ExitCode {
-    let numbers: Vec<u64> = env::args().skip(1).flat_map(|text| text.parse()).collect();
-    let [calls, seed] = numbers[..] else {
-        eprintln!("compare N SEED");
-        return ExitCode::FAILURE;
+    let arguments: Vec<String> = env::args().skip(1).collect();
+    let numbers: Vec<u64> = arguments.iter().flat_map(|text| text.parse()).collect();
+    let compared = match (&arguments[..], &numbers[..]) {
+        ([_, _], &[calls, seed]) => compare_made(calls, seed),
+        ([path], _) => compare_stored(path),
+        _ => Err("compare N SEED, or compare CASES\n".to_string()),
     };
-    match compare(calls, seed) {
+    match compared {
         Ok(report) => {
             print!("{report}");
             ExitCode::SUCCESS
@@ -34,7 +37,29 @@ fn main() -> ExitCode {
     }
 }
 
-fn compare(calls: u64, seed: u64) -> Result<String, String> {
+fn compare_stored(path: &str) -> Result<String, String> {
+    let file = fs::read(path).map_err(|error| format!("{path}: {error}\n"))?;
+    let mut both = Both::default();
+    for case in cases_in(&file).ok_or("bad cases\n")? {
+        compare_case(&mut both, &case)?;
+    }
+    whole(&both.tally)
+}
+
+/// The form check by itself is no function of the library.
+fn compare_case(both: &mut Both, case: &Case) -> Result<(), String> {
+    match case.asked().ok_or("bad cases\n")? {
+        Asked::WellFormed(_) => Ok(()),
+        Asked::Check(job) => both.check(job),
+        Asked::Timing(job, starts) => both.check_schedule(job, &starts),
+        Asked::Header(file) => both.header(file, 8),
+        Asked::Record(file, table, number) => both.record(file, table, number, 3),
+        Asked::Alike(a, b) => both.alike(a, b),
+        Asked::Loosening(job, length) => both.partialize_into(job, length),
+    }
+}
+
+fn compare_made(calls: u64, seed: u64) -> Result<String, String> {
     let pool = Pool::new(seed);
     let tallies = thread::scope(|scope| {
         let threads: Vec<_> = (0..THREADS)
@@ -48,7 +73,11 @@ fn compare(calls: u64, seed: u64) -> Result<String, String> {
             .map(|thread| thread.join().expect("no panic"));
         joined.collect::<Result<Vec<Tally>, String>>()
     })?;
-    let tally = tallies.into_iter().fold(Tally::default(), Tally::plus);
+    whole(&tallies.into_iter().fold(Tally::default(), Tally::plus))
+}
+
+/// The report, if every refusal occurred.
+fn whole(tally: &Tally) -> Result<String, String> {
     match tally.missing() {
         Some(missing) => Err(format!("{}{missing}\n", tally.report())),
         None => Ok(tally.report()),
