@@ -21,8 +21,8 @@ use partialize::answer;
 pub extern "C" fn jobs_check(job: &[u8]) -> u64
     ensures { λ r. ⌜ Packs (JobPromise (now (job .entry))) packedVerdict (jobCheck (now (job .entry))) r ⌝ }
 {
-    let a = schedule::check_job(job);
-    packed(0, verdict::number(a), verdict::place(a))
+    let planned = schedule::check_job(job);
+    packed(0, verdict::number(planned), verdict::place(planned))
 }
 
 // Whether a list of starts is a sound timing of a job.
@@ -31,8 +31,8 @@ pub extern "C" fn jobs_check_schedule(job: &[u8], starts: &[u32]) -> u64
     ensures { λ r. ⌜ Packs (SchedulePromise (now (job .entry)) (now (starts .entry))) packedVerdict
         (scheduleCheck (now (job .entry)) (now (starts .entry))) r ⌝ }
 {
-    let a = schedule::check_schedule(job, starts);
-    packed(0, verdict::number(a), verdict::place(a))
+    let timed = schedule::check_schedule(job, starts);
+    packed(0, verdict::number(timed), verdict::place(timed))
 }
 
 // Loosens a job into an order file in `out`.
