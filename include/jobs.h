@@ -3,7 +3,8 @@
  *
  * No function presumes anything of the bytes it is given. Each slice is a pointer and a length;
  * the pointer must be aligned and not null even where the length is 0. What a function writes
- * into must not overlap what it reads. Nothing is kept after the return, nothing is allocated.
+ * into must not overlap what it reads. Nothing is kept after the return, nothing is allocated; a
+ * call takes less than JOBS_STACK bytes of its thread's stack, whatever it is given.
  *
  * All functions return one number, which the functions below take apart:
  *
@@ -44,6 +45,9 @@
 #ifdef __cplusplus
 extern "C" {
 #endif
+
+/* A thread with this much stack can make any call. */
+#define JOBS_STACK 65536u
 
 /* The place where no record is named, and the place of an acceptance. */
 #define JOBS_NOWHERE 65535u

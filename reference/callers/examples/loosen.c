@@ -1,4 +1,4 @@
-/* Prints what loosening says of a job file. From the root of the repository:
+/* Prints the sheet of a job file, as the program `show` does. From the root of the repository:
  *
  *     cc -std=c11 -Iinclude -o target/loosen \
  *         reference/callers/examples/loosen.c target/staticlib/libexports.a
@@ -13,7 +13,7 @@ static void print_windows(const uint8_t *file, size_t len, uint32_t steps)
     for (uint32_t step = 0; step < steps; step++) {
         uint32_t window[3];
         jobs_order_record(file, len, JOBS_WINDOWS, step, window, 3);
-        printf("step %u limit %u earliest %u latest ", step, window[0], window[2]);
+        printf("step %u earliest %u latest ", step, window[2]);
         if (window[1] == JOBS_NO_LATEST)
             printf("none\n");
         else
@@ -39,14 +39,6 @@ static void print_file(const uint8_t *file, size_t len)
     print_orders(file, len, header[2]);
 }
 
-static void print_refusal(uint64_t returned)
-{
-    printf("refused %u", jobs_number(returned));
-    if (jobs_place(returned) != JOBS_NOWHERE)
-        printf(" place %u", jobs_place(returned));
-    printf("\n");
-}
-
 int main(int count, char **arguments)
 {
     /* The longest job has 16,752 bytes; the front of a longer file is refused like the whole. */
@@ -62,6 +54,6 @@ int main(int count, char **arguments)
     if (jobs_number(returned) == 0)
         print_file(out, jobs_answer(returned));
     else
-        print_refusal(returned);
+        printf("refused %u place %u\n", jobs_number(returned), jobs_place(returned));
     return 0;
 }

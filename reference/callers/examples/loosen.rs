@@ -1,4 +1,4 @@
-//! Prints what loosening says of a job file:
+//! Prints the sheet of a job file, as the program `show` does:
 //! `cargo run --example loosen -- ../samples/deck-resigned.job`
 
 use std::process::ExitCode;
@@ -17,10 +17,9 @@ fn main() -> ExitCode {
     let mut buffer = [0; LONGEST];
     match partialize(&job, &mut buffer).answer() {
         Answer::Accepted(length) => print_file(&buffer[..length as usize]),
-        Answer::Refused { number, place } => match place {
-            Some(place) => println!("refused {number} place {place}"),
-            None => println!("refused {number}"),
-        },
+        Answer::Refused { number, place } => {
+            println!("refused {number} place {}", place.unwrap_or(u16::MAX));
+        }
     }
     ExitCode::SUCCESS
 }
@@ -31,10 +30,10 @@ fn print_file(file: &[u8]) {
     let [_, steps, orders, _, rounds, ..] = header;
     println!("steps {steps} rounds {rounds}");
     for step in 0..steps {
-        let [limit, latest, earliest] = record(file, 0, step);
+        let [_, latest, earliest] = record(file, 0, step);
         match latest {
-            u32::MAX => println!("step {step} limit {limit} earliest {earliest} latest none"),
-            _ => println!("step {step} limit {limit} earliest {earliest} latest {latest}"),
+            u32::MAX => println!("step {step} earliest {earliest} latest none"),
+            _ => println!("step {step} earliest {earliest} latest {latest}"),
         }
     }
     for number in 0..orders {
