@@ -164,7 +164,7 @@ fn raise_pairs(s: &[u8], job: Job, starts: &[u32], points: &[u64], groups: Group
 
 // Notes a point: the largest lead of its value and step.
 fn note(starts: &[u32], word: u64, leads: &mut [u32; LEADS])
-    requires { ⌜ Notable (scheduleOf (now starts)) word ⌝ }
+    requires { ⌜ Notable (scheduleOf (now starts)) word × ((k : ℕ) → LeadKnown (getD (now leads) k 0)) ⌝ }
     ensures { λ _. ⌜ now (leads .exit) ≡ leadsWith (scheduleOf (now (starts .entry))) word (now (leads .entry)) ⌝ }
 {
     let k = WIDTH * value_of(word) as usize + step_of(word) as usize;

@@ -1,6 +1,7 @@
 // The table of gaps: one flat array, a row a step.
 ghost use mathlib.Core.Path.{_≡_};
-ghost use Prim.Native.Nat.{max};
+ghost use Prim.Native.Nat.{max, _<_};
+ghost use Rattle.little_endian.specs.Bytes.{signBias};
 use crate::layout::GAP_BIAS;
 use crate::layout::MOST_STEPS;
 
@@ -18,8 +19,10 @@ pub const ENTRY_BIAS: u32 = 16777216;
 // What it has more than the gap plus `GAP_BIAS`; an entry of at most this is no order.
 pub const TABLE_BIAS: u32 = ENTRY_BIAS - GAP_BIAS as u32;
 
+// The larger of two numbers, compared with a sign, which none of them has: plain x86-64 has no vectors of maxima without one.
 pub fn higher(a: u32, b: u32) -> u32
+    requires { ⌜ (a < signBias) × (b < signBias) ⌝ }
     ensures { λ r. ⌜ r ≡ max a b ⌝ }
 {
-    if a < b { b } else { a }
+    if (a as i32) < (b as i32) { b } else { a }
 }

@@ -59,7 +59,14 @@ raise-row-spec =
     let l = c .before .before .before in
     let d = l .before .before .before .before .before .before in
     omega (arith, d .pre .2 .near, d .pre .3 (rowWidth * d .args .origin .value + l .loop .k) .most))
-    (λ c κs. search needs)
+    (λ c κs.
+    let test = c .before .before in
+    let l = test .before in
+    let d = l .before .before .before .before .before .before in
+    let place = rowWidth * d .args .origin .step + l .loop .k in (
+      omega (arith, l .loop .inv .1 .rest place (λ j h e. absurd (omega arith)), d .pre .0 .most place),
+      omega (arith, d .pre .2 .near, d .pre .3 (rowWidth * d .args .origin .value + l .loop .k) .most),
+    ))
     (λ c.
     let test = c .before .before .before in
     let d = test .before .before .before .before .before .before .before in
