@@ -1,10 +1,11 @@
 -- The starts are raised one by one.
-use Prim.Native.Nat.{_≤_, _-_, max}
+use Prim.Native.Nat.{_+_, _*_, _≤_, _-_, max}
 use native.Mathlib.Omega.{arith}
-use borrow.Author.Needs.{needs}
+use denote.Ref.{now}
 use Rattle.rounds.specs.Rounds.{demand}
-use Rattle.order_file.specs.Contents.{gapBias}
-use Rattle.order_file.specs.Table.{gapIn, startIn}
+use Rattle.rounds.proofs.Rounds.{demand-most}
+use Rattle.order_file.specs.Contents.{gapBias, mostGap}
+use Rattle.order_file.specs.Table.{rowWidth, gapIn, startIn}
 use Rattle.laws.specs.Listed.{Filled}
 use Rattle.laws.proofs.Listed.{filled-start, filled-more, filled-end}
 use Rattle.windows.proofs.Loops.{unbiased}
@@ -24,7 +25,21 @@ raise-starts-spec =
     let l = c .before .before .loop in
     omega (arith, l .inv .1 .rest (l .k) (omega arith), c .before .before .before .before .pre .1 .most (l .k) (c .before .loop-test .taken)))
     (λ c κs. let p = c .before .before .before .before .pre in (p .0, p .3, omega arith, p .4))
-    (λ c κs. search needs)
+    (λ c κs.
+    let test = c .before .before in
+    let l = test .before .loop in
+    let d = test .before .before .before in
+    let a = d .args in
+    let gaps = now (a .gaps) in
+    let most = d .pre .0 .most (rowWidth * a .i + l .k) in (
+      omega (arith, l .inv .1 .rest (l .k) (omega arith), d .pre .1 .most (l .k) (test .loop-test .taken)),
+      omega (
+        arith,
+        c .demanded .ensures,
+        demand-most (gapIn gaps) gapBias (mostGap - gapBias) (a .i) (l .k) (a .t) (omega (arith, most)),
+        d .pre .4,
+      ),
+    ))
     (λ c. omega (arith, c .higher .ensures))
     (λ c. omega arith)
     (λ c. omega arith)
