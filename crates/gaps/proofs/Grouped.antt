@@ -24,6 +24,7 @@ use Rattle.gaps.specs.Raised.{Raised}
 use Rattle.gaps.specs.Points.{offsetOf, offsetAt, originOf, OriginKnown, Group, GroupsKnown, Notable, Apart, Reached, Onto, After}
 use Rattle.gaps.specs.Points.{leadPlace, leadsWith, Leads, LeadKnown, Noting, NotedBack, Ahead, Rowing}
 use Rattle.gaps.proofs.Reached.{reached-none, reached-is, reached-one, within-down, within-empty}
+use Rattle.gaps.proofs.Row.{Rowed, rowed-each}
 
 -- a word's value is one of two
 value-low : (word : ℕ) → wordValue word < valueSpan
@@ -316,54 +317,11 @@ module _ {m : Model} {x : ℕ → ℕ} {points : List ℕ} {groups : Groups} (kn
               (n .ahead) r));
         }
 
--- what holds of two numbers holds of the larger
-of-larger : (P : ℕ → Type 0) (a b : ℕ) → P a → P b → P (max a b)
-of-larger P a b u v =
-    elim (decLe a b) [
-      | yes l ↦ let same : b ≡ max a b = omega arith in subst P same v
-      | no l ↦ let same : a ≡ max a b = omega arith in subst P same u
-    ]
-
--- A row of the table: its first k entries are raised by the leads, and nothing else changes.
-pub record Rowed (row ahead at : ℕ) (leads before now : List ℕ) (k : ℕ) : Type 0 where
-  pub size : length now ≡ length before
-  pub raised : (j : ℕ) → j < k → getD now (row + j) 0 ≡ max (getD before (row + j) 0) (getD leads (ahead + j) 0 + at)
-  pub rest : (p : ℕ) → ((j : ℕ) → j < k → p ≡ row + j → ⊥) → getD now p 0 ≡ getD before p 0
-
-module _ (row ahead at : ℕ) (leads before : List ℕ) where
-  pub rowed-start : Rowed row ahead at leads before before 0
-  rowed-start = record { size = refl; raised = λ j h. absurd (omega arith); rest = λ p d. refl }
-
-  pub rowed-more :
-      (now : List ℕ) (k : ℕ) {v : ℕ} → row + k < length before → Rowed row ahead at leads before now k
-      → v ≡ max (getD now (row + k) 0) (getD leads (ahead + k) 0 + at)
-      → Rowed row ahead at leads before (set now (row + k) v) (k + 1)
-  rowed-more now k {v} within w e =
-      record {
-        size = length-set now (row + k) v ∙ w .size;
-        raised = raised;
-        rest = λ p d. getD-set-other now (row + k) p v 0 (d k (omega arith)) ∙ w .rest p (λ j h. d j (omega arith));
-      }
-    where
-      raised : (j : ℕ) → j < k + 1 → getD (set now (row + k) v) (row + j) 0 ≡ max (getD before (row + j) 0) (getD leads (ahead + j) 0 + at)
-      raised j h =
-          elim (ℕ-discrete j k) [
-            | yes q ↦
-                rw q
-                (omega (
-                  arith,
-                  getD-set-same now (row + k) v 0 (omega (arith, w .size)),
-                  w .rest (row + k) (λ i l r. absurd (omega arith)),
-                  e,
-                ))
-            | no q ↦ getD-set-other now (row + k) (row + j) v 0 (λ r. q (omega arith)) ∙ w .raised j (omega arith)
-          ]
-
 module _ (origin : Origin) (leads before : List ℕ) where
   abbrev row : ℕ → ℕ
   row j = rowWidth * origin .step + j
 
-  abbrev due : ℕ → ℕ
+  abbrev pub due : ℕ → ℕ
   due j = getD leads (leadPlace (origin .value) j) 0 + origin .at
 
   -- the step's own entry put back, the row is raised to the orders of the leads
@@ -372,7 +330,7 @@ module _ (origin : Origin) (leads before : List ℕ) where
       → own ≡ getD before (rowWidth * origin .step + origin .step) 0
       → k ≤ n
       → n ≤ k
-      → Rowed (rowWidth * origin .step) (rowWidth * origin .value) (origin .at) leads before now k
+      → Rowed (rowWidth * origin .step) due before now k
       → Reached n (Ahead origin leads) before (set now (rowWidth * origin .step + origin .step) own)
   rowed-reached n k now {own} few known led whole e under over w =
       record {
@@ -420,25 +378,12 @@ module _ (origin : Origin) (leads before : List ℕ) where
             | no l ↦ omega (arith, known .near)
           ]
 
-      -- what holds of the entries before and of what is due holds of all entries
       each : (p : ℕ) (P : ℕ → Type 0) → ((q : ℕ) → P (getD before q 0)) → ((j : ℕ) → P (due j)) → P (getD after p 0)
       each p P old new =
           elim (ℕ-discrete p (row step)) [
             | yes q ↦
                 subst P (sym (ap (λ j. getD after j 0) q ∙ getD-set-same now (row step) own 0 (omega (arith, w .size)) ∙ e)) (old (row step))
-            | no q ↦
-                subst P (sym (getD-set-other now (row step) p own 0 q))
-                (elim (decLt p (row 0)) [
-                  | yes l ↦ subst P (sym (w .rest p (λ j h r. absurd (omega arith)))) (old p)
-                  | no l ↦
-                      elim (decLt p (row k)) [
-                        | yes r ↦
-                            let there : p ≡ row (p - row 0) = omega arith in
-                            subst P (sym (ap (λ j. getD now j 0) there ∙ w .raised (p - row 0) (omega arith)))
-                            (of-larger P _ _ (old (row (p - row 0))) (new (p - row 0)))
-                        | no r ↦ subst P (sym (w .rest p (λ j h s. absurd (omega arith)))) (old p)
-                      ]
-                ])
+            | no q ↦ subst P (sym (getD-set-other now (row step) p own 0 q)) (rowed-each w P old new p)
           ]
 
       least :

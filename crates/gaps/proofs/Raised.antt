@@ -35,7 +35,7 @@ single-off i k gap a b d =
     ]
 
 -- an entry that is large enough stays, and raised twice it is raised by the larger gap
-keeps : (a b : ℕ) (t : Bool) → b ≤ a → a ≡ max a (cond t 0 b)
+pub keeps : (a b : ℕ) (t : Bool) → b ≤ a → a ≡ max a (cond t 0 b)
 keeps a b true h = omega arith
 keeps a b false h = omega arith
 

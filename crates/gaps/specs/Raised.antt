@@ -1,9 +1,9 @@
 -- Inner: the table of gaps raised, rule by rule.
 use Prim.Native.Nat.{ℕ, _+_, _≤_, _<_, max}
 use mathlib.Core.Path.{_≡_}
-use mathlib.Core.Bool.{cond}
+use mathlib.Core.Bool.{_&&_, cond}
 use mathlib.Core.List.{List}
-use lib.Dec.{eqb}
+use lib.Dec.{eqb, leb}
 use lib.ListN.{length}
 use Rattle.laws.specs.Fold.{largest}
 use Rattle.job.specs.Model.{Model}
@@ -13,7 +13,7 @@ use Rattle.validity.specs.Valid.{Valid}
 use Rattle.links.specs.LinkList.{LinksOf, Named}
 use Rattle.orders.specs.Gaps.{serialGap}
 use Rattle.order_file.specs.Contents.{mostGap}
-use Rattle.order_file.specs.Table.{gapIn, Gaps, rowWidth, tableBias, emptyLimit}
+use Rattle.order_file.specs.Table.{gapIn, Gaps, rowWidth, tableBias, emptyLimit, noOrder}
 use Rattle.gaps.specs.Table.{single}
 
 -- what an entry of the table can be
@@ -47,3 +47,11 @@ pub record ValidPoints (m : Model) (x : ℕ → ℕ) (points begins : List ℕ) 
 -- rule 5 of one step: its gaps to all others
 abbrev pub serialRow : Model → (ℕ → ℕ) → ℕ → ℕ → ℕ → ℕ
 serialRow m x i a b = largest (m .steps) (λ k. single i k (serialGap m x i k) a b)
+
+-- the entry to a step that starts at `start`, from one that finishes at `end`
+abbrev pub entryFrom : ℕ → ℕ → ℕ → ℕ
+entryFrom end entry start = cond (leb end start) entry noOrder
+
+-- the gaps of the orders from i to the steps that start at `end` or later
+abbrev pub laterGap : (ℕ → ℕ) → ℕ → ℕ → ℕ → ℕ → ℕ → ℕ
+laterGap x i end gap a b = cond (eqb i a && leb end (x b)) gap 0

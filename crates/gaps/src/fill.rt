@@ -1,14 +1,15 @@
 // The table of gaps, filled rule by rule (orders, rules 1 to 5). Of several gaps for one entry the largest stays.
 ghost use mathlib.Core.Path.{_≡_};
-ghost use Prim.Native.Nat.{_+_, _<_};
+ghost use Prim.Native.Nat.{_+_, _≤_, _<_, min};
 ghost use lib.ListN.{length};
 ghost use Rattle.job.specs.Model.{view};
 ghost use Rattle.job.specs.WellFormed.{WellFormed};
 ghost use Rattle.validity.specs.Ticks.{scheduleOf};
 ghost use Rattle.orders.specs.Gaps.{supportOrder, supportGap, opposingGap, conditionGap, levelGap, serialFirst, serialGap, gapOf};
+ghost use Rattle.order_file.specs.Contents.{stepLimit};
 ghost use Rattle.order_file.specs.Table.{gapOfEntry, Gaps};
 ghost use Rattle.gaps.specs.Table.{Fillable, TableOf};
-ghost use Rattle.gaps.specs.Raised.{EntryKnown, Raised, SupportKnown, RaisedByLinks, ValidPoints, serialRow};
+ghost use Rattle.gaps.specs.Raised.{EntryKnown, Raised, SupportKnown, RaisedByLinks, ValidPoints, serialRow, entryFrom, laterGap};
 ghost use Rattle.gaps.specs.Points.{groupsAt};
 use crate::rows::End;
 use crate::rows::Groups;
@@ -24,9 +25,14 @@ use job::records::step_length;
 use order_file::layout::INITIAL_STATE;
 use order_file::table::ENTRY_BIAS;
 use order_file::table::NO_ORDER;
+use order_file::table::WIDTH;
+use order_file::table::higher;
 use points::ticks::finish;
 use points::ticks::start_of;
 use timeline::word::begin_at;
+
+// How many values a start has.
+const START_SPAN: usize = 4294967296;
 
 // Rule 1 for condition c, by its link.
 fn raise_support(s: &[u8], job: Job, links: &[u16], c: u16, gaps: &mut [u32])
@@ -169,8 +175,8 @@ fn serial_entry(s: &[u8], job: Job, starts: &[u32], i: u16, k: u16) -> u32
     }
 }
 
-// Rule 5 for the steps after step i.
-fn raise_serial(s: &[u8], job: Job, starts: &[u32], i: u16, gaps: &mut [u32])
+// Rule 5 for the steps after step i, one by one.
+fn pair_serial(s: &[u8], job: Job, starts: &[u32], i: u16, gaps: &mut [u32])
     requires { ⌜ WellFormed (view job (now s)) × Gaps (now gaps) × (i < job .count .steps) ⌝ }
     ensures { λ _. ⌜ Raised (job .count .steps) (serialRow (view job (now (s .entry))) (scheduleOf (now (starts .entry))) i)
         (now (gaps .entry)) (now (gaps .exit)) ⌝ }
@@ -181,6 +187,56 @@ fn raise_serial(s: &[u8], job: Job, starts: &[u32], i: u16, gaps: &mut [u32])
         let entry = serial_entry(s, job, starts, i, k);
         raise(i, k, entry, gaps);
         k += 1;
+    }
+}
+
+fn lower(a: usize, b: usize) -> usize
+    ensures { λ r. ⌜ r ≡ min a b ⌝ }
+{
+    if b < a { b } else { a }
+}
+
+// The entry to a step that starts at `start`, from one that finishes at `end`.
+fn entry_from(end: u32, entry: u32, start: u32) -> u32
+    ensures { λ r. ⌜ r ≡ entryFrom end entry start ⌝ }
+{
+    if end <= start { entry } else { NO_ORDER }
+}
+
+// Orders those of n steps that start at `end` or later after step i, by a row. A start past the list's end counts as 0, and `end` is later.
+fn row_later(n: usize, starts: &[u32], i: u16, end: u32, entry: u32, gaps: &mut [u32])
+    requires { ⌜ Gaps (now gaps) × (n ≤ stepLimit) × (i < n) × (scheduleOf (now starts) i < end) × EntryKnown entry ⌝ }
+    ensures { λ _. ⌜ Raised n (laterGap (scheduleOf (now (starts .entry))) i end (gapOfEntry entry)) (now (gaps .entry)) (now (gaps .exit)) ⌝ }
+{
+    let row = WIDTH * i as usize;
+    let listed = lower(n, starts.len());
+    let mut k = 0;
+    while k < listed {
+        gaps[row + k] = higher(gaps[row + k], entry_from(end, entry, starts[k]));
+        k += 1;
+    }
+}
+
+// Rule 5 for the steps after step i. A step that takes time is before all that start when it finishes or later, as none of them finishes by
+// its start; of two that take none each may do so.
+fn raise_serial(s: &[u8], job: Job, starts: &[u32], i: u16, gaps: &mut [u32])
+    requires { ⌜ WellFormed (view job (now s)) × Gaps (now gaps) × (i < job .count .steps) × (job .serial ≡ 1) ⌝ }
+    ensures { λ _. ⌜ Raised (job .count .steps) (serialRow (view job (now (s .entry))) (scheduleOf (now (starts .entry))) i)
+        (now (gaps .entry)) (now (gaps .exit)) ⌝ }
+{
+    let length = step_length(s, job, i);
+    let end = finish(s, job, starts, i);
+    if (length == 0) | (START_SPAN <= end) {
+        pair_serial(s, job, starts, i, gaps);
+    } else {
+        row_later(
+            job.count.steps as usize,
+            starts,
+            i,
+            end as u32,
+            length as u32 + ENTRY_BIAS,
+            gaps,
+        );
     }
 }
 

@@ -23,8 +23,10 @@ fill-serial-spec =
     (λ c. raised-none _ _ _ (λ i k. rw (ne-eqb _ _ (c .if1 .taken)) refl))
     (λ c. (omega arith, raised-start _ _ _))
     (λ c κs.
-    let d = c .before .before .before .before .before .before .before .before in
-    (d .pre .0, c .before .before .loop .inv .1 .whole (d .pre .1), c .before .loop-test .taken))
+    let l = c .before .before in
+    let test = l .before in
+    let d = test .before .before .before .before .before in
+    (d .pre .0, l .loop .inv .1 .whole (d .pre .1), c .before .loop-test .taken, test .if1 .left))
     (λ c. omega arith)
     (λ c. omega arith)
     (λ c. (omega arith, raised-more _ _ _ _ _ _ (c .before .before .before .before .before .loop .inv .1) (c .before .before .raise-serial .ensures)))

@@ -1,13 +1,16 @@
--- Each other step in turn.
-use Prim.Native.Nat.{_≤_, _-_}
-use Rattle.laws.specs.Fold.{largest}
+-- As pairs or as a row.
+use Prim.Native.Nat.{_+_, _<_}
+use mathlib.Core.Path.{_≡_, ap₂, _∙_}
+use native.Mathlib.Omega.{arith}
+use borrow.Author.Needs.{needs}
+use denote.Ref.{now}
 use Rattle.job.specs.Model.{view}
 use Rattle.validity.specs.Ticks.{scheduleOf}
-use Rattle.orders.specs.Gaps.{serialGap}
-use Rattle.gaps.specs.Table.{single}
-use Rattle.gaps.specs.Raised.{Raised}
-use Rattle.gaps.proofs.Raised.{raised-start, raised-order, raised-end}
-use native.Mathlib.Omega.{arith}
+use Rattle.order_file.specs.Contents.{gapBias}
+use Rattle.order_file.specs.Table.{gapOfEntry, entryBias}
+use Rattle.gaps.specs.Raised.{laterGap}
+use Rattle.gaps.proofs.Raised.{raised-is}
+use Rattle.gaps.proofs.Serial.{takes-time, serial-row}
 use Rattle.gaps.proofs.fill.raise_serial.Statement.{statement}
 use Rattle.gaps.proofs.fill.raise_serial.Tie as tie
 
@@ -15,27 +18,55 @@ pub raise-serial-spec : {M : Type 1} → statement M
 raise-serial-spec =
     tie.close
     (tie.spec
-    (λ s job starts i gaps₀ n k₀ gaps k. (k ≤ n) × Raised (job .count .steps)
-    (λ a b. largest k (λ j. single i j (serialGap (view job s) (scheduleOf starts) i j) a b)) gaps₀ gaps)
-    (λ s job starts i gaps₀ n k₀ gaps k. n - k)
-    (λ c. (omega arith, raised-start _ _ _))
-    (λ c κs. let d = c .before .before .before .before .before in (d .pre .0, d .pre .2))
+    (λ c κs. search needs)
+    (λ c κs. search needs)
     (λ c κs.
-    let d = c .before .before .before .before .before .before .before in (
-      c .before .before .before .loop .inv .1 .whole (d .pre .1),
-      omega (arith, d .pre .2, d .pre .0 .stepCount),
-      omega
-          (arith, c .before .before .loop-test .taken, d .pre .0 .stepCount),
-      c .before .serial-entry .ensures .1,
-    ))
-    (λ c. omega arith)
-    (λ c. omega arith)
+    let d = c .before .before .before .before .before .before .before in
+    (d .pre .0, d .pre .1, d .pre .2))
+    (λ c. search needs)
     (λ c.
-    let d = c .before .before .before .before .before .before .before .before .before .before in (
-      omega arith,
-      raised-order _ _ _ _ _ _ _ _ _ (c .before .before .before .before .before .before .loop .inv .1) (d .pre .0 .stepCount) (d .pre .2)
-          (c .before .before .before .before .before .loop-test .taken) (c .before .before .raise .ensures)
-          (λ a b. rw (c .before .before .before .before .serial-entry .ensures .0)),
+    let finished = c .before .before in
+    omega (arith, takes-time (finished .before .step-length .result) 4294967296 (finished .finish .result) (c .before .if1 .left) .1))
+    (λ c. search needs)
+    (λ c.
+    let length = c .before .before .before in
+    let d = length .before .before .before .before in
+    omega (arith, length .step-length .ensures .0, d .pre .0 .lengthRange _ (d .pre .2)))
+    (λ c κs.
+    let finished = c .before .before .before in
+    let length = finished .before in
+    let d = length .before .before .before .before in
+    let near = d .pre .0 .lengthRange _ (d .pre .2) in
+    let e = length .step-length .ensures .0 in
+    let takes = takes-time (length .step-length .result) 4294967296 (finished .finish .result) (c .before .before .if1 .left) .0 in (
+      d .pre .1,
+      d .pre .0 .stepCount,
+      d .pre .2,
+      omega (arith, finished .finish .ensures .0, e, takes),
+      record { most = omega (arith, e, near); low = λ h. absurd (omega (arith, e)) },
     ))
-    (λ c. let d = c .before .before .before .before .before in omega (arith, c .before .loop .inv .1 .whole (d .pre .1) .size, d .pre .1 .size))
-    (λ c. raised-end _ _ _ _ _ _ (c .before .loop .inv .1) (c .before .loop .inv .0) (c .loop-test .left)))
+    (λ c.
+    let raised = c .before .before in
+    let d = raised .before .before .before .before .before .before .before .before in
+    omega (arith, raised .pair-serial .ensures .whole (d .pre .1) .size, d .pre .1 .size))
+    (λ c. c .before .before .pair-serial .ensures)
+    (λ c.
+    let raised = c .before .before in
+    let d = raised .before .before .before .before .before .before .before .before .before in
+    omega (arith, raised .row-later .ensures .whole (d .pre .1) .size, d .pre .1 .size))
+    (λ c.
+    let raised = c .before .before in
+    let test = raised .before .before .before in
+    let finished = test .before in
+    let length = finished .before in
+    let d = length .before .before .before .before in
+    let m = view (d .args .job) (now (d .args .s)) in
+    let x = scheduleOf (now (d .args .starts)) in
+    let i = d .args .i in
+    let e = length .step-length .ensures .0 in
+    let takes : 0 < m .stepLength i =
+    omega (arith, e, takes-time (length .step-length .result) 4294967296 (finished .finish .result) (test .if1 .left) .0)
+    in
+    let gap : gapOfEntry (length .step-length .result + entryBias) ≡ m .stepLength i + gapBias = omega (arith, e) in
+    raised-is _ _ _ _ _ (raised .row-later .ensures)
+    (λ a b h l. ap₂ (λ f v. laterGap x i f v a b) (finished .finish .ensures .0) gap ∙ serial-row m x i a b (d .pre .3) takes l)))

@@ -4,8 +4,10 @@ use mathlib.Core.Path.{refl}
 use native.Mathlib.Omega.{arith}
 use lib.ListN.{getD, length-set}
 use borrow.Author.Needs.{needs}
+use denote.Ref.{now}
 use Rattle.order_file.specs.Table.{rowWidth}
-use Rattle.gaps.proofs.Grouped.{Rowed, rowed-start, rowed-more, rowed-reached}
+use Rattle.gaps.proofs.Row.{Rowed, rowed-start, rowed-more}
+use Rattle.gaps.proofs.Grouped.{rowed-reached}
 use Rattle.gaps.proofs.rows.raise_row.Statement.{statement}
 use Rattle.gaps.proofs.rows.raise_row.Tie as tie
 
@@ -13,7 +15,7 @@ pub raise-row-spec : {M : Type 1} → statement M
 raise-row-spec =
     tie.close
     (tie.spec
-    (λ n leads gaps₀ step at ahead row own k₀ gaps k. (k ≤ n) × Rowed row ahead at leads gaps₀ gaps k)
+    (λ n leads gaps₀ step at ahead row own k₀ gaps k. (k ≤ n) × Rowed row (λ j. getD leads (ahead + j) 0 + at) gaps₀ gaps k)
     (λ n leads gaps₀ step at ahead row own k₀ gaps k. n - k)
     (λ c. search needs)
     (λ c.
@@ -35,7 +37,7 @@ raise-row-spec =
     (λ c.
     let d = c .before .before .before .before .before in
     omega (arith, d .pre .1, d .pre .2 .step, d .pre .0 .size))
-    (λ c. (omega arith, rowed-start _ _ _ _ _))
+    (λ c. (omega arith, rowed-start _ _ _))
     (λ c.
     let d = c .before .before .before .before .before .before .before in
     omega (arith, d .pre .1, d .pre .2 .step, c .loop-test .taken))
@@ -93,7 +95,7 @@ raise-row-spec =
     let d = l .before .before .before .before .before .before in
     let t = test .loop-test .taken in (
       omega (arith, t),
-      rowed-more _ _ _ _ _ _ _ (omega (arith, d .pre .1, d .pre .2 .step, d .pre .0 .size, t)) (l .loop .inv .1) (c .higher .ensures),
+      rowed-more _ _ _ _ _ (omega (arith, d .pre .1, d .pre .2 .step, d .pre .0 .size, t)) (l .loop .inv .1) (c .higher .ensures),
     ))
     (λ c.
     let d = c .before .before .before .before .before .before .before in
@@ -114,4 +116,4 @@ raise-row-spec =
     let l = c .before in
     let d = l .before .before .before .before .before .before in
     let i = l .loop .inv in
-    rowed-reached _ _ _ _ _ _ (d .pre .1) (d .pre .2) (d .pre .3) (d .pre .0 .size) refl (i .0) (c .loop-test .left) (i .1)))
+    rowed-reached _ (now (d .args .leads)) _ _ _ _ (d .pre .1) (d .pre .2) (d .pre .3) (d .pre .0 .size) refl (i .0) (c .loop-test .left) (i .1)))
