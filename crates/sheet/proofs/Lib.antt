@@ -3,3 +3,4 @@ pub mod Writing
 pub mod Decimal
 pub mod Forms
 pub mod Fits
+pub mod Agree
