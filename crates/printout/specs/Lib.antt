@@ -1,0 +1,2 @@
+-- What `show` prints of a job, and the starred cases whole.
+pub mod Shown

@@ -1,0 +1,17 @@
+-- What `show` prints of a job, as a function of the job's bytes: "A small job, and edges".
+use Prim.Native.Nat.{ℕ}
+use mathlib.Core.Bool.{cond}
+use mathlib.Core.List.{List}
+use Rattle.verdict.specs.Verdict.{number, place}
+use Rattle.validity.specs.Checks.{jobCheck}
+use Rattle.order_file.specs.Contents.{stepLimit, orderLimit}
+use Rattle.sheet.specs.Text.{sheetText, refusedText, sheetMost}
+use Rattle.partialize.specs.Partialization.{looseOf, accepts}
+
+-- the sheet of its order file, or the refusal of the job check
+unfoldable pub shown : List ℕ → List ℕ
+shown s = cond (accepts s) (sheetText (looseOf s)) (refusedText (number (jobCheck s)) (place (jobCheck s)))
+
+-- the most bytes of it
+abbrev pub mostText : ℕ
+mostText = sheetMost stepLimit orderLimit

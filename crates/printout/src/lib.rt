@@ -1,0 +1,31 @@
+// What `show` prints of a job: the sheet of its order file, or its refusal.
+ghost use Prim.Native.Nat.{_≤_};
+ghost use Rattle.sheet.specs.Put.{Written};
+ghost use Rattle.printout.specs.Shown.{shown, mostText};
+use order_file::layout::MOST_LINKS;
+use order_file::layout::MOST_ORDERS;
+use order_file::layout::MOST_STEPS;
+use order_file::layout::WINDOWS_AT;
+use partialize::answer;
+use partialize::partialize;
+
+// The longest order file.
+const MOST_FILE: usize = WINDOWS_AT + 12 * MOST_STEPS + 8 * MOST_ORDERS + 2 * MOST_LINKS;
+
+// The longest text.
+pub const MOST_TEXT: usize = 164771;
+
+// Writes what `show` prints of a job to the front of `text`, and answers how long it is, whether or not there was room for it.
+pub fn show_job(job: &[u8], text: &mut [u8]) -> usize
+    ensures { λ r. ⌜ Written (shown (now (job .entry))) (now (text .entry)) (now (text .exit)) r ⌝ }
+    ensures { λ r. ⌜ r ≤ mostText ⌝ }
+{
+    let mut file = [0u8; MOST_FILE];
+    let a = partialize(job, &mut file);
+    let number = answer::number(a);
+    if number != 0 {
+        return sheet::write_refused(number, answer::place(a), text);
+    }
+    let length = answer::length(a) as usize;
+    sheet::write_sheet(&file[..length], text)
+}
