@@ -3,24 +3,26 @@
 use Prim.Native.Nat.{ℕ, zero, suc, _+_, _/_, _%_, _<_}
 use mathlib.Core.Path.{_≡_, refl, sym, ap, ap₂, _∙_, fun-ext}
 use mathlib.Core.Bool.{Bool, true, false, _&&_, not, cond}
-use mathlib.Core.List.{List, [], _∷_, _++_, map}
+use mathlib.Core.List.{List, [], _∷_, _++_}
 use mathlib.Core.Logic.{⊎-elim}
-use native.Mathlib.Nat.{add-zero}
+use native.Mathlib.Nat.{add-zero, not-suc-le-zero}
 use native.Mathlib.Numerals.{add-one}
 use native.Mathlib.Omega.{arith}
+use lib.ListN.{length, getD, length-append, List·getD-append}
+use lib.Seq.{getD-at}
 use lib.Dec.{ltb, eqb}
 use Rattle.little_endian.specs.Bytes.{u16At, u32At, biasedAt, u16Bytes, u32Bytes}
 use Rattle.laws.specs.Fold.{largest, least, sum}
 use Rattle.laws.specs.Listed.{tabulate}
 use Rattle.laws.specs.Nth.{count, nth}
 use Rattle.laws.specs.Search.{any, all, lowest, lowestOwner}
-use Rattle.laws.proofs.Search.{either}
+use Rattle.laws.proofs.Search.{either, last-or-below}
 use Rattle.laws.proofs.Nth.{nth-facts, nth-is}
-use Rattle.verdict.specs.declared.Verdict.{Verdict}
+use Rattle.verdict.specs.declared.Verdict.the-variants.{Accepted}
 use Rattle.job.specs.Layout.{countsOf, tableAt, positionsOf, jobOf, countTooHigh}
 use Rattle.form.specs.Header.{layoutAgrees, headerCheck}
 use Rattle.job.specs.Model.{Model, modelOf}
-use Rattle.verdict.specs.Verdict.{number, place, _then_, refuseIf, refuseLowest}
+use Rattle.verdict.specs.Verdict.{_then_, refuseIf, refuseLowest}
 use Rattle.form.specs.Ranges.{factOk, levelOk, stepOk, conditionOk, effectOk, useOk, goalOk}
 use Rattle.form.specs.Against.{bothWays, usesTwice, opposesOwn, setBefore, usedBefore, opposesAny, bothWaysStep, usesTwiceStep, opposesOwnStep}
 use Rattle.form.specs.Refusals.{tableCheck, recordCheck, againstStep, stepCheck, formCheck}
@@ -35,12 +37,41 @@ use Rattle.orders.specs.Gaps.{serialGap, gapOf}
 use Rattle.orders.specs.Windows.{limitOf, allowed, latestOf}
 use Rattle.rounds.specs.Rounds.{demand, raised, after, unchanged, rounds, earliest}
 use Rattle.orders.specs.File.{ordered, fileOf}
-use Rattle.orders.specs.Starred.{fact, level, step, condition, effect, usage, goal, joined, offsets, tablesOf, jobBytes, Order, order, Answer}
-use Rattle.orders.specs.Starred.{refused, accepted, listed, windowOf, orderOf, said, answer, answerOf, Case, small, nothing, levelled, serially}
-use Rattle.orders.specs.Starred.{starred}
+use Rattle.orders.specs.Starred.{fact, level, step, condition, effect, usage, goal, joined, offsets, tablesOf, jobBytes, Window, window, Order, order}
+use Rattle.orders.specs.Starred.{contentsWith, Expected, refused, accepted, Answers, Case, AllAnswer}
+use Rattle.orders.specs.Starred.{small, nothing, levelled, serially, starred}
+use Rattle.order_file.specs.Contents.{Contents}
+use Rattle.order_file.specs.Agree.{Agree}
 use Rattle.order_file.specs.Table.{rowWidth, tableSize}
 
 module _ {A : Type 0} where
+  -- the values at the indexes below n, in their order
+  listed : ℕ → (ℕ → A) → List A
+  listed zero f = []
+  listed (suc n) f = listed n f ++ (f n ∷ [])
+
+  length-listed : (f : ℕ → A) (n : ℕ) → length (listed n f) ≡ n
+  unfolding listed
+  length-listed f zero = refl
+  length-listed f (suc n) = length-append (listed n f) (f n ∷ []) ∙ ap (λ k. k + 1) (length-listed f n) ∙ add-one n
+
+  getD-listed : (f : ℕ → A) (n k : ℕ) (d : A) → k < n → getD (listed n f) k d ≡ f k
+  unfolding listed
+  getD-listed f zero k d h = absurd (not-suc-le-zero h)
+  getD-listed f (suc n) k d h =
+      ⊎-elim
+      (λ (q : k ≡ n). getD-at (listed n f) (f n) [] d k (length-listed f n ∙ sym q) ∙ ap f (sym q))
+      (λ (l : k < n). List·getD-append (listed n f) (f n ∷ []) d k (omega (arith, length-listed f n)) ∙ getD-listed f n k d l)
+      (last-or-below h)
+
+  -- a list that is so listed has as many values, and these
+  module _ (f : ℕ → A) (n : ℕ) {l : List A} (e : listed n f ≡ l) where
+    listed-count : n ≡ length l
+    listed-count = sym (length-listed f n) ∙ ap length e
+
+    listed-at : (d : A) (k : ℕ) → k < length l → f k ≡ getD l k d
+    listed-at d k h = sym (getD-listed f n k d (omega (arith, listed-count))) ∙ ap (λ (s : List A). getD s k d) e
+
   listed-cong : (f g : ℕ → A) (n : ℕ) → ((k : ℕ) → k < n → f k ≡ g k) → listed n f ≡ listed n g
   unfolding listed
   listed-cong f g zero h = refl
@@ -82,6 +113,12 @@ listed-nth {A} p f (suc n) =
     ∙ sym (ap (λ b. extend b (passing n p f) f n) e))
     (either (p n))
 
+windowOf : Contents → ℕ → Window
+windowOf c k = window (c .limit k) (c .latest k) (c .earliest k)
+
+orderOf : Contents → ℕ → Order
+orderOf c o = order (c .first o) (c .second o) (c .gap o)
+
 -- whether a pair is ordered: the gap is computed for counted steps only
 orderedIf : Bool → Model → (ℕ → ℕ) → ℕ → ℕ → Bool
 orderedIf true m x i k = not (eqb (gapOf m x i k) 0)
@@ -110,31 +147,57 @@ unfolding fileOf orderOf ordersOf orderAt
 orders-listed m x =
     listed-nth (ordered m x) (orderAt m x) tableSize ∙ ap (λ p. passing tableSize p (orderAt m x)) (fun-ext (orderedPair-is m x))
 
--- the answer with its orders so listed
-answerBy : Bool → Verdict → Model → Answer
-answerBy true v m =
+-- contents whose records are so listed
+module _ (c : Contents) {rounds : ℕ} {windows : List Window} {orders : List Order} {links : List ℕ} where
+  agree-listed :
+      c .rounds ≡ rounds → listed (c .steps) (windowOf c) ≡ windows → listed (c .orders) (orderOf c) ≡ orders
+      → listed (c .links) (c .link) ≡ links → Agree c (contentsWith rounds windows orders links)
+  unfolding contentsWith windowOf orderOf
+  agree-listed r ws os ls =
+      let w = listed-at (windowOf c) (c .steps) ws (window 0 0 0) in
+      let o = listed-at (orderOf c) (c .orders) os (order 0 0 0) in
+      record {
+        steps = listed-count (windowOf c) (c .steps) ws;
+        orders = listed-count (orderOf c) (c .orders) os;
+        links = listed-count (c .link) (c .links) ls;
+        rounds = r;
+        limit = λ k h. ap (λ (x : Window). x .limit) (w k h);
+        latest = λ k h. ap (λ (x : Window). x .latest) (w k h);
+        earliest = λ k h. ap (λ (x : Window). x .earliest) (w k h);
+        first = λ k h. ap (λ (x : Order). x .first) (o k h);
+        second = λ k h. ap (λ (x : Order). x .second) (o k h);
+        gap = λ k h. ap (λ (x : Order). x .gap) (o k h);
+        link = listed-at (c .link) (c .links) ls 0;
+      }
+
+-- what is computed of a job
+AnswersBy : List ℕ → Expected → Type 0
+AnswersBy s (refused v) = jobCheck s ≡ v
+AnswersBy s (accepted rounds windows orders links) =
+    let m = modelOf s in
     let c = fileOf m (planned m) in
-    accepted (c .steps) (c .rounds) (listed (c .steps) (windowOf c)) (ordersOf m (planned m)) (listed (c .links) (c .link))
-answerBy false v m = refused (number v) (place v)
+    (jobCheck s ≡ Accepted) × (c .rounds ≡ rounds) × (listed (c .steps) (windowOf c) ≡ windows)
+    × (ordersOf m (planned m) ≡ orders) × (listed (c .links) (c .link) ≡ links)
 
-answerBy-is : (b : Bool) (v : Verdict) (m : Model) → answer b v m ≡ answerBy b v m
-unfolding answer answerBy said
-answerBy-is true v m =
-    let c = fileOf m (planned m) in
-    ap (λ os. accepted (c .steps) (c .rounds) (listed (c .steps) (windowOf c)) os (listed (c .links) (c .link)))
-    (orders-listed m (planned m))
-answerBy-is false v m = refl
+answers-by : (s : List ℕ) (e : Expected) → AnswersBy s e → Answers s e
+unfolding AnswersBy
+answers-by s (refused v) h = h
+answers-by s (accepted rounds windows orders links) h =
+    let m = modelOf s in
+    (h .0, agree-listed (fileOf m (planned m)) (h .1) (h .2) (orders-listed m (planned m) ∙ h .3) (h .4))
 
-computed : List ℕ → Answer
-computed s = let v = jobCheck s in answerBy (eqb (number v) 0) v (modelOf s)
+AllAnswerBy : List Case → Type 0
+AllAnswerBy [] = Unit
+AllAnswerBy (c ∷ cs) = AnswersBy (c .job) (c .expected) × AllAnswerBy cs
 
-computed-is : (s : List ℕ) → answerOf s ≡ computed s
-unfolding answerOf computed
-computed-is s = answerBy-is (eqb (number (jobCheck s)) 0) (jobCheck s) (modelOf s)
+all-answer-by : (cs : List Case) → AllAnswerBy cs → AllAnswer cs
+unfolding AllAnswerBy
+all-answer-by [] h = h
+all-answer-by (c ∷ cs) h = (answers-by (c .job) (c .expected) (h .0), all-answer-by cs (h .1))
 
-starred-computed : map (λ (c : Case). computed (c .job)) starred ≡ map (λ (c : Case). c .expected) starred
-unfolding starred small nothing levelled serially jobBytes tablesOf joined offsets fact level step condition effect usage goal
-    u16Bytes u32Bytes computed answerBy listed windowOf ordersOf orderAt orderedPair orderedIf passing extend fileOf nthLink u16At
+starred-computed : AllAnswerBy starred
+unfolding AllAnswerBy AnswersBy starred small nothing levelled serially jobBytes tablesOf joined offsets fact level step condition effect
+    usage goal u16Bytes u32Bytes listed windowOf ordersOf orderAt orderedPair orderedIf passing extend fileOf nthLink u16At
     u32At biasedAt largest least sum tabulate any all lowest lowestOwner countsOf tableAt positionsOf jobOf countTooHigh
     layoutAgrees _then_ refuseIf refuseLowest factOk levelOk stepOk conditionOk effectOk useOk goalOk bothWays usesTwice
     opposesOwn setBefore usedBefore opposesAny bothWaysStep usesTwiceStep opposesOwnStep headerCheck tableCheck recordCheck
@@ -142,8 +205,38 @@ unfolding starred small nothing levelled serially jobBytes tablesOf joined offse
     passes levelFails undoes late goalFails overlaps crowded ruleCheck timingCheck jobCheck producer earliestProduced
     supporter linkOf conditionLink goalLink supportOrder supportGap opposingOrder opposingGap beforeOrder afterOrder
     conditionGap levelOrder levelGap serialGap gapOf limitOf allowed latestOf demand raised after unchanged rounds earliest
-starred-computed = refl
+starred-computed = (
+  (refl, refl, refl, refl, refl),
+  (
+    (refl, refl, refl, refl, refl),
+    (
+      (refl, refl, refl, refl, refl),
+      (
+        refl,
+        (
+          (refl, refl, refl, refl, refl),
+          (
+            (refl, refl, refl, refl, refl),
+            (
+              refl,
+              (
+                (refl, refl, refl, refl, refl),
+                (
+                  refl,
+                  (
+                    (refl, refl, refl, refl, refl),
+                    ((refl, refl, refl, refl, refl), (refl, tt)),
+                  ),
+                ),
+              ),
+            ),
+          ),
+        ),
+      ),
+    ),
+  ),
+)
 
 -- the definitions answer the whole table as the paper does
-pub starred-answers : map (λ (c : Case). answerOf (c .job)) starred ≡ map (λ (c : Case). c .expected) starred
-starred-answers = ap (λ f. map (λ (c : Case). f (c .job)) starred) (fun-ext computed-is) ∙ starred-computed
+pub starred-answers : AllAnswer starred
+starred-answers = all-answer-by starred starred-computed

@@ -1,16 +1,16 @@
--- The starred cases of "A small job, and edges": one table of jobs with their whole answers.
-use Prim.Native.Nat.{ℕ, zero, suc, _+_, _-_}
-use mathlib.Core.Bool.{Bool, true, false}
+-- The starred cases of "A small job, and edges": one table of jobs, with the verdict of the job check or what is filed.
+use Prim.Native.Nat.{ℕ, _+_, _-_}
+use mathlib.Core.Path.{_≡_}
 use mathlib.Core.List.{List, [], _∷_, _++_, foldr}
-use lib.ListN.{length}
-use lib.Dec.{eqb}
+use lib.ListN.{length, getD}
 use Rattle.little_endian.specs.Bytes.{u16Bytes, u32Bytes}
 use Rattle.verdict.specs.declared.Verdict.{Verdict}
-use Rattle.verdict.specs.Verdict.{number, place, nowhere}
-use Rattle.job.specs.Model.{Model, modelOf}
+use Rattle.verdict.specs.declared.Verdict.the-variants.{Accepted, ConditionFails, LevelOutOfBounds, GoalFails, StepsOverlap}
+use Rattle.job.specs.Model.{modelOf}
 use Rattle.validity.specs.Ticks.{planned}
 use Rattle.validity.specs.Checks.{jobCheck}
 use Rattle.order_file.specs.Contents.{Contents, noLatest, gapBias}
+use Rattle.order_file.specs.Agree.{Agree}
 use Rattle.orders.specs.File.{fileOf}
 
 -- a job to be written: its serial mark, and the records of each table, each as its bytes
@@ -75,29 +75,23 @@ jobBytes w =
     ++ u16Bytes (length (w .effects)) ++ u16Bytes (length (w .uses)) ++ u16Bytes 0
     ++ offsets 48 (tablesOf w) ++ joined (tablesOf w)
 
--- a window: the earliest limit, the latest start, the earliest time
-pub data Window : Type 0 where
-  window : ℕ → ℕ → ℕ → Window
+-- a window
+pub record Window : Type 0 where
+  pub limit : ℕ
+  pub latest : ℕ
+  pub earliest : ℕ
 
--- an order: first, second, and the gap plus `gapBias`
-pub data Order : Type 0 where
-  order : ℕ → ℕ → ℕ → Order
+abbrev pub window : ℕ → ℕ → ℕ → Window
+window limit latest earliest = record { limit = limit; latest = latest; earliest = earliest }
 
--- a whole answer: number and place, and all that an order file says
-pub record Answer : Type 0 where
-  pub number : ℕ
-  pub place : ℕ
-  pub steps : ℕ
-  pub rounds : ℕ
-  pub windows : List Window
-  pub orders : List Order
-  pub links : List ℕ
+-- an order, with the gap plus `gapBias`
+pub record Order : Type 0 where
+  pub first : ℕ
+  pub second : ℕ
+  pub gap : ℕ
 
-abbrev pub refused : ℕ → ℕ → Answer
-refused n p = record { number = n; place = p; steps = 0; rounds = 0; windows = []; orders = []; links = [] }
-
-abbrev pub accepted : ℕ → ℕ → List Window → List Order → List ℕ → Answer
-accepted n r ws os ls = record { number = 0; place = nowhere; steps = n; rounds = r; windows = ws; orders = os; links = ls }
+abbrev pub order : ℕ → ℕ → ℕ → Order
+order first second gap = record { first = first; second = second; gap = gap }
 
 -- a gap as it is stored, of so much above or below 0
 abbrev pub plus : ℕ → ℕ
@@ -106,34 +100,43 @@ plus n = gapBias + n
 abbrev pub minus : ℕ → ℕ
 minus n = gapBias - n
 
--- the values at the indexes below n, in their order
-unfoldable pub listed : {A : Type 0} → ℕ → (ℕ → A) → List A
-listed zero f = []
-listed (suc n) f = listed n f ++ (f n ∷ [])
+-- what a file of these rounds, windows, orders and links says
+unfoldable pub contentsWith : ℕ → List Window → List Order → List ℕ → Contents
+contentsWith rounds windows orders links =
+    record {
+      steps = length windows;
+      orders = length orders;
+      links = length links;
+      rounds = rounds;
+      limit = λ k. getD windows k (window 0 0 0) .limit;
+      latest = λ k. getD windows k (window 0 0 0) .latest;
+      earliest = λ k. getD windows k (window 0 0 0) .earliest;
+      first = λ o. getD orders o (order 0 0 0) .first;
+      second = λ o. getD orders o (order 0 0 0) .second;
+      gap = λ o. getD orders o (order 0 0 0) .gap;
+      link = λ k. getD links k 0;
+    }
 
-unfoldable pub windowOf : Contents → ℕ → Window
-windowOf c k = window (c .limit k) (c .latest k) (c .earliest k)
+-- what the paper expects of a job: a refusal; or rounds, windows, orders and links
+pub data Expected : Type 0 where
+  refused : Verdict → Expected
+  accepted : ℕ → List Window → List Order → List ℕ → Expected
 
-unfoldable pub orderOf : Contents → ℕ → Order
-orderOf c o = order (c .first o) (c .second o) (c .gap o)
+-- the job check refuses it so; or it accepts, and what is filed by the planned starts says this
+abbrev pub Answers : List ℕ → Expected → Type 0
+Answers s (refused v) = jobCheck s ≡ v
+Answers s (accepted rounds windows orders links) =
+    (jobCheck s ≡ Accepted) × Agree (fileOf (modelOf s) (planned (modelOf s))) (contentsWith rounds windows orders links)
 
--- all that an order file says, as the answer to an accepted job
-unfoldable pub said : Contents → Answer
-said c = accepted (c .steps) (c .rounds) (listed (c .steps) (windowOf c)) (listed (c .orders) (orderOf c)) (listed (c .links) (c .link))
-
--- the answer where the job check says yes, and where it says no
-unfoldable pub answer : Bool → Verdict → Model → Answer
-answer true v m = said (fileOf m (planned m))
-answer false v m = refused (number v) (place v)
-
--- the definitions' answer to a job file
-unfoldable pub answerOf : List ℕ → Answer
-answerOf s = let v = jobCheck s in answer (eqb (number v) 0) v (modelOf s)
-
--- a job, and the answer that the paper gives to it
+-- a job, and what is expected of it
 pub record Case : Type 0 where
   pub job : List ℕ
-  pub expected : Answer
+  pub expected : Expected
+
+-- every case of a table
+abbrev pub AllAnswer : List Case → Type 0
+AllAnswer [] = Unit
+AllAnswer (c ∷ cs) = Answers (c .job) (c .expected) × AllAnswer cs
 
 -- the small job: step 0's fixed mark; step 1's start, its length, and from where to its end it wants fact 1; the goals
 unfoldable pub small : ℕ → ℕ → ℕ → ℕ → List (List ℕ) → List ℕ
@@ -191,43 +194,43 @@ starred =
     -- this job
     record {
       job = small 0 20 3 0 [];
-      expected = accepted 2 2 (window 0 noLatest 0 ∷ window 0 noLatest 6 ∷ []) (order 0 1 (plus 6) ∷ []) (0 ∷ []);
+      expected = accepted 2 (window 0 noLatest 0 ∷ window 0 noLatest 6 ∷ []) (order 0 1 (plus 6) ∷ []) (0 ∷ []);
     }
     -- no steps and no goals
-    ∷ record { job = nothing; expected = accepted 0 0 [] [] [] }
+    ∷ record { job = nothing; expected = accepted 0 [] [] [] }
     -- step 1 at 16
     ∷ record {
       job = small 0 16 3 0 [];
-      expected = accepted 2 2 (window 0 noLatest 0 ∷ window 0 noLatest 6 ∷ []) (order 0 1 (plus 6) ∷ []) (0 ∷ []);
+      expected = accepted 2 (window 0 noLatest 0 ∷ window 0 noLatest 6 ∷ []) (order 0 1 (plus 6) ∷ []) (0 ∷ []);
     }
     -- step 1 at 15
-    ∷ record { job = small 0 15 3 0 []; expected = refused 11 0 }
+    ∷ record { job = small 0 15 3 0 []; expected = refused (ConditionFails 0) }
     -- step 0 fixed
     ∷ record {
       job = small 1 20 3 0 [];
-      expected = accepted 2 2 (window 10 10 10 ∷ window 0 noLatest 16 ∷ []) (order 0 1 (plus 6) ∷ []) (0 ∷ []);
+      expected = accepted 2 (window 10 10 10 ∷ window 0 noLatest 16 ∷ []) (order 0 1 (plus 6) ∷ []) (0 ∷ []);
     }
     -- goal fact 1 = 1, deadline 15
     ∷ record {
       job = small 0 20 3 0 (goal 1 1 15 ∷ []);
-      expected = accepted 2 2 (window 0 10 0 ∷ window 0 noLatest 6 ∷ []) (order 0 1 (plus 6) ∷ []) (0 ∷ 0 ∷ []);
+      expected = accepted 2 (window 0 10 0 ∷ window 0 noLatest 6 ∷ []) (order 0 1 (plus 6) ∷ []) (0 ∷ 0 ∷ []);
     }
     -- deadline 14
-    ∷ record { job = small 0 20 3 0 (goal 1 1 14 ∷ []); expected = refused 13 0 }
+    ∷ record { job = small 0 20 3 0 (goal 1 1 14 ∷ []); expected = refused (GoalFails 0) }
     -- condition from 8 after an effect at 5
     ∷ record {
       job = small 0 20 8 8 [];
-      expected = accepted 2 1 (window 0 noLatest 0 ∷ window 0 noLatest 0 ∷ []) (order 0 1 (minus 2) ∷ []) (0 ∷ []);
+      expected = accepted 1 (window 0 noLatest 0 ∷ window 0 noLatest 0 ∷ []) (order 0 1 (minus 2) ∷ []) (0 ∷ []);
     }
     -- level 1, bounds 0 to 1, uses −1 and +1 by two steps at one tick
-    ∷ record { job = levelled 1; expected = refused 12 0 }
+    ∷ record { job = levelled 1; expected = refused (LevelOutOfBounds 0) }
     -- most 2
-    ∷ record { job = levelled 2; expected = accepted 2 1 (window 0 noLatest 0 ∷ window 0 noLatest 0 ∷ []) [] [] }
+    ∷ record { job = levelled 2; expected = accepted 1 (window 0 noLatest 0 ∷ window 0 noLatest 0 ∷ []) [] [] }
     -- serial, lengths 5 and 2, starts 0 and 5
     ∷ record {
       job = serially 5;
-      expected = accepted 2 2 (window 0 noLatest 0 ∷ window 0 noLatest 5 ∷ []) (order 0 1 (plus 5) ∷ []) [];
+      expected = accepted 2 (window 0 noLatest 0 ∷ window 0 noLatest 5 ∷ []) (order 0 1 (plus 5) ∷ []) [];
     }
     -- starts 0 and 4
-    ∷ record { job = serially 4; expected = refused 14 0 }
+    ∷ record { job = serially 4; expected = refused (StepsOverlap 0) }
     ∷ []

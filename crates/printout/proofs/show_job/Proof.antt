@@ -1,9 +1,7 @@
 -- Loosening, then the text of its answer.
-use mathlib.Core.Path.{_≡_, sym, ap₂, _∙_, subst}
+use mathlib.Core.Path.{sym, _∙_}
 use native.Mathlib.Omega.{arith}
 use lib.Seq.{length-take-le}
-use Rattle.sheet.specs.Put.{Written}
-use Rattle.sheet.specs.Text.{refusedText}
 use borrow.Author.Needs.{needs}
 use Rattle.printout.proofs.Printed.{filed-length, sheet-shown, shown-short, refused-shown}
 use Rattle.printout.proofs.show_job.Statement.{statement}
