@@ -1,2 +1,4 @@
 -- The laws of what is printed.
 pub mod Printed
+pub mod Beginning
+pub mod Starred

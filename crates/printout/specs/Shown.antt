@@ -1,8 +1,10 @@
 -- What `show` prints of a job, as a function of the job's bytes: "A small job, and edges".
-use Prim.Native.Nat.{ℕ}
+use Prim.Native.Nat.{ℕ, _+_, _*_}
 use mathlib.Core.Bool.{cond}
 use mathlib.Core.List.{List}
 use Rattle.verdict.specs.Verdict.{number, place}
+use Rattle.job.specs.Layout.{headerWidth, factWidth, levelWidth, stepWidth, conditionWidth, effectWidth, useWidth, goalWidth}
+use Rattle.job.specs.Layout.{mostFacts, mostLevels, mostSteps, mostConditions, mostEffects, mostUses, mostGoals}
 use Rattle.validity.specs.Checks.{jobCheck}
 use Rattle.order_file.specs.Contents.{stepLimit, orderLimit}
 use Rattle.sheet.specs.Text.{sheetText, refusedText, sheetMost}
@@ -15,3 +17,13 @@ shown s = cond (accepts s) (sheetText (looseOf s)) (refusedText (number (jobChec
 -- the most bytes of it
 abbrev pub mostText : ℕ
 mostText = sheetMost stepLimit orderLimit
+
+-- the longest job, with every table at its highest count
+abbrev pub mostJob : ℕ
+mostJob =
+    headerWidth + factWidth * mostFacts + levelWidth * mostLevels + stepWidth * mostSteps + conditionWidth * mostConditions
+    + effectWidth * mostEffects + useWidth * mostUses + goalWidth * mostGoals
+
+-- how much of any input decides what is shown of it
+abbrev pub inputMost : ℕ
+inputMost = mostJob + 1

@@ -1,0 +1,136 @@
+-- Input that is longer than any job is refused for its length at the latest, and 1 to 4 look at the header alone. So what is shown of it is
+-- decided by its beginning.
+use Prim.Native.Nat.{ℕ, _+_, _*_, _≤_, _<_}
+use mathlib.Core.Path.{_≡_, sym, ap, ap₂, _∙_}
+use mathlib.Core.Bool.{Bool, true, false, _||_, not}
+use mathlib.Core.List.{List}
+use mathlib.Core.Logic.{⊎-elim}
+use native.Mathlib.Decide.{ℕ-discrete, decLe}
+use native.Mathlib.Omega.{arith}
+use borrow.Author.Tests.{ltb-false, le-ltb, eqb-true, ne-eqb}
+use lib.ListN.{length, getD, take}
+use lib.Dec.{ltb, eqb}
+use lib.Seq.{take-all, getD-take, length-take-le}
+use Rattle.laws.proofs.Search.{either, and-l, and-r, any-false}
+use Rattle.little_endian.specs.Bytes.{u16At}
+use Rattle.verdict.specs.declared.Verdict.{Verdict}
+use Rattle.verdict.specs.declared.Verdict.the-variants.{FileTooShort, UnknownEdition, MarkOutOfRange, CountTooHigh, LayoutDisagrees}
+use Rattle.verdict.specs.Verdict.{number, place, _then_, refuseIf}
+use Rattle.verdict.proofs.Chain.{then-refused, first-refused, then-zero, refuse-zero}
+use Rattle.job.specs.declared.layout.Counts.{Counts}
+use Rattle.job.specs.Layout.{edition, headerWidth, countsOf, countList, highest, tableAt, positionsOf, countTooHigh}
+use Rattle.form.specs.Header.{layoutAgrees, headerCheck}
+use Rattle.form.specs.Refusals.{formCheck}
+use Rattle.validity.specs.Checks.{jobCheck}
+use Rattle.partialize.specs.Partialization.{accepts}
+use Rattle.sheet.specs.Text.{refusedText}
+use Rattle.printout.specs.Shown.{shown, mostJob, inputMost}
+
+-- refusals 1 to 4
+front : List ℕ → Verdict
+front s =
+    refuseIf (ltb (length s) headerWidth) FileTooShort
+    then refuseIf (not (eqb (u16At s 0) edition)) UnknownEdition
+    then refuseIf (ltb 1 (u16At s 2) || not (eqb (u16At s 18) 0)) MarkOutOfRange
+    then refuseIf (countTooHigh (countsOf s)) CountTooHigh
+
+-- the tables end within the longest job where no count is too high
+end-most : (c : Counts) → countTooHigh c ≡ false → tableAt c 7 ≤ mostJob
+unfolding countTooHigh tableAt
+end-most c e =
+    let n : (t : ℕ) → t < 7 → getD (countList c) t 0 ≤ getD highest t 0 = λ t h. ltb-false _ _ (any-false _ 7 e t h) in
+    omega (
+      arith,
+      n 0 (omega arith),
+      n 1 (omega arith),
+      n 2 (omega arith),
+      n 3 (omega arith),
+      n 4 (omega arith),
+      n 5 (omega arith),
+      n 6 (omega arith),
+    )
+
+module _ (s : List ℕ) (long : mostJob < length s) where
+  whole : layoutAgrees s (positionsOf (countsOf s)) ≡ true → length s ≡ tableAt (countsOf s) 7
+  unfolding layoutAgrees positionsOf
+  whole t = eqb-true (length s) (tableAt (countsOf s) 7) (search (and-l, and-r, t))
+
+  disagrees : countTooHigh (countsOf s) ≡ false → layoutAgrees s (positionsOf (countsOf s)) ≡ false
+  disagrees e =
+      ⊎-elim
+      (λ (t : layoutAgrees s (positionsOf (countsOf s)) ≡ true). absurd (omega (arith, whole t, end-most (countsOf s) e)))
+      (λ (t : layoutAgrees s (positionsOf (countsOf s)) ≡ false). t)
+      (either (layoutAgrees s (positionsOf (countsOf s))))
+
+  -- 5 at the latest
+  header-long : headerCheck s ≡ (front s then LayoutDisagrees)
+  unfolding headerCheck front refuseIf
+  header-long =
+      elim (ℕ-discrete (number (front s)) 0) [
+        | yes z ↦
+            let e = refuse-zero (countTooHigh (countsOf s)) CountTooHigh (λ y. let q : _≡_ {A = ℕ} 4 0 = y in omega arith) (then-zero _ _ z .1) in
+            ap (λ (b : Bool). front s then refuseIf (not b) LayoutDisagrees) (disagrees e)
+        | no n ↦ sym (then-refused _ _ n) ∙ then-refused _ _ n
+      ]
+
+  not-passed : number (headerCheck s) ≡ 0 → ⊥
+  not-passed z =
+      let q : _≡_ {A = ℕ} 5 0 = then-zero (front s) LayoutDisagrees (sym (ap number header-long) ∙ z) .1 in
+      omega arith
+
+  job-long : jobCheck s ≡ (front s then LayoutDisagrees)
+  unfolding jobCheck formCheck
+  job-long =
+      let e = first-refused (headerCheck s) _ _ not-passed in
+      sym (then-refused _ _ (λ z. not-passed (ap number e ∙ z))) ∙ sym e ∙ header-long
+
+  not-accepted : accepts s ≡ false
+  unfolding accepts
+  not-accepted =
+      ne-eqb _ _ (λ z. let q : _≡_ {A = ℕ} 5 0 = then-zero (front s) LayoutDisagrees (sym (ap number job-long) ∙ z) .1 in omega arith)
+
+  shown-long : shown s ≡ refusedText (number (front s then LayoutDisagrees)) (place (front s then LayoutDisagrees))
+  unfolding shown
+  shown-long = rw not-accepted (ap (λ (v : Verdict). refusedText (number v) (place v)) job-long)
+
+-- two files with the same header
+front-same :
+    (s t : List ℕ) → ltb (length s) headerWidth ≡ ltb (length t) headerWidth
+    → ((at : ℕ) → at < headerWidth → u16At s at ≡ u16At t at) → front s ≡ front t
+unfolding front countsOf
+front-same s t l r =
+    cc (
+      l,
+      r 0 (omega arith),
+      r 2 (omega arith),
+      r 4 (omega arith),
+      r 6 (omega arith),
+      r 8 (omega arith),
+      r 10 (omega arith),
+      r 12 (omega arith),
+      r 14 (omega arith),
+      r 16 (omega arith),
+      r 18 (omega arith),
+    )
+
+read-beginning : (n : ℕ) (s : List ℕ) (at : ℕ) → at + 1 < n → u16At (take n s) at ≡ u16At s at
+unfolding u16At
+read-beginning n s at h = ap₂ (λ (a b : ℕ). a + 256 * b) (getD-take n s at 0 (omega arith)) (getD-take n s (at + 1) 0 h)
+
+-- what is shown of any input is what is shown of its first bytes
+pub shown-beginning : (s : List ℕ) → shown (take inputMost s) ≡ shown s
+shown-beginning s =
+    elim (decLe (length s) inputMost) [
+      | yes h ↦ ap shown (take-all inputMost s h)
+      | no h ↦
+          let begun = take inputMost s in
+          let l : length begun ≡ inputMost = length-take-le inputMost s (omega arith) in
+          let e =
+          front-same begun s
+          (le-ltb (length begun) headerWidth (omega arith) ∙ sym (le-ltb (length s) headerWidth (omega arith)))
+          (λ at b. read-beginning inputMost s at (omega arith))
+          in
+          shown-long begun (omega arith)
+          ∙ ap (λ (v : Verdict). refusedText (number (v then LayoutDisagrees)) (place (v then LayoutDisagrees))) e
+          ∙ sym (shown-long s (omega arith))
+    ]

@@ -1,0 +1,70 @@
+-- The starred cases with their whole answers. The verdict and the contents of each stand in the table of crate `orders`: contents that
+-- agree have the same bytes and the same text.
+use Prim.Native.Nat.{ℕ, _≤_, _<_}
+use mathlib.Core.Path.{_≡_, sym, ap, ap₂, _∙_}
+use mathlib.Core.Bool.{true, false}
+use mathlib.Core.List.{List, []}
+use native.Mathlib.Omega.{arith}
+use borrow.Author.Tests.{le-leb, lt-leb, eq-eqb, ne-eqb}
+use lib.ListN.{length}
+use Rattle.verdict.specs.declared.Verdict.{Verdict}
+use Rattle.verdict.specs.declared.Verdict.the-variants.{Accepted}
+use Rattle.verdict.specs.Verdict.{number, place}
+use Rattle.job.specs.Model.{modelOf}
+use Rattle.validity.specs.Ticks.{planned}
+use Rattle.validity.specs.Checks.{jobCheck}
+use Rattle.order_file.specs.Contents.{Contents}
+use Rattle.order_file.specs.Agree.{Agree}
+use Rattle.order_file.specs.Encode.{encode}
+use Rattle.order_file.specs.Held.{over}
+use Rattle.orders.specs.File.{fileOf}
+use Rattle.orders.specs.Starred.{contentsWith, starred}
+use Rattle.orders.proofs.Starred.{starred-answers}
+use Rattle.partialize.specs.declared.answer.Answer.the-variants.{Filed, Refused}
+use Rattle.partialize.specs.Partialization.{looseOf, fileBytes, accepts, fits, answerTo, bufferAfter}
+use Rattle.partialize.proofs.Filed.{encode-agree}
+use Rattle.sheet.specs.Text.{sheetText, refusedText}
+use Rattle.sheet.proofs.Agree.{sheet-agree}
+use Rattle.printout.specs.Shown.{shown}
+use Rattle.printout.specs.Starred.{Answered, AllAnswered, starredWhole}
+
+module _ (s : List ℕ) where
+  -- a refused job
+  module _ (v : Verdict) (n : number v ≡ 0 → ⊥) (e : jobCheck s ≡ v) where
+    refuses : accepts s ≡ false
+    unfolding accepts
+    refuses = ne-eqb _ _ (λ z. n (sym (ap number e) ∙ z))
+
+    refused-answered : Answered (record { job = s; answer = Refused v; file = []; text = refusedText (number v) (place v) })
+    unfolding answerTo bufferAfter shown
+    refused-answered =
+        record {
+          answer = λ _ _. rw refuses (ap Refused e);
+          short = λ _ h. absurd (omega arith);
+          buffer = λ _ _. rw refuses;
+          text = rw (refuses, e);
+        }
+
+  -- an accepted job, whose contents agree with some
+  module _ (c : Contents) (h : (jobCheck s ≡ Accepted) × Agree (fileOf (modelOf s) (planned (modelOf s))) c) where
+    accepted : accepts s ≡ true
+    unfolding accepts
+    accepted = eq-eqb _ _ (ap number (h .0))
+
+    loose : Agree (looseOf s) c
+    unfolding looseOf
+    loose = h .1
+
+    same-bytes : fileBytes s ≡ encode c
+    unfolding fileBytes
+    same-bytes = encode-agree (looseOf s) c loose
+
+    filed-answered : Answered (record { job = s; answer = Filed (length (encode c)); file = encode c; text = sheetText c })
+    unfolding answerTo bufferAfter fits shown
+    filed-answered =
+        record {
+          answer = λ k h. rw (accepted, same-bytes, le-leb _ _ h);
+          short = λ k h. rw (accepted, same-bytes, lt-leb _ _ h);
+          buffer = λ b h. rw (accepted, same-bytes, le-leb _ _ h);
+          text = rw accepted (sheet-agree (looseOf s) c loose);
+        }
