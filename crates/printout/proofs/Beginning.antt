@@ -1,7 +1,7 @@
 -- Input that is longer than any job is refused for its length at the latest, and 1 to 4 look at the header alone. So what is shown of it is
 -- decided by its beginning.
 use Prim.Native.Nat.{ℕ, _+_, _*_, _≤_, _<_}
-use mathlib.Core.Path.{_≡_, sym, ap, ap₂, _∙_}
+use mathlib.Core.Path.{_≡_, sym, ap, ap₂, _∙_, subst}
 use mathlib.Core.Bool.{Bool, true, false, _||_, not}
 use mathlib.Core.List.{List}
 use mathlib.Core.Logic.{⊎-elim}
@@ -24,7 +24,8 @@ use Rattle.form.specs.Refusals.{formCheck}
 use Rattle.validity.specs.Checks.{jobCheck}
 use Rattle.partialize.specs.Partialization.{accepts}
 use Rattle.sheet.specs.Text.{refusedText}
-use Rattle.printout.specs.Shown.{shown, mostJob, inputMost}
+use Rattle.sheet.specs.Put.{Written}
+use Rattle.printout.specs.Shown.{shown, mostJob, inputMost, ShowsInput}
 
 -- refusals 1 to 4
 front : List ℕ → Verdict
@@ -117,20 +118,27 @@ read-beginning : (n : ℕ) (s : List ℕ) (at : ℕ) → at + 1 < n → u16At (t
 unfolding u16At
 read-beginning n s at h = ap₂ (λ (a b : ℕ). a + 256 * b) (getD-take n s at 0 (omega arith)) (getD-take n s (at + 1) 0 h)
 
--- what is shown of any input is what is shown of its first bytes
-pub shown-beginning : (s : List ℕ) → shown (take inputMost s) ≡ shown s
-shown-beginning s =
-    elim (decLe (length s) inputMost) [
-      | yes h ↦ ap shown (take-all inputMost s h)
+-- what is shown of any input is what is shown of its first bytes, if these are more than any job has
+pub shown-beginning : (n : ℕ) (s : List ℕ) → inputMost ≤ n → shown (take n s) ≡ shown s
+shown-beginning n s room =
+    elim (decLe (length s) n) [
+      | yes h ↦ ap shown (take-all n s h)
       | no h ↦
-          let begun = take inputMost s in
-          let l : length begun ≡ inputMost = length-take-le inputMost s (omega arith) in
+          let begun = take n s in
+          let l : length begun ≡ n = length-take-le n s (omega arith) in
           let e =
           front-same begun s
           (le-ltb (length begun) headerWidth (omega arith) ∙ sym (le-ltb (length s) headerWidth (omega arith)))
-          (λ at b. read-beginning inputMost s at (omega arith))
+          (λ at b. read-beginning n s at (omega arith))
           in
           shown-long begun (omega arith)
           ∙ ap (λ (v : Verdict). refusedText (number (v then LayoutDisagrees)) (place (v then LayoutDisagrees))) e
           ∙ sym (shown-long s (omega arith))
     ]
+
+-- so the text of what was read is that of the whole input
+pub input-shown :
+    (buffer : List ℕ) (n : ℕ) {before after : List ℕ} {r : ℕ} → inputMost ≤ length buffer → Written (shown (take n buffer)) before after r
+    → ShowsInput buffer n before after r
+input-shown buffer n {before} {after} {r} room w input e =
+    subst (λ (text : List ℕ). Written text before after r) (ap shown (sym e) ∙ shown-beginning (length buffer) input room) w

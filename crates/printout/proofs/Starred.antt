@@ -1,12 +1,14 @@
 -- The starred cases with their whole answers. The verdict and the contents of each stand in the table of crate `orders`: contents that
 -- agree have the same bytes and the same text.
-use Prim.Native.Nat.{ℕ, _≤_, _<_}
-use mathlib.Core.Path.{_≡_, sym, ap, ap₂, _∙_}
+use Prim.Native.Nat.{ℕ}
+use mathlib.Core.Path.{_≡_, sym, ap, _∙_}
 use mathlib.Core.Bool.{true, false}
 use mathlib.Core.List.{List, []}
 use native.Mathlib.Omega.{arith}
 use borrow.Author.Tests.{le-leb, lt-leb, eq-eqb, ne-eqb}
 use lib.ListN.{length}
+use Rattle.laws.specs.Listed.{concatenate}
+use Rattle.little_endian.specs.Bytes.{u16Bytes, u32Bytes}
 use Rattle.verdict.specs.declared.Verdict.{Verdict}
 use Rattle.verdict.specs.declared.Verdict.the-variants.{Accepted}
 use Rattle.verdict.specs.Verdict.{number, place}
@@ -15,18 +17,17 @@ use Rattle.validity.specs.Ticks.{planned}
 use Rattle.validity.specs.Checks.{jobCheck}
 use Rattle.order_file.specs.Contents.{Contents}
 use Rattle.order_file.specs.Agree.{Agree}
-use Rattle.order_file.specs.Encode.{encode}
-use Rattle.order_file.specs.Held.{over}
+use Rattle.order_file.specs.Encode.{headerBytes, windowBytes, orderBytes, linkBytes, upToWindow, upToOrder, upToLink, encode}
 use Rattle.orders.specs.File.{fileOf}
 use Rattle.orders.specs.Starred.{contentsWith, starred}
 use Rattle.orders.proofs.Starred.{starred-answers}
 use Rattle.partialize.specs.declared.answer.Answer.the-variants.{Filed, Refused}
 use Rattle.partialize.specs.Partialization.{looseOf, fileBytes, accepts, fits, answerTo, bufferAfter}
 use Rattle.partialize.proofs.Filed.{encode-agree}
-use Rattle.sheet.specs.Text.{sheetText, refusedText}
+use Rattle.sheet.specs.Text.{digits, decimal, gapText, latestText, headLine, windowLine, orderLine, sheetText, refusedText}
 use Rattle.sheet.proofs.Agree.{sheet-agree}
 use Rattle.printout.specs.Shown.{shown}
-use Rattle.printout.specs.Starred.{Answered, AllAnswered, starredWhole}
+use Rattle.printout.specs.Starred.{Answered, AllAnswered, codes, lines, starredWhole}
 
 module _ (s : List ℕ) where
   -- a refused job
@@ -68,3 +69,57 @@ module _ (s : List ℕ) where
           buffer = λ b h. rw (accepted, same-bytes, le-leb _ _ h);
           text = rw accepted (sheet-agree (looseOf s) c loose);
         }
+
+-- the definitions answer the whole table as the paper does
+pub starred-answered : AllAnswered starredWhole
+unfolding starredWhole lines codes starred contentsWith upToLink upToOrder upToWindow headerBytes windowBytes orderBytes linkBytes concatenate
+    u16Bytes u32Bytes sheetText headLine windowLine orderLine refusedText decimal digits gapText latestText
+starred-answered =
+    let a0 = starred-answers in
+    let a1 = a0 .1 in
+    let a2 = a1 .1 in
+    let a3 = a2 .1 in
+    let a4 = a3 .1 in
+    let a5 = a4 .1 in
+    let a6 = a5 .1 in
+    let a7 = a6 .1 in
+    let a8 = a7 .1 in
+    let a9 = a8 .1 in
+    let a10 = a9 .1 in
+    let a11 = a10 .1 in (
+      filed-answered _ _ (a0 .0),
+      (
+        filed-answered _ _ (a1 .0),
+        (
+          filed-answered _ _ (a2 .0),
+          (
+            refused-answered _ _ (λ z. let q : _≡_ {A = ℕ} 11 0 = z in omega arith) (a3 .0),
+            (
+              filed-answered _ _ (a4 .0),
+              (
+                filed-answered _ _ (a5 .0),
+                (
+                  refused-answered _ _ (λ z. let q : _≡_ {A = ℕ} 13 0 = z in omega arith) (a6 .0),
+                  (
+                    filed-answered _ _ (a7 .0),
+                    (
+                      refused-answered _ _ (λ z. let q : _≡_ {A = ℕ} 12 0 = z in omega arith) (a8 .0),
+                      (
+                        filed-answered _ _ (a9 .0),
+                        (
+                          filed-answered _ _ (a10 .0),
+                          (
+                            refused-answered _ _ (λ z. let q : _≡_ {A = ℕ} 14 0 = z in omega arith) (a11 .0),
+                            tt,
+                          ),
+                        ),
+                      ),
+                    ),
+                  ),
+                ),
+              ),
+            ),
+          ),
+        ),
+      ),
+    )

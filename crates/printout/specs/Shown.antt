@@ -1,13 +1,16 @@
 -- What `show` prints of a job, as a function of the job's bytes: "A small job, and edges".
 use Prim.Native.Nat.{ℕ, _+_, _*_}
 use mathlib.Core.Bool.{cond}
+use mathlib.Core.Path.{_≡_}
 use mathlib.Core.List.{List}
+use lib.ListN.{length, take}
 use Rattle.verdict.specs.Verdict.{number, place}
 use Rattle.job.specs.Layout.{headerWidth, factWidth, levelWidth, stepWidth, conditionWidth, effectWidth, useWidth, goalWidth}
 use Rattle.job.specs.Layout.{mostFacts, mostLevels, mostSteps, mostConditions, mostEffects, mostUses, mostGoals}
 use Rattle.validity.specs.Checks.{jobCheck}
 use Rattle.order_file.specs.Contents.{stepLimit, orderLimit}
 use Rattle.sheet.specs.Text.{sheetText, refusedText, sheetMost}
+use Rattle.sheet.specs.Put.{Written}
 use Rattle.partialize.specs.Partialization.{looseOf, accepts}
 
 -- the sheet of its order file, or the refusal of the job check
@@ -24,6 +27,11 @@ mostJob =
     headerWidth + factWidth * mostFacts + levelWidth * mostLevels + stepWidth * mostSteps + conditionWidth * mostConditions
     + effectWidth * mostEffects + useWidth * mostUses + goalWidth * mostGoals
 
--- how much of any input decides what is shown of it
+-- as much of any input decides what is shown of it
 abbrev pub inputMost : ℕ
 inputMost = mostJob + 1
+
+-- the text of whatever input was read into a buffer, n bytes, to its own end or to the buffer's
+abbrev pub ShowsInput : List ℕ → ℕ → List ℕ → List ℕ → ℕ → Type 0
+ShowsInput buffer n before after r =
+    (input : List ℕ) → take (length buffer) input ≡ take n buffer → Written (shown input) before after r

@@ -1,7 +1,8 @@
 // What `show` prints of a job: the sheet of its order file, or its refusal.
 ghost use Prim.Native.Nat.{_≤_};
+ghost use lib.ListN.{length};
 ghost use Rattle.sheet.specs.Put.{Written};
-ghost use Rattle.printout.specs.Shown.{shown, mostText};
+ghost use Rattle.printout.specs.Shown.{shown, mostText, inputMost, ShowsInput};
 use order_file::layout::MOST_LINKS;
 use order_file::layout::MOST_ORDERS;
 use order_file::layout::MOST_STEPS;
@@ -14,6 +15,9 @@ const MOST_FILE: usize = WINDOWS_AT + 12 * MOST_STEPS + 8 * MOST_ORDERS + 2 * MO
 
 // The longest text.
 pub const MOST_TEXT: usize = 164771;
+
+// One byte more than the longest job, which is as much of any input as has to be read.
+pub const INPUT: usize = 16753;
 
 // Writes what `show` prints of a job to the front of `text`, and answers how long it is, whether or not there was room for it.
 pub fn show_job(job: &[u8], text: &mut [u8]) -> usize
@@ -28,4 +32,13 @@ pub fn show_job(job: &[u8], text: &mut [u8]) -> usize
     }
     let length = answer::length(a) as usize;
     sheet::write_sheet(&file[..length], text)
+}
+
+// The same of input that was read into `buffer`, n bytes, to its own end or to the buffer's: the text is that of the whole input.
+pub fn show_input(buffer: &[u8], n: usize, text: &mut [u8]) -> usize
+    requires { ⌜ (inputMost ≤ length (now buffer)) × (n ≤ length (now buffer)) ⌝ }
+    ensures { λ r. ⌜ ShowsInput (now (buffer .entry)) n (now (text .entry)) (now (text .exit)) r ⌝ }
+    ensures { λ r. ⌜ r ≤ mostText ⌝ }
+{
+    show_job(&buffer[..n], text)
 }
