@@ -1,7 +1,7 @@
 -- What loosening answers with room for the longest order file: the job's file, or a refusal of the job check, so never 15. The text of
 -- either is what is shown.
 use Prim.Native.Nat.{ℕ, _≤_}
-use mathlib.Core.Path.{_≡_, refl, sym, ap, _∙_}
+use mathlib.Core.Path.{_≡_, refl, sym, ap, ap₂, _∙_, subst}
 use mathlib.Core.Bool.{true, false}
 use mathlib.Core.List.{List}
 use mathlib.Core.Logic.{⊎-elim}
@@ -25,6 +25,7 @@ use Rattle.partialize.specs.Answer.{number, place, lengthOf}
 use Rattle.partialize.specs.Partialization.{looseOf, fileBytes, accepts, fits, answerTo}
 use Rattle.partialize.specs.Demands.{Promise}
 use Rattle.sheet.specs.Text.{sheetText, refusedText}
+use Rattle.sheet.specs.Put.{Written}
 use Rattle.sheet.proofs.Agree.{sheet-agree}
 use Rattle.sheet.proofs.Fits.{sheet-fits}
 use Rattle.printout.specs.Shown.{shown, mostText}
@@ -85,6 +86,12 @@ module _ (s before after : List ℕ) (r : Answer) (p : Promise s before after r)
   shown-short z = rw (accepted z) (text-short s (accepted z))
 
   -- the line of a refusal is what is shown
-  pub refused-shown : (number r ≡ 0 → ⊥) → refusedText (number r) (place r) ≡ shown s
+  refused-shown : (number r ≡ 0 → ⊥) → refusedText (number r) (place r) ≡ shown s
   unfolding shown
   refused-shown n = rw (not-accepted n) (ap (λ (a : Answer). refusedText (number a) (place a)) (refused (not-accepted n)))
+
+  pub refused-written :
+      {n p k : ℕ} {old new : List ℕ} → (number r ≡ 0 → ⊥) → n ≡ number r → p ≡ place r → Written (refusedText n p) old new k
+      → Written (shown s) old new k
+  refused-written {n} {p} {k} {old} {new} h e f w =
+      subst (λ (text : List ℕ). Written text old new k) (ap₂ refusedText e f ∙ refused-shown h) w

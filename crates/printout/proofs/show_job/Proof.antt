@@ -3,7 +3,7 @@ use mathlib.Core.Path.{sym, _∙_}
 use native.Mathlib.Omega.{arith}
 use lib.Seq.{length-take-le}
 use borrow.Author.Needs.{needs}
-use Rattle.printout.proofs.Printed.{filed-length, sheet-shown, shown-short, refused-shown}
+use Rattle.printout.proofs.Printed.{filed-length, sheet-shown, shown-short, refused-written}
 use Rattle.printout.proofs.show_job.Statement.{statement}
 use Rattle.printout.proofs.show_job.Tie as tie
 
@@ -12,9 +12,11 @@ returns c =
     let w = c .before .before .write-refused .ensures in
     let d = c .before .before .before .before in
     let n = d .before .before in
-    let p = n .before .before .partialize .ensures in
-    let e = refused-shown _ _ _ _ p (search needs) (λ z. d .before .if1 .taken (n .number .ensures ∙ z)) in
-    (rw (n .number .ensures, d .place .ensures, e) at (w .0), omega arith)
+    let p = n .before .before .partialize .ensures in (
+      refused-written _ _ _ _ p (search needs) (λ z. d .before .if1 .taken (n .number .ensures ∙ z)) (n .number .ensures)
+          (d .place .ensures) (w .0),
+      omega arith,
+    )
 
 array-share-prefix-file : tie.Need-array-share-prefix-file
 array-share-prefix-file c =
