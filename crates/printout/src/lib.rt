@@ -3,21 +3,48 @@ ghost use Prim.Native.Nat.{_≤_};
 ghost use lib.ListN.{length};
 ghost use Rattle.sheet.specs.Put.{Written};
 ghost use Rattle.printout.specs.Shown.{shown, mostText, inputMost, ShowsInput};
+use job::layout::CONDITION;
+use job::layout::EFFECT;
+use job::layout::FACT;
+use job::layout::GOAL;
+use job::layout::HEADER;
+use job::layout::Job;
+use job::layout::LEVEL;
+use job::layout::STEP;
+use job::layout::USE;
+use job::layout::WIDTHS;
+use order_file::layout::FILE_WIDTHS;
+use order_file::layout::LINK;
 use order_file::layout::MOST_LINKS;
 use order_file::layout::MOST_ORDERS;
 use order_file::layout::MOST_STEPS;
+use order_file::layout::ORDER;
+use order_file::layout::WINDOW;
 use order_file::layout::WINDOWS_AT;
 use partialize::answer;
 use partialize::partialize;
 
+// The longest job, with every table at its highest count.
+const MOST_JOB: usize = HEADER
+    + WIDTHS[FACT] * Job::FACTS as usize
+    + WIDTHS[LEVEL] * Job::LEVELS as usize
+    + WIDTHS[STEP] * Job::STEPS as usize
+    + WIDTHS[CONDITION] * Job::CONDITIONS as usize
+    + WIDTHS[EFFECT] * Job::EFFECTS as usize
+    + WIDTHS[USE] * Job::USES as usize
+    + WIDTHS[GOAL] * Job::GOALS as usize;
+
+// As much of any input decides what is printed of it.
+pub const INPUT: usize = MOST_JOB + 1;
+
 // The longest order file.
-const MOST_FILE: usize = WINDOWS_AT + 12 * MOST_STEPS + 8 * MOST_ORDERS + 2 * MOST_LINKS;
+const MOST_FILE: usize = WINDOWS_AT
+    + FILE_WIDTHS[WINDOW] * MOST_STEPS
+    + FILE_WIDTHS[ORDER] * MOST_ORDERS
+    + FILE_WIDTHS[LINK] * MOST_LINKS;
 
 // The longest text.
 pub const MOST_TEXT: usize = 164771;
-
-// One byte more than the longest job, which is as much of any input as has to be read.
-pub const INPUT: usize = 16753;
 
 // Writes what `show` prints of a job to the front of `text`, and answers how long it is, whether or not there was room for it.
 pub fn show_job(job: &[u8], text: &mut [u8]) -> usize
