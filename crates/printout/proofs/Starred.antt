@@ -1,6 +1,6 @@
 -- The starred cases with their whole answers. The verdict and the contents of each stand in the table of crate `orders`: contents that
 -- agree have the same bytes and the same text.
-use Prim.Native.Nat.{ℕ}
+use Prim.Native.Nat.{ℕ, _≤_}
 use mathlib.Core.Path.{_≡_, sym, ap, _∙_}
 use mathlib.Core.Bool.{true, false}
 use mathlib.Core.List.{List, []}
@@ -11,7 +11,7 @@ use Rattle.laws.specs.Listed.{concatenate}
 use Rattle.little_endian.specs.Bytes.{u16Bytes, u32Bytes}
 use Rattle.verdict.specs.declared.Verdict.{Verdict}
 use Rattle.verdict.specs.declared.Verdict.the-variants.{Accepted}
-use Rattle.verdict.specs.Verdict.{number, place}
+use Rattle.verdict.specs.Verdict.{number, place, nowhere}
 use Rattle.job.specs.Model.{modelOf}
 use Rattle.validity.specs.Ticks.{planned}
 use Rattle.validity.specs.Checks.{jobCheck}
@@ -22,6 +22,7 @@ use Rattle.orders.specs.File.{fileOf}
 use Rattle.orders.specs.Starred.{contentsWith, starred}
 use Rattle.orders.proofs.Starred.{starred-answers}
 use Rattle.partialize.specs.declared.answer.Answer.the-variants.{Filed, Refused}
+use Rattle.partialize.specs.Answer as answer
 use Rattle.partialize.specs.Partialization.{looseOf, fileBytes, accepts, fits, answerTo, bufferAfter}
 use Rattle.partialize.proofs.Filed.{encode-agree}
 use Rattle.sheet.specs.Text.{digits, decimal, gapText, latestText, headLine, windowLine, orderLine, sheetText, refusedText}
@@ -36,11 +37,18 @@ module _ (s : List ℕ) where
     unfolding accepts
     refuses = ne-eqb _ _ (λ z. n (sym (ap number e) ∙ z))
 
-    refused-answered : Answered (record { job = s; answer = Refused v; file = []; text = refusedText (number v) (place v) })
-    unfolding answerTo bufferAfter shown
+    refused : (n : ℕ) → answerTo s n ≡ Refused v
+    unfolding answerTo
+    refused n = rw refuses (ap Refused e)
+
+    refused-answered :
+        Answered (record { job = s; number = number v; place = place v; file = []; text = refusedText (number v) (place v) })
+    unfolding bufferAfter shown
     refused-answered =
         record {
-          answer = λ _ _. rw refuses (ap Refused e);
+          number = λ n _. ap answer.number (refused n);
+          place = λ n _. ap answer.place (refused n);
+          lengthOf = λ n _. ap answer.lengthOf (refused n);
           short = λ _ h. absurd (omega arith);
           buffer = λ _ _. rw refuses;
           text = rw (refuses, e);
@@ -60,13 +68,19 @@ module _ (s : List ℕ) where
     unfolding fileBytes
     same-bytes = encode-agree (looseOf s) c loose
 
-    filed-answered : Answered (record { job = s; answer = Filed (length (encode c)); file = encode c; text = sheetText c })
+    filed : (n : ℕ) → length (encode c) ≤ n → answerTo s n ≡ Filed (length (encode c))
+    unfolding answerTo fits
+    filed n r = rw (accepted, same-bytes, le-leb _ _ r)
+
+    filed-answered : Answered (record { job = s; number = 0; place = nowhere; file = encode c; text = sheetText c })
     unfolding answerTo bufferAfter fits shown
     filed-answered =
         record {
-          answer = λ k h. rw (accepted, same-bytes, le-leb _ _ h);
-          short = λ k h. rw (accepted, same-bytes, lt-leb _ _ h);
-          buffer = λ b h. rw (accepted, same-bytes, le-leb _ _ h);
+          number = λ n r. ap answer.number (filed n r);
+          place = λ n r. ap answer.place (filed n r);
+          lengthOf = λ n r. ap answer.lengthOf (filed n r);
+          short = λ n r. rw (accepted, same-bytes, lt-leb _ _ r);
+          buffer = λ b r. rw (accepted, same-bytes, le-leb _ _ r);
           text = rw accepted (sheet-agree (looseOf s) c loose);
         }
 

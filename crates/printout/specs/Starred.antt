@@ -1,29 +1,31 @@
--- The starred cases of "A small job, and edges" with their whole answers: number and place or length, the order file's bytes, the text.
+-- The starred cases of "A small job, and edges" with their whole answers: number and place, the order file's bytes, the text.
 use Prim.Native.Nat.{ℕ, _≤_, _<_}
 use Prim.Native.Char.{code}
 use Prim.Native.String.{String, [] as []ˢ, _∷_ as _∷ˢ_}
 use mathlib.Core.Path.{_≡_}
 use mathlib.Core.List.{List, [], _∷_, _++_}
 use lib.ListN.{length}
-use Rattle.verdict.specs.declared.Verdict.the-variants.{ConditionFails, LevelOutOfBounds, GoalFails, StepsOverlap}
 use Rattle.order_file.specs.Held.{over}
 use Rattle.orders.specs.Starred.{goal, small, nothing, levelled, serially}
-use Rattle.partialize.specs.declared.answer.Answer.{Answer}
-use Rattle.partialize.specs.declared.answer.Answer.the-variants.{Filed, Refused, BufferTooShort}
+use Rattle.partialize.specs.declared.answer.Answer.the-variants.{BufferTooShort}
+use Rattle.partialize.specs.Answer as answer
 use Rattle.partialize.specs.Partialization.{answerTo, bufferAfter}
 use Rattle.sheet.specs.Text.{newline}
 use Rattle.printout.specs.Shown.{shown}
 
--- a job with its whole answer: what loosening answers, the order file, of which a refusal has none, and what `show` prints
+-- a job with its whole answer: number and place, the order file, of which a refusal has none, and what `show` prints
 pub record Whole : Type 0 where
   pub job : List ℕ
-  pub answer : Answer
+  pub number : ℕ
+  pub place : ℕ
   pub file : List ℕ
   pub text : List ℕ
 
 -- the definitions answer a job so, whatever the buffer
 pub record Answered (w : Whole) : Type 0 where
-  pub answer : (n : ℕ) → length (w .file) ≤ n → answerTo (w .job) n ≡ w .answer
+  pub number : (n : ℕ) → length (w .file) ≤ n → answer.number (answerTo (w .job) n) ≡ w .number
+  pub place : (n : ℕ) → length (w .file) ≤ n → answer.place (answerTo (w .job) n) ≡ w .place
+  pub lengthOf : (n : ℕ) → length (w .file) ≤ n → answer.lengthOf (answerTo (w .job) n) ≡ length (w .file)
   pub short : (n : ℕ) → n < length (w .file) → answerTo (w .job) n ≡ BufferTooShort
   pub buffer : (before : List ℕ) → length (w .file) ≤ length before → bufferAfter (w .job) before ≡ over (w .file) before
   pub text : shown (w .job) ≡ w .text
@@ -49,7 +51,8 @@ starredWhole =
     -- this job
     record {
       job = small 0 20 3 0 [];
-      answer = Filed 58;
+      number = 0;
+      place = 65535;
       file =
           1 ∷ 0 ∷ 2 ∷ 0 ∷ 1 ∷ 0 ∷ 1 ∷ 0 ∷ 2 ∷ 0 ∷ 0 ∷ 0 ∷ 24 ∷ 0 ∷ 0 ∷ 0 ∷ 48 ∷ 0 ∷ 0 ∷ 0 ∷ 56 ∷ 0 ∷ 0 ∷ 0
           ∷ 0 ∷ 0 ∷ 0 ∷ 0 ∷ 255 ∷ 255 ∷ 255 ∷ 255 ∷ 0 ∷ 0 ∷ 0 ∷ 0 ∷ 0 ∷ 0 ∷ 0 ∷ 0 ∷ 255 ∷ 255 ∷ 255 ∷ 255 ∷ 6 ∷ 0 ∷ 0 ∷ 0
@@ -60,7 +63,8 @@ starredWhole =
     -- no steps and no goals
     ∷ record {
       job = nothing;
-      answer = Filed 24;
+      number = 0;
+      place = 65535;
       file =
           1 ∷ 0 ∷ 0 ∷ 0 ∷ 0 ∷ 0 ∷ 0 ∷ 0 ∷ 0 ∷ 0 ∷ 0 ∷ 0 ∷ 24 ∷ 0 ∷ 0 ∷ 0 ∷ 24 ∷ 0 ∷ 0 ∷ 0 ∷ 24 ∷ 0 ∷ 0 ∷ 0 ∷ [];
       text = lines ("steps 0 rounds 0" ∷ []);
@@ -68,7 +72,8 @@ starredWhole =
     -- step 1 at 16
     ∷ record {
       job = small 0 16 3 0 [];
-      answer = Filed 58;
+      number = 0;
+      place = 65535;
       file =
           1 ∷ 0 ∷ 2 ∷ 0 ∷ 1 ∷ 0 ∷ 1 ∷ 0 ∷ 2 ∷ 0 ∷ 0 ∷ 0 ∷ 24 ∷ 0 ∷ 0 ∷ 0 ∷ 48 ∷ 0 ∷ 0 ∷ 0 ∷ 56 ∷ 0 ∷ 0 ∷ 0
           ∷ 0 ∷ 0 ∷ 0 ∷ 0 ∷ 255 ∷ 255 ∷ 255 ∷ 255 ∷ 0 ∷ 0 ∷ 0 ∷ 0 ∷ 0 ∷ 0 ∷ 0 ∷ 0 ∷ 255 ∷ 255 ∷ 255 ∷ 255 ∷ 6 ∷ 0 ∷ 0 ∷ 0
@@ -77,11 +82,12 @@ starredWhole =
       text = lines ("steps 2 rounds 2" ∷ "step 0 earliest 0 latest none" ∷ "step 1 earliest 6 latest none" ∷ "order 0 1 6" ∷ []);
     }
     -- step 1 at 15
-    ∷ record { job = small 0 15 3 0 []; answer = Refused (ConditionFails 0); file = []; text = lines ("refused 11 place 0" ∷ []) }
+    ∷ record { job = small 0 15 3 0 []; number = 11; place = 0; file = []; text = lines ("refused 11 place 0" ∷ []) }
     -- step 0 fixed
     ∷ record {
       job = small 1 20 3 0 [];
-      answer = Filed 58;
+      number = 0;
+      place = 65535;
       file =
           1 ∷ 0 ∷ 2 ∷ 0 ∷ 1 ∷ 0 ∷ 1 ∷ 0 ∷ 2 ∷ 0 ∷ 0 ∷ 0 ∷ 24 ∷ 0 ∷ 0 ∷ 0 ∷ 48 ∷ 0 ∷ 0 ∷ 0 ∷ 56 ∷ 0 ∷ 0 ∷ 0
           ∷ 10 ∷ 0 ∷ 0 ∷ 0 ∷ 10 ∷ 0 ∷ 0 ∷ 0 ∷ 10 ∷ 0 ∷ 0 ∷ 0 ∷ 0 ∷ 0 ∷ 0 ∷ 0 ∷ 255 ∷ 255 ∷ 255 ∷ 255 ∷ 16 ∷ 0 ∷ 0 ∷ 0
@@ -92,7 +98,8 @@ starredWhole =
     -- goal fact 1 = 1, deadline 15
     ∷ record {
       job = small 0 20 3 0 (goal 1 1 15 ∷ []);
-      answer = Filed 60;
+      number = 0;
+      place = 65535;
       file =
           1 ∷ 0 ∷ 2 ∷ 0 ∷ 1 ∷ 0 ∷ 2 ∷ 0 ∷ 2 ∷ 0 ∷ 0 ∷ 0 ∷ 24 ∷ 0 ∷ 0 ∷ 0 ∷ 48 ∷ 0 ∷ 0 ∷ 0 ∷ 56 ∷ 0 ∷ 0 ∷ 0
           ∷ 0 ∷ 0 ∷ 0 ∷ 0 ∷ 10 ∷ 0 ∷ 0 ∷ 0 ∷ 0 ∷ 0 ∷ 0 ∷ 0 ∷ 0 ∷ 0 ∷ 0 ∷ 0 ∷ 255 ∷ 255 ∷ 255 ∷ 255 ∷ 6 ∷ 0 ∷ 0 ∷ 0
@@ -101,11 +108,12 @@ starredWhole =
       text = lines ("steps 2 rounds 2" ∷ "step 0 earliest 0 latest 10" ∷ "step 1 earliest 6 latest none" ∷ "order 0 1 6" ∷ []);
     }
     -- deadline 14
-    ∷ record { job = small 0 20 3 0 (goal 1 1 14 ∷ []); answer = Refused (GoalFails 0); file = []; text = lines ("refused 13 place 0" ∷ []) }
+    ∷ record { job = small 0 20 3 0 (goal 1 1 14 ∷ []); number = 13; place = 0; file = []; text = lines ("refused 13 place 0" ∷ []) }
     -- condition from 8 after an effect at 5
     ∷ record {
       job = small 0 20 8 8 [];
-      answer = Filed 58;
+      number = 0;
+      place = 65535;
       file =
           1 ∷ 0 ∷ 2 ∷ 0 ∷ 1 ∷ 0 ∷ 1 ∷ 0 ∷ 1 ∷ 0 ∷ 0 ∷ 0 ∷ 24 ∷ 0 ∷ 0 ∷ 0 ∷ 48 ∷ 0 ∷ 0 ∷ 0 ∷ 56 ∷ 0 ∷ 0 ∷ 0
           ∷ 0 ∷ 0 ∷ 0 ∷ 0 ∷ 255 ∷ 255 ∷ 255 ∷ 255 ∷ 0 ∷ 0 ∷ 0 ∷ 0 ∷ 0 ∷ 0 ∷ 0 ∷ 0 ∷ 255 ∷ 255 ∷ 255 ∷ 255 ∷ 0 ∷ 0 ∷ 0 ∷ 0
@@ -114,11 +122,12 @@ starredWhole =
       text = lines ("steps 2 rounds 1" ∷ "step 0 earliest 0 latest none" ∷ "step 1 earliest 0 latest none" ∷ "order 0 1 -2" ∷ []);
     }
     -- level 1, bounds 0 to 1, uses −1 and +1 by two steps at one tick
-    ∷ record { job = levelled 1; answer = Refused (LevelOutOfBounds 0); file = []; text = lines ("refused 12 place 0" ∷ []) }
+    ∷ record { job = levelled 1; number = 12; place = 0; file = []; text = lines ("refused 12 place 0" ∷ []) }
     -- most 2
     ∷ record {
       job = levelled 2;
-      answer = Filed 48;
+      number = 0;
+      place = 65535;
       file =
           1 ∷ 0 ∷ 2 ∷ 0 ∷ 0 ∷ 0 ∷ 0 ∷ 0 ∷ 1 ∷ 0 ∷ 0 ∷ 0 ∷ 24 ∷ 0 ∷ 0 ∷ 0 ∷ 48 ∷ 0 ∷ 0 ∷ 0 ∷ 48 ∷ 0 ∷ 0 ∷ 0
           ∷ 0 ∷ 0 ∷ 0 ∷ 0 ∷ 255 ∷ 255 ∷ 255 ∷ 255 ∷ 0 ∷ 0 ∷ 0 ∷ 0 ∷ 0 ∷ 0 ∷ 0 ∷ 0 ∷ 255 ∷ 255 ∷ 255 ∷ 255 ∷ 0 ∷ 0 ∷ 0 ∷ 0 ∷ [];
@@ -127,7 +136,8 @@ starredWhole =
     -- serial, lengths 5 and 2, starts 0 and 5
     ∷ record {
       job = serially 5;
-      answer = Filed 56;
+      number = 0;
+      place = 65535;
       file =
           1 ∷ 0 ∷ 2 ∷ 0 ∷ 1 ∷ 0 ∷ 0 ∷ 0 ∷ 2 ∷ 0 ∷ 0 ∷ 0 ∷ 24 ∷ 0 ∷ 0 ∷ 0 ∷ 48 ∷ 0 ∷ 0 ∷ 0 ∷ 56 ∷ 0 ∷ 0 ∷ 0
           ∷ 0 ∷ 0 ∷ 0 ∷ 0 ∷ 255 ∷ 255 ∷ 255 ∷ 255 ∷ 0 ∷ 0 ∷ 0 ∷ 0 ∷ 0 ∷ 0 ∷ 0 ∷ 0 ∷ 255 ∷ 255 ∷ 255 ∷ 255 ∷ 5 ∷ 0 ∷ 0 ∷ 0
@@ -135,5 +145,5 @@ starredWhole =
       text = lines ("steps 2 rounds 2" ∷ "step 0 earliest 0 latest none" ∷ "step 1 earliest 5 latest none" ∷ "order 0 1 5" ∷ []);
     }
     -- starts 0 and 4
-    ∷ record { job = serially 4; answer = Refused (StepsOverlap 0); file = []; text = lines ("refused 14 place 0" ∷ []) }
+    ∷ record { job = serially 4; number = 14; place = 0; file = []; text = lines ("refused 14 place 0" ∷ []) }
     ∷ []
