@@ -21,7 +21,7 @@ reference make N SEED KINDS FILE
 reference brute N SEED         try at least N choices that obey the order files of made jobs
 reference show                 print what show prints of the job on standard input
 reference sample NAME          write a sample job to standard output: paper, deck-resigned,
-                               fixed-restart, handsets, refused";
+                               fixed-restart, handsets, refused, longest";
 
 fn main() -> ExitCode {
     match run() {

@@ -1,6 +1,7 @@
 //! Job files a person can run, drawn from the garage. Ticks are minutes.
 
 use crate::job::Job;
+use crate::make::highest::highest_job;
 use crate::make::telling::small_job;
 
 pub fn sample(name: &str) -> Option<Job> {
@@ -10,10 +11,12 @@ pub fn sample(name: &str) -> Option<Job> {
         "fixed-restart" => Some(fixed_restart()),
         "handsets" => Some(handsets()),
         "refused" => Some(refused()),
+        "longest" => Some(highest_job(1, 256)),
         _ => None,
     }
 }
 
+/// Those made by hand.
 pub const SAMPLES: [&str; 5] = [
     "paper",
     "deck-resigned",

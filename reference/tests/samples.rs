@@ -19,6 +19,7 @@ fn samples_are_current() {
         "fixed-restart",
         "handsets",
         "refused",
+        "longest",
     ] {
         let job = fs::read(stored(&format!("{name}.job"))).unwrap();
         let sheet = fs::read_to_string(stored(&format!("{name}.sheet"))).unwrap();
