@@ -195,6 +195,11 @@ unfolding AllAnswerBy
 all-answer-by [] h = h
 all-answer-by (c ∷ cs) h = (answers-by (c .job) (c .expected) (h .0), all-answer-by cs (h .1))
 
+infixr 10 _also_
+-- one case, and those after it
+abbrev pub _also_ : {A B : Type 0} → A → B → A × B
+a also b = (a, b)
+
 starred-computed : AllAnswerBy starred
 unfolding AllAnswerBy AnswersBy starred small nothing levelled serially jobBytes tablesOf joined offsets fact level step condition effect
     usage goal u16Bytes u32Bytes listed windowOf ordersOf orderAt orderedPair orderedIf passing extend fileOf nthLink u16At
@@ -205,37 +210,20 @@ unfolding AllAnswerBy AnswersBy starred small nothing levelled serially jobBytes
     passes levelFails undoes late goalFails overlaps crowded ruleCheck timingCheck jobCheck producer earliestProduced
     supporter linkOf conditionLink goalLink supportOrder supportGap opposingOrder opposingGap beforeOrder afterOrder
     conditionGap levelOrder levelGap serialGap gapOf limitOf allowed latestOf demand raised after unchanged rounds earliest
-starred-computed = (
-  (refl, refl, refl, refl, refl),
-  (
-    (refl, refl, refl, refl, refl),
-    (
-      (refl, refl, refl, refl, refl),
-      (
-        refl,
-        (
-          (refl, refl, refl, refl, refl),
-          (
-            (refl, refl, refl, refl, refl),
-            (
-              refl,
-              (
-                (refl, refl, refl, refl, refl),
-                (
-                  refl,
-                  (
-                    (refl, refl, refl, refl, refl),
-                    ((refl, refl, refl, refl, refl), (refl, tt)),
-                  ),
-                ),
-              ),
-            ),
-          ),
-        ),
-      ),
-    ),
-  ),
-)
+starred-computed =
+    (refl, refl, refl, refl, refl)
+    also (refl, refl, refl, refl, refl)
+    also (refl, refl, refl, refl, refl)
+    also refl
+    also (refl, refl, refl, refl, refl)
+    also (refl, refl, refl, refl, refl)
+    also refl
+    also (refl, refl, refl, refl, refl)
+    also refl
+    also (refl, refl, refl, refl, refl)
+    also (refl, refl, refl, refl, refl)
+    also refl
+    also tt
 
 -- the definitions answer the whole table as the paper does
 pub starred-answers : AllAnswer starred

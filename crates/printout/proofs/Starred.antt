@@ -1,12 +1,13 @@
 -- The starred cases with their whole answers. The verdict and the contents of each stand in the table of crate `orders`: contents that
 -- agree have the same bytes and the same text.
 use Prim.Native.Nat.{ℕ, _≤_}
-use mathlib.Core.Path.{_≡_, sym, ap, _∙_}
+use mathlib.Core.Path.{_≡_, refl, ap, _∙_}
 use mathlib.Core.Bool.{true, false}
 use mathlib.Core.List.{List, []}
 use native.Mathlib.Omega.{arith}
-use borrow.Author.Tests.{le-leb, lt-leb, eq-eqb, ne-eqb}
+use borrow.Author.Tests.{le-leb, lt-leb, eq-eqb}
 use lib.ListN.{length}
+use lib.Dec.{eqb}
 use Rattle.laws.specs.Listed.{concatenate}
 use Rattle.little_endian.specs.Bytes.{u16Bytes, u32Bytes}
 use Rattle.verdict.specs.declared.Verdict.{Verdict}
@@ -20,7 +21,7 @@ use Rattle.order_file.specs.Agree.{Agree}
 use Rattle.order_file.specs.Encode.{headerBytes, windowBytes, orderBytes, linkBytes, upToWindow, upToOrder, upToLink, encode}
 use Rattle.orders.specs.File.{fileOf}
 use Rattle.orders.specs.Starred.{contentsWith, starred}
-use Rattle.orders.proofs.Starred.{starred-answers}
+use Rattle.orders.proofs.Starred.{_also_, starred-answers}
 use Rattle.partialize.specs.declared.answer.Answer.the-variants.{Filed, Refused}
 use Rattle.partialize.specs.Answer as answer
 use Rattle.partialize.specs.Partialization.{looseOf, fileBytes, accepts, fits, answerTo, bufferAfter}
@@ -32,10 +33,10 @@ use Rattle.printout.specs.Starred.{Answered, AllAnswered, codes, lines, 
 
 module _ (s : List ℕ) where
   -- a refused job
-  module _ (v : Verdict) (n : number v ≡ 0 → ⊥) (e : jobCheck s ≡ v) where
+  module _ (v : Verdict) (n : eqb (number v) 0 ≡ false) (e : jobCheck s ≡ v) where
     refuses : accepts s ≡ false
     unfolding accepts
-    refuses = ne-eqb _ _ (λ z. n (sym (ap number e) ∙ z))
+    refuses = ap (λ (w : Verdict). eqb (number w) 0) e ∙ n
 
     refused : (n : ℕ) → answerTo s n ≡ Refused v
     unfolding answerTo
@@ -86,8 +87,8 @@ module _ (s : List ℕ) where
 
 -- the definitions answer the whole table as the paper does
 pub starred-answered : AllAnswered starredWhole
-unfolding starredWhole lines codes starred contentsWith upToLink upToOrder upToWindow headerBytes windowBytes orderBytes linkBytes concatenate
-    u16Bytes u32Bytes sheetText headLine windowLine orderLine refusedText decimal digits gapText latestText
+unfolding starredWhole lines codes starred contentsWith upToLink upToOrder upToWindow headerBytes windowBytes orderBytes linkBytes
+    concatenate u16Bytes u32Bytes sheetText headLine windowLine orderLine refusedText decimal digits gapText latestText
 starred-answered =
     let a0 = starred-answers in
     let a1 = a0 .1 in
@@ -100,40 +101,17 @@ starred-answered =
     let a8 = a7 .1 in
     let a9 = a8 .1 in
     let a10 = a9 .1 in
-    let a11 = a10 .1 in (
-      filed-answered _ _ (a0 .0),
-      (
-        filed-answered _ _ (a1 .0),
-        (
-          filed-answered _ _ (a2 .0),
-          (
-            refused-answered _ _ (λ z. let q : _≡_ {A = ℕ} 11 0 = z in omega arith) (a3 .0),
-            (
-              filed-answered _ _ (a4 .0),
-              (
-                filed-answered _ _ (a5 .0),
-                (
-                  refused-answered _ _ (λ z. let q : _≡_ {A = ℕ} 13 0 = z in omega arith) (a6 .0),
-                  (
-                    filed-answered _ _ (a7 .0),
-                    (
-                      refused-answered _ _ (λ z. let q : _≡_ {A = ℕ} 12 0 = z in omega arith) (a8 .0),
-                      (
-                        filed-answered _ _ (a9 .0),
-                        (
-                          filed-answered _ _ (a10 .0),
-                          (
-                            refused-answered _ _ (λ z. let q : _≡_ {A = ℕ} 14 0 = z in omega arith) (a11 .0),
-                            tt,
-                          ),
-                        ),
-                      ),
-                    ),
-                  ),
-                ),
-              ),
-            ),
-          ),
-        ),
-      ),
-    )
+    let a11 = a10 .1 in
+    filed-answered _ _ (a0 .0)
+    also filed-answered _ _ (a1 .0)
+    also filed-answered _ _ (a2 .0)
+    also refused-answered _ _ refl (a3 .0)
+    also filed-answered _ _ (a4 .0)
+    also filed-answered _ _ (a5 .0)
+    also refused-answered _ _ refl (a6 .0)
+    also filed-answered _ _ (a7 .0)
+    also refused-answered _ _ refl (a8 .0)
+    also filed-answered _ _ (a9 .0)
+    also filed-answered _ _ (a10 .0)
+    also refused-answered _ _ refl (a11 .0)
+    also tt
