@@ -1,4 +1,4 @@
--- What the table of gaps is filled from, and what it then is.
+-- Between crates: what the table of gaps is filled from, and what it then is.
 use Prim.Native.Nat.{ℕ, _+_, _≤_, _<_}
 use mathlib.Core.Path.{_≡_}
 use mathlib.Core.Bool.{_&&_, cond}

@@ -1,4 +1,4 @@
--- Records that lie within the bytes: those of steps, conditions, effects and uses, as refusal 5 leaves them.
+-- Between crates: records that lie within the bytes: those of steps, conditions, effects and uses, as refusal 5 leaves them.
 use Prim.Native.Nat.{ℕ, _+_, _*_, _≤_}
 use mathlib.Core.List.{List}
 use lib.ListN.{length}

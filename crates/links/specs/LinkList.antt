@@ -1,4 +1,4 @@
--- Lists of links.
+-- Between crates: lists of links.
 use Prim.Native.Nat.{ℕ, _+_, _<_}
 use mathlib.Core.Path.{_≡_}
 use mathlib.Core.List.{List}

@@ -1,4 +1,4 @@
--- What the links of a valid schedule are found from, and what is found.
+-- Between crates: what the links of a valid schedule are found from, and what is found.
 use Prim.Native.Nat.{ℕ, _+_, _≤_}
 use mathlib.Core.List.{List}
 use lib.ListN.{length}

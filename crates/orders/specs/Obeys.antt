@@ -1,4 +1,4 @@
--- A choice obeys the orders and limits that are found by the ticks of the planned schedule x.
+-- Between crates: a choice obeys the orders and limits that are found by the ticks of the planned schedule x.
 use Prim.Native.Nat.{ℕ, _+_, _≤_, _<_}
 use mathlib.Core.Path.{_≡_}
 use Rattle.job.specs.Model.{Model}

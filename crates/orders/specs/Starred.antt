@@ -1,4 +1,4 @@
--- The starred cases of "A small job, and edges": one table of jobs, with the verdict of the job check or what is filed.
+-- Between crates: the starred cases of "A small job, and edges": one table of jobs, with the verdict of the job check or what is filed.
 use Prim.Native.Nat.{ℕ, _+_, _-_}
 use mathlib.Core.Path.{_≡_}
 use mathlib.Core.List.{List, [], _∷_, _++_, foldr}

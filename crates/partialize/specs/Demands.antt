@@ -4,6 +4,7 @@ use mathlib.Core.Path.{_≡_}
 use mathlib.Core.Bool.{Bool, true, false, cond, _&&_}
 use mathlib.Core.List.{List}
 use mathlib.Core.Logic.{_⊎_}
+use lib.Dec.{eqb}
 use lib.ListN.{length, take}
 use Rattle.laws.specs.Fold.{largest}
 use Rattle.verdict.specs.declared.Verdict.{Verdict}
@@ -26,12 +27,11 @@ use Rattle.partialize.specs.declared.answer.Answer.{Answer}
 use Rattle.partialize.specs.declared.answer.Answer.the-variants.{Refused, BufferTooShort}
 use Rattle.partialize.specs.Answer.{number, place, lengthOf}
 use Rattle.rounds.specs.Rounds.{after, unchanged}
-use Rattle.gaps.specs.Table.{single}
 use Rattle.partialize.specs.Partialization.{looseOf, fileBytes, accepts, fits, answerTo, bufferAfter}
 
 -- the gap of the filed order from i to k plus the bias, 0 where none is filed
 unfoldable pub filedGap : Contents → ℕ → ℕ → ℕ
-filedGap c i k = largest (c .orders) (λ o. single (c .first o) (c .second o) (c .gap o) i k)
+filedGap c i k = largest (c .orders) (λ o. cond (eqb (c .first o) i && eqb (c .second o) k) (c .gap o) 0)
 
 -- demand 2: the file passes the reader and holds exactly the supporters, orders and start limits of the rules
 pub record Exact (s file : List ℕ) : Type 0 where

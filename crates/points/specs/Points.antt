@@ -1,4 +1,4 @@
--- What is known of a job's points before they are walked along: the setters of each fact, its conditions, and the uses of each level.
+-- Between crates: what is known of a job's points before they are walked along: the setters of each fact, its conditions, and the uses of each level.
 use Prim.Native.Nat.{ℕ, _+_, _<_}
 use mathlib.Core.Path.{_≡_}
 use mathlib.Core.List.{List}

@@ -1,4 +1,4 @@
--- The points of a job as words: those of its conditions, then of its effects, then of its uses, before they are sorted.
+-- Between crates: the points of a job as words: those of its conditions, then of its effects, then of its uses, before they are sorted.
 use Prim.Native.Nat.{ℕ, _+_, _≤_, _<_}
 use mathlib.Core.Path.{_≡_}
 use mathlib.Core.List.{List}

@@ -1,4 +1,4 @@
--- The starred cases of "A small job, and edges" with their whole answers: number and place, the order file's bytes, the text.
+-- Between crates: the starred cases of "A small job, and edges" with their whole answers: number and place, the order file's bytes, the text.
 use Prim.Native.Nat.{ℕ, _≤_, _<_}
 use Prim.Native.Char.{code}
 use Prim.Native.String.{String, [] as []ˢ, _∷_ as _∷ˢ_}

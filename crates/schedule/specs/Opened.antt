@@ -1,4 +1,4 @@
--- What a file is known to be before its timing is checked: what refusals 1 to 6 leave, and the points of the written starts.
+-- Between crates: what a file is known to be before its timing is checked: what refusals 1 to 6 leave, and the points of the written starts.
 use Prim.Native.Nat.{ℕ}
 use mathlib.Core.Path.{_≡_}
 use mathlib.Core.List.{List}

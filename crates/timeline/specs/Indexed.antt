@@ -1,4 +1,4 @@
--- What an index of records says. Keys may be shared by others: the tests of a search decide, and an index only
+-- Between crates: what an index of records says. Keys may be shared by others: the tests of a search decide, and an index only
 -- says what to pass over.
 use Prim.Native.Nat.{ℕ, _+_}
 use mathlib.Core.Path.{_≡_}

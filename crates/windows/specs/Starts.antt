@@ -1,4 +1,4 @@
--- Lists of starts, how high they are, and the latest starts.
+-- Between crates: lists of starts, how high they are, and the latest starts.
 use Prim.Native.Nat.{ℕ, _≤_, _<_}
 use mathlib.Core.Path.{_≡_}
 use mathlib.Core.List.{List}
