@@ -10,7 +10,8 @@ pub use-word-spec : {M : Type 1} → statement M
 use-word-spec =
     tie.close
     (tie.spec
-    (λ c κs. let p = c .before .before .pre in (p .2, p .1)) (λ c. search needs) (λ c. search needs) (λ c. search needs) (λ c. search needs) (λ c κs. search needs)
+    (λ c κs. let p = c .before .before .pre in (p .2, p .1))
+    (λ c. search needs) (λ c. search needs) (λ c. search needs) (λ c. search needs) (λ c κs. search needs)
     (λ c.
     let a = c .before .before .before .before .before .before .before in
     let parts = use-parts (a .pre .0) (a .args .u) (a .pre .1) in
