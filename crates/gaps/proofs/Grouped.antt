@@ -12,16 +12,15 @@ use lib.ListN.{length, getD, set, replicate, length-set, length-replicate, getD-
 use lib.Seq.{getD-set-same, getD-set-other}
 use Rattle.laws.proofs.Search.{and-both, contrary}
 use Rattle.job.specs.Model.{Model, longest}
-use Rattle.timeline.specs.Words.{wordStep, wordValue, wordTick, stepAt, valueAt, tickAt, valueSpan}
+use Rattle.timeline.specs.Words.{wordStep, wordValue, wordNumber, wordTick, stepAt, valueAt, tickAt, valueSpan}
 use Rattle.timeline.specs.Placed.{Parted}
 use Rattle.orders.specs.Gaps.{strictly}
 use Rattle.order_file.specs.Table.{gapIn, gapOfEntry, rowWidth, tableSize, entryBias, tableBias, emptyLimit}
 use Rattle.order_file.specs.Contents.{stepLimit, mostGap}
-use Rattle.gaps.specs.declared.rows.Groups.{Groups}
 use Rattle.gaps.specs.declared.rows.Origin.{Origin}
 use Rattle.gaps.specs.Table.{single}
 use Rattle.gaps.specs.Raised.{Raised}
-use Rattle.gaps.specs.Points.{offsetOf, offsetAt, originOf, OriginKnown, Group, GroupsKnown, Notable, Apart, Reached, Onto, After}
+use Rattle.gaps.specs.Points.{offsetOf, offsetAt, pointOrigin, lastOrigin, OriginKnown, Group, Notable, Apart, Reached, Onto, After}
 use Rattle.gaps.specs.Points.{leadPlace, leadsWith, Leads, LeadKnown, Noting, NotedBack, Ahead, Rowing}
 use Rattle.gaps.proofs.Reached.{reached-none, reached-is, reached-one, within-down, within-empty}
 use Rattle.gaps.proofs.Row.{Rowed, rowed-each}
@@ -33,7 +32,7 @@ value-low word = omega arith
 
 -- What is known of a group's points.
 module _ {n : ℕ} {x : ℕ → ℕ} {points : List ℕ} {low high : ℕ} (group : Group n x points low high) (few : n ≤ stepLimit) where
-  group-wide : Group rowWidth x points low high
+  pub group-wide : Group rowWidth x points low high
   group-wide =
       record {
         begins = group .begins;
@@ -47,18 +46,31 @@ module _ {n : ℕ} {x : ℕ → ℕ} {points : List ℕ} {low high : ℕ} (group
   pub group-notable : (p : ℕ) → low ≤ p → p < high → Notable x (getD points p 0)
   group-notable p a b = record { step = omega (arith, group .step p a b); begun = group .begun p a b; near = group .near p a b }
 
--- What is known of an origin that the code made from a point of the first group.
-module _ {m : Model} {x : ℕ → ℕ} {points : List ℕ} {groups : Groups} (known : GroupsKnown m x points groups) (p : ℕ) (from : groups .low ≤ p)
-    (to : p < groups .high) {origin : Origin} (e : origin ≡ originOf m x groups (getD points p 0)) where
-  pub origin-known : OriginKnown (m .steps) origin
-  origin-known =
-      subst (λ o. OriginKnown (m .steps) o) (sym e)
-      (record { step = known .first .step p from to; near = known .led p from to; value = omega arith })
+  -- its points from a place on
+  pub group-from : (p : ℕ) → low ≤ p → p ≤ high → Group n x points p high
+  group-from p a b =
+      record {
+        begins = b;
+        ends = group .ends;
+        rises = λ q r c d e. group .rises q r (omega arith) d e;
+        step = λ q c d. group .step q (omega arith) d;
+        begun = λ q c d. group .begun q (omega arith) d;
+        near = λ q c d. group .near q (omega arith) d;
+      }
 
-  pub origin-wide : OriginKnown rowWidth origin
-  origin-wide =
-      let k = origin-known in
-      record { step = omega (arith, k .step, known .few); near = k .near; value = k .value }
+  -- What is known of an origin that the code made from one of them.
+  module _ (p : ℕ) (from : low ≤ p) (to : p < high) {origin : Origin} where
+    pub point-known : (turn : ℕ) → origin ≡ pointOrigin x turn (getD points p 0) → OriginKnown n origin
+    point-known turn e =
+        subst (λ o. OriginKnown n o) (sym e) (record { step = group .step p from to; near = group .near p from to; value = omega arith })
+
+    pub last-known :
+        (m : Model) → origin ≡ lastOrigin m (getD points p 0) → m .conditionTo (wordNumber (getD points p 0)) ≤ longest → OriginKnown n origin
+    last-known m e near =
+        subst (λ o. OriginKnown n o) (sym e) (record { step = group .step p from to; near = near; value = omega arith })
+
+pub origin-wide : {n : ℕ} {origin : Origin} → n ≤ stepLimit → OriginKnown n origin → OriginKnown rowWidth origin
+origin-wide few k = record { step = omega (arith, k .step); near = k .near; value = k .value }
 
 -- What the code's test of a point says.
 module _ (origin : Origin) (word : ℕ) {v t : ℕ} (value : v ≡ wordValue word) (tick : t ≡ wordTick word) where
@@ -135,10 +147,41 @@ module _ (x : ℕ → ℕ) (points : List ℕ) where
             | no l ↦ omega arith
           ]
 
+  -- the origin that the code made
   pub after-given :
-      (n low high : ℕ) (before after : List ℕ) {origin given : Origin} → origin ≡ given → Reached n (After x points low high origin) before after
-      → Reached n (After x points low high given) before after
-  after-given n low high before after e w = subst (λ o. Reached n (After x points low high o) before after) e w
+      (n low high : ℕ) (before now : List ℕ) {origin given : Origin} → origin ≡ given → Reached n (After x points low high origin) before now
+      → Reached n (After x points low high given) before now
+  after-given n low high before now e w = subst (λ o. Reached n (After x points low high o) before now) e w
+
+  -- points up to the origin's own place are not after it
+  after-later :
+      (n low high p : ℕ) (origin : Origin) (before now : List ℕ) → Group n x points low high → low ≤ p → p < high
+      → tickAt points p < origin .tick
+      → Reached n (After x points (p + 1) high origin) before now
+      → Reached n (After x points low high origin) before now
+  after-later n low high p origin before now group a b late w =
+      reached-is n (After x points (p + 1) high origin) (After x points low high origin) before now w
+      (λ i k gap c o. inr (o .0, omega (arith, o .1), o .2, o .3))
+      (λ i k gap c o. (gap, omega arith, (o .0, past (o .0) (o .1) (o .3 .1), o .2, o .3)))
+    where
+      past : (q : ℕ) → low ≤ q → origin .tick ≤ tickAt points q → p + 1 ≤ q
+      past q c t =
+          elim (decLt p q) [
+            | yes l ↦ omega arith
+            | no l ↦
+                elim (ℕ-discrete q p) [
+                  | yes e ↦ absurd (omega (arith, ap (tickAt points) e))
+                  | no e ↦ absurd (omega (arith, group .rises q p c (omega arith) b))
+                ]
+          ]
+
+  pub later-given :
+      (n low high p turn : ℕ) (before now : List ℕ) {origin : Origin} → Group n x points low high → low ≤ p → p < high
+      → origin ≡ pointOrigin x turn (getD points p 0)
+      → Reached n (After x points (p + 1) high origin) before now
+      → Reached n (After x points low high (pointOrigin x turn (getD points p 0))) before now
+  later-given n low high p turn before now {origin} group a b e w =
+      after-given n low high before now e (after-later n low high p origin before now group a b (omega (arith, ap (λ o. o .tick) e)) w)
 
   -- Leads: of nothing, and with one more point.
   leads-start : (noted high : ℕ) → high ≤ noted → Leads x points noted high (replicate (valueSpan * rowWidth) 0)
@@ -229,7 +272,7 @@ module _ {x : ℕ → ℕ} {points : List ℕ} {low high t p : ℕ} {leads : Lis
   pub noting-all : p ≤ low → NotedBack x points low high t p leads
   noting-all none =
       record {
-        parts = record { from = w .from; to = w .upto; before = λ q a b. absurd (omega arith); after = w .after };
+        parts = record { from = w .from; to = w .upto; before = λ q a b. absurd (omega arith); after = w .late };
         ahead = w .ahead;
       }
 
@@ -245,7 +288,7 @@ module _ {x : ℕ → ℕ} {points : List ℕ} {low high t p : ℕ} {leads : Lis
                   | yes same ↦ omega (arith, ap (tickAt points) same, read)
                   | no other ↦ omega (arith, read, w .upto, w .group .rises q (p - 1) a (omega arith) (omega (arith, w .upto)))
                 ];
-            after = w .after;
+            after = w .late;
           };
           ahead = w .ahead;
         }
@@ -254,68 +297,74 @@ module _ {x : ℕ → ℕ} {points : List ℕ} {low high t p : ℕ} {leads : Lis
     pub noting-more :
         {more : List ℕ} → t ≤ tick → more ≡ leadsWith x (getD points (p - 1) 0) leads → Noting x points low high (p - 1) t more
     noting-more late e =
+        let upto : p ≤ high = w .upto in
         record {
           group = w .group;
           from = omega arith;
-          upto = omega (arith, w .upto);
-          after = λ q a b.
+          upto = omega arith;
+          late = λ q a b.
               elim (ℕ-discrete q (p - 1)) [
                 | yes same ↦ omega (arith, ap (tickAt points) same, read)
-                | no other ↦ w .after q (omega arith) b
+                | no other ↦ w .late q (omega arith) b
               ];
           ahead =
               subst (λ l. Leads x points (p - 1) high l) (sym e)
-              (leads-more x points p high leads (omega arith) (w .upto) (w .group .step (p - 1) (omega arith) (omega (arith, w .upto))) (w .ahead));
+              (leads-more x points p high leads (omega arith) upto (w .group .step (p - 1) (omega arith) (omega arith)) (w .ahead));
         }
 
--- The walk back over the first group.
-module _ {m : Model} {x : ℕ → ℕ} {points : List ℕ} {groups : Groups} (known : GroupsKnown m x points groups) where
-  pub rowing-start : (gaps : List ℕ) → Rowing m x points groups gaps (replicate (valueSpan * rowWidth) 0) (groups .until) (groups .high) gaps
-  rowing-start gaps =
+-- The walk back over a range of points, whose orders begin no later than those of later points.
+module _ {n : ℕ} {x : ℕ → ℕ} {points : List ℕ} {origin : ℕ → Origin} {begin end low high : ℕ} (few : n ≤ stepLimit)
+    (group : Group n x points low high) where
+  pub rowing-start :
+      (gaps : List ℕ) → begin ≤ end → Rowing n x points origin begin end low high gaps (replicate (valueSpan * rowWidth) 0) high end gaps
+  rowing-start gaps h =
       record {
-        from = known .first .begins;
+        from = h;
         upto = omega arith;
-        notedFrom = known .second .begins;
+        notedFrom = group .begins;
         notedUpto = omega arith;
         ahead = λ r q a b c d. absurd (omega arith);
-        led = leads-start x points (groups .until) (groups .until) (omega arith);
+        led = leads-start x points high high (omega arith);
         reached = within-empty _ _ _ _ _ (omega arith);
       }
 
-  module _ {before leads gaps : List ℕ} {noted p : ℕ} (w : Rowing m x points groups before leads noted p gaps) (some : groups .low < p) {origin : Origin}
-      (e : origin ≡ originOf m x groups (getD points (p - 1) 0)) where
-    tick : origin .tick ≡ tickAt points (p - 1) + groups .wait
+  module _ {before leads gaps : List ℕ} {noted p : ℕ} (w : Rowing n x points origin begin end low high before leads noted p gaps)
+      (some : begin < p) {o : Origin} (e : o ≡ origin (getD points (p - 1) 0)) where
+    tick : o .tick ≡ origin (getD points (p - 1) 0) .tick
     tick = ap (λ o. o .tick) e
 
-    pub rowing-noting : Noting x points (groups .after) (groups .until) noted (origin .tick) leads
+    pub rowing-noting : Noting x points low high noted (o .tick) leads
     rowing-noting =
         record {
-          group = group-wide (known .second) (known .few);
+          group = group-wide group few;
           from = w .notedFrom;
           upto = w .notedUpto;
-          after = λ q a b. omega (arith, tick, w .ahead (p - 1) q (omega arith) (omega arith) a b);
+          late = λ q a b. omega (arith, tick, w .ahead (p - 1) q (omega arith) (omega arith) a b);
           ahead = w .led;
         }
 
-    pub rowing-more :
-        {now raised : List ℕ} {next : ℕ} → NotedBack x points (groups .after) (groups .until) (origin .tick) next now
-        → Reached (m .steps) (Ahead origin now) gaps raised
-        → Rowing m x points groups before now next (p - 1) raised
-    rowing-more {now} {raised} {next} n r =
-        let upto : p ≤ groups .high = w .upto in
-        record {
-          from = omega arith;
-          upto = omega arith;
-          notedFrom = n .parts .from;
-          notedUpto = n .parts .to;
-          ahead = λ s q a b c d. omega (arith, tick, n .parts .after q c d, known .first .rises s (p - 1) a b (omega arith));
-          led = n .ahead;
-          reached =
-              within-down _ _ _ _ _ p (p - 1) _ (omega arith) upto (w .reached)
-              (after-given x points (m .steps) (groups .after) (groups .until) gaps raised e
-              (ahead-after x points (m .steps) (groups .after) (groups .until) next origin now gaps raised (known .second) (known .few) (n .parts)
-              (n .ahead) r));
-        }
+    module _ {now : List ℕ} {next : ℕ} (back : NotedBack x points low high (o .tick) next now) where
+      pub rowing-known : (k : ℕ) → LeadKnown (getD now k 0)
+      rowing-known = leads-known x points n low next high now group (back .parts .from) (back .ahead)
+
+      pub rowing-more :
+          {raised : List ℕ} → ((r s : ℕ) → begin ≤ r → r < s → s < end → origin (getD points r 0) .tick ≤ origin (getD points s 0) .tick)
+          → Reached n (Ahead o now) gaps raised
+          → Rowing n x points origin begin end low high before now next (p - 1) raised
+      rowing-more {raised} rises r =
+          let upto : p ≤ end = w .upto in
+          record {
+            from = omega arith;
+            upto = omega arith;
+            notedFrom = back .parts .from;
+            notedUpto = back .parts .to;
+            ahead = λ s q a b c d. omega (arith, tick, back .parts .after q c d, rises s (p - 1) a b (omega arith));
+            led = back .ahead;
+            reached =
+                within-down _ _ _ _ _ p (p - 1) _ (omega arith) upto (w .reached)
+                (after-given x points n low high gaps raised e
+                (ahead-after x points n low high next o now gaps raised group few (back .parts) (back .ahead) r));
+          }
 
 module _ (origin : Origin) (leads before : List ℕ) where
   abbrev row : ℕ → ℕ

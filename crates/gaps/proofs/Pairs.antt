@@ -10,14 +10,13 @@ use lib.ListN.{getD}
 use Rattle.laws.specs.Fold.{largest}
 use Rattle.laws.proofs.Fold.{largest-le}
 use Rattle.job.specs.Model.{Model, longest}
-use Rattle.timeline.specs.Words.{valueAt, tickAt, stepAt, numberAt, valueSpan}
+use Rattle.timeline.specs.Words.{wordStep, wordValue, wordTick, valueAt, tickAt, stepAt, numberAt, valueSpan}
 use Rattle.timeline.specs.Placed.{Placed}
 use Rattle.orders.specs.Gaps.{strictly}
 use Rattle.orders.proofs.Orders.{pairs-ge}
-use Rattle.gaps.specs.declared.rows.Groups.{Groups}
-use Rattle.gaps.specs.declared.rows.End.{End}
+use Rattle.gaps.specs.declared.rows.Origin.{Origin}
 use Rattle.gaps.specs.Raised.{Raised}
-use Rattle.gaps.specs.Points.{endOf, offsetAt, groupsAt, Group, GroupsKnown, Reached, Among, Between}
+use Rattle.gaps.specs.Points.{offsetAt, Group, Reached, Among, After}
 use Rattle.gaps.proofs.Reached.{reached-raised}
 use Rattle.order_file.specs.Contents.{stepLimit}
 
@@ -50,7 +49,7 @@ module _ {m : Model} {x : ℕ → ℕ} {points begins : List ℕ} (l : Listed m 
       let start : x (stepAt points p) ≡ x (l .step (numberAt points p)) = ap x (o .steps p a b) in
       (omega (arith, start, o .ticks p a b, l .timed (numberAt points p)), omega (arith, start, o .ticks p a b, l .timed (numberAt points p)))
 
-  listed-group : Group (m .steps) x points (getD begins (l .place g) 0) (getD begins (l .place g + 1) 0)
+  pub listed-group : Group (m .steps) x points (getD begins (l .place g) 0) (getD begins (l .place g + 1) 0)
   listed-group =
       let o = l .placed g h in
       record {
@@ -64,15 +63,15 @@ module _ {m : Model} {x : ℕ → ℕ} {points begins : List ℕ} (l : Listed m 
 
 -- A rule orders points of the first list, from an end of them, before points of the second in the group of the same number, where values
 -- differ by `turn` and `wait` ticks lie between them. It tests that by `fits` and `sooner`.
-pub record Rule (m : Model) (x : ℕ → ℕ) (points begins : List ℕ) (first second : Listed m x points begins) (from : End) (end : ℕ → ℕ) (wait turn : ℕ)
-    (fits sooner : ℕ → ℕ → Bool) : Type 0 where
-  pub short : wait ≤ 1
-  pub turned : turn ≤ 1
+pub record Rule (m : Model) (x : ℕ → ℕ) (points begins : List ℕ) (first second : Listed m x points begins) (origin : ℕ → Origin) (end : ℕ → ℕ)
+    (wait turn : ℕ) (fits sooner : ℕ → ℕ → Bool) : Type 0 where
+  pub from : (word : ℕ) → origin word .step ≡ wordStep word
+  pub valued : (word : ℕ) → origin word .value ≡ (wordValue word + turn) % valueSpan
+  pub due : (word : ℕ) → origin word .tick ≡ wordTick word + wait
   pub facing : (g : ℕ) → g < first .groups → g < second .groups
   pub ended :
       (g p : ℕ) → g < first .groups → getD begins (first .place g) 0 ≤ p → p < getD begins (first .place g + 1) 0
-      → endOf m x from (getD points p 0) ≡ end (numberAt points p)
-  pub endNear : (a : ℕ) → a < first .count → end a ≤ longest
+      → origin (getD points p 0) .at ≡ end (numberAt points p)
   pub fitting :
       (a b : ℕ) → a < first .count → b < second .count → second .group b ≡ first .group a → second .value b ≡ (first .value a + turn) % valueSpan
       → fits a b ≡ true
@@ -97,28 +96,16 @@ four-le true true false d v bound h = omega arith
 four-le true false c d v bound h = omega arith
 four-le false b c d v bound h = omega arith
 
-module _ {m : Model} {x : ℕ → ℕ} {points begins : List ℕ} {first second : Listed m x points begins} {from : End} {end : ℕ → ℕ} {wait turn : ℕ}
-    {fits sooner : ℕ → ℕ → Bool} (rule : Rule m x points begins first second from end wait turn fits sooner) where
-  abbrev pub groupsOf : ℕ → Groups
-  groupsOf g = groupsAt begins from (first .place g) (second .place g) wait turn
-
+module _ {m : Model} {x : ℕ → ℕ} {points begins : List ℕ} {first second : Listed m x points begins} {origin : ℕ → Origin} {end : ℕ → ℕ}
+    {wait turn : ℕ} {fits sooner : ℕ → ℕ → Bool} (rule : Rule m x points begins first second origin end wait turn fits sooner) where
   -- the orders between two groups, and what the rule says of two points
   abbrev pub GroupOrder : ℕ → ℕ → ℕ → ℕ → Type 0
-  GroupOrder g = Between m x points (groupsOf g)
+  GroupOrder g =
+      Among (getD begins (first .place g) 0) (getD begins (first .place g + 1) 0)
+      (λ p. After x points (getD begins (second .place g) 0) (getD begins (second .place g + 1) 0) (origin (getD points p 0)))
 
   abbrev pub pairOrder : ℕ → ℕ → ℕ → ℕ → ℕ
   pairOrder i k a b = cond (eqb (first .step a) i && eqb (second .step b) k && fits a b && sooner a b) (strictly (end a) (second .at b)) 0
-
-  pub groups-known : (g : ℕ) → g < first .groups → m .steps ≤ stepLimit → GroupsKnown m x points (groupsOf g)
-  groups-known g h few =
-      record {
-        first = listed-group first g h;
-        second = listed-group second g (rule .facing g h);
-        led = λ p a b. omega (arith, rule .ended g p h a b, rule .endNear (numberAt points p) (first .placed g h .holds p a b .0));
-        few = few;
-        short = rule .short;
-        turned = rule .turned;
-      }
 
   -- an order between groups is an order of two points
   pub rule-under :
@@ -135,15 +122,18 @@ module _ {m : Model} {x : ℕ → ℕ} {points begins : List ℕ} {first second 
       let low = here .holds p (o .1) (o .2) in
       let low' = there .holds q (o .3 .1) (o .3 .2) in
       let onto = o .3 .3 in
-      let step : first .step a ≡ i = sym (here .steps p (o .1) (o .2)) ∙ onto .2 in
+      let step : first .step a ≡ i = sym (here .steps p (o .1) (o .2)) ∙ sym (rule .from (getD points p 0)) ∙ onto .2 in
       let step' : second .step b ≡ k = sym (there .steps q (o .3 .1) (o .3 .2)) ∙ onto .3 in
       let value : second .value b ≡ (first .value a + turn) % valueSpan =
-      sym (there .values q (o .3 .1) (o .3 .2)) ∙ onto .0 ∙ ap (λ v. (v + turn) % valueSpan) (here .values p (o .1) (o .2))
+      sym (there .values q (o .3 .1) (o .3 .2))
+      ∙ onto .0
+      ∙ rule .valued (getD points p 0)
+      ∙ ap (λ v. (v + turn) % valueSpan) (here .values p (o .1) (o .2))
       in
       let fit : fits a b ≡ true = rule .fitting a b (low .0) (low' .0) (low' .1 ∙ sym (low .1)) value in
       let soon : sooner a b ≡ true =
       rule .waiting a b (low .0) (low' .0) fit (λ e. apart (sym step ∙ e ∙ step'))
-      (omega (arith, onto .1, here .ticks p (o .1) (o .2), there .ticks q (o .3 .1) (o .3 .2)))
+      (omega (arith, onto .1, rule .due (getD points p 0), here .ticks p (o .1) (o .2), there .ticks q (o .3 .1) (o .3 .2)))
       in
       omega (
         arith,
@@ -185,9 +175,9 @@ module _ {m : Model} {x : ℕ → ℕ} {points begins : List ℕ} {first second 
           f' .1,
           f' .2,
           (
-            value' ∙ fit .1 ∙ ap (λ v. (v + turn) % valueSpan) (sym value),
-            omega (arith, tick, tick', rule .waited a b h l t),
-            here .steps p (f .1) (f .2) ∙ ap (first .step) (f .3) ∙ eqb-true _ _ s,
+            value' ∙ fit .1 ∙ ap (λ v. (v + turn) % valueSpan) (sym value) ∙ sym (rule .valued (getD points p 0)),
+            omega (arith, tick, tick', rule .due (getD points p 0), rule .waited a b h l t),
+            rule .from (getD points p 0) ∙ here .steps p (f .1) (f .2) ∙ ap (first .step) (f .3) ∙ eqb-true _ _ s,
             there .steps q (f' .1) (f' .2) ∙ ap (second .step) (f' .3) ∙ eqb-true _ _ s',
             ap₂ strictly (sym (rule .ended g p in-g (f .1) (f .2) ∙ ap end (f .3)))
                 (sym (listed-offset second g (rule .facing g in-g) q (f' .1) (f' .2) .0 ∙ ap (second .at) (f' .3))),

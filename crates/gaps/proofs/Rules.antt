@@ -1,9 +1,9 @@
 -- Rules 2, 3 and 4: a table raised to the orders between groups of points is raised by the rule's gaps.
-use Prim.Native.Nat.{ℕ, _+_, _≤_, _<_, max}
+use Prim.Native.Nat.{ℕ, _+_, _%_, _≤_, _<_, max}
 use mathlib.Core.Path.{_≡_, refl, sym, ap, ap₂, subst, _∙_}
 use mathlib.Core.Bool.{Bool, true, not, _&&_}
 use mathlib.Core.List.{List}
-use mathlib.Core.Logic.{_⊎_, inl, inr, ⊎-elim}
+use mathlib.Core.Logic.{inl, inr, ⊎-elim}
 use native.Mathlib.Decide.{ℕ-discrete, decLt}
 use native.Mathlib.Omega.{arith}
 use borrow.Author.Tests.{eqb-true, eqb-false, not-true, ltb-true, eq-eqb, ne-eqb, lt-ltb}
@@ -12,43 +12,45 @@ use lib.ListN.{getD}
 use Rattle.laws.specs.Fold.{largest}
 use Rattle.laws.proofs.Fold.{largest-le}
 use Rattle.laws.proofs.Search.{and-both}
-use Rattle.job.specs.Model.{Model, longest}
-use Rattle.timeline.specs.Words.{wordNumber, numberAt}
+use Rattle.job.specs.Model.{Model}
+use Rattle.timeline.specs.Words.{wordStep, wordValue, wordTick, numberAt, valueSpan}
 use Rattle.validity.specs.Ticks.{effectTick, firstTick, lastTick, useTick, opposes}
 use Rattle.points.specs.Points.{wantedGroup, usedGroup}
 use Rattle.orders.specs.Gaps.{opposingOrder, opposingGap, beforeOrder, afterOrder, conditionGap, levelOrder, levelGap}
 use Rattle.orders.proofs.Orders.{condition-ge}
 use Rattle.orders.proofs.Near.{effect-near, from-near, to-near, use-near}
-use Rattle.gaps.specs.declared.rows.Groups.{Groups}
-use Rattle.gaps.specs.declared.rows.End.{End}
-use Rattle.gaps.specs.declared.rows.End.the-variants.{First, Last}
+use Rattle.gaps.specs.declared.rows.Fact.{Fact}
+use Rattle.gaps.specs.declared.rows.Origin.{Origin}
 use Rattle.gaps.specs.Raised.{Raised, ValidPoints}
-use Rattle.gaps.specs.Points.{endOf, groupsAt, GroupsKnown, Reached, Among, Between}
+use Rattle.gaps.specs.Points.{pointOrigin, lastOrigin, factAt, Group, FactKnown, Reached, Among}
+use Rattle.gaps.specs.Points.{FromSetters, FromConditions, FactOrder, FromPoints}
 use Rattle.gaps.proofs.Reached.{reached-raised}
-use Rattle.gaps.proofs.Pairs.{Listed, Rule, listed-offset, groups-known, rule-under, rule-over, rule-raised}
+use Rattle.gaps.proofs.Pairs.{Listed, Rule, listed-offset, listed-group, rule-under, rule-over, rule-raised}
 
--- The groups that the code made.
-module _ {groups given : Groups} (e : groups ≡ given) where
-  pub given-known : {m : Model} {x : ℕ → ℕ} {points : List ℕ} → GroupsKnown m x points given → GroupsKnown m x points groups
-  given-known {m} {x} {points} w = subst (λ g. GroupsKnown m x points g) (sym e) w
+-- The places that the code read.
+module _ {fact given : Fact} (e : fact ≡ given) where
+  pub given-known : {m : Model} {x : ℕ → ℕ} {points : List ℕ} → FactKnown m x points given → FactKnown m x points fact
+  given-known {m} {x} {points} w = subst (λ f. FactKnown m x points f) (sym e) w
 
   pub given-reached :
-      (n : ℕ) (m : Model) (x : ℕ → ℕ) (points before after : List ℕ) → Reached n (Between m x points groups) before after
-      → Reached n (Between m x points given) before after
-  given-reached n m x points before after w = subst (λ g. Reached n (Between m x points g) before after) e w
+      (n : ℕ) (m : Model) (x : ℕ → ℕ) (points before after : List ℕ) → Reached n (FactOrder m x points fact) before after
+      → Reached n (FactOrder m x points given) before after
+  given-reached n m x points before after w = subst (λ f. Reached n (FactOrder m x points f) before after) e w
 
--- the orders of rules 2 and 3 of a fact, and of rule 4 of a level
-module _ (m : Model) (x : ℕ → ℕ) (points begins : List ℕ) where
-  abbrev pub OpposingOrder : ℕ → ℕ → ℕ → ℕ → Type 0
-  OpposingOrder f = Between m x points (groupsAt begins First f f 1 1)
+pub given-points :
+    (n : ℕ) (x : ℕ → ℕ) (points before after : List ℕ) (turn : ℕ) {low high low' high' : ℕ} → low ≡ low' → high ≡ high'
+    → Reached n (FromPoints x points low high turn) before after
+    → Reached n (FromPoints x points low' high' turn) before after
+given-points n x points before after turn {low} {high} {low'} {high'} d e w =
+    subst (λ l. Reached n (FromPoints x points l high' turn) before after) d
+    (subst (λ h. Reached n (FromPoints x points low h turn) before after) e w)
 
-  abbrev pub ConditionOrder : ℕ → ℕ → ℕ → ℕ → Type 0
-  ConditionOrder f i k gap =
-      Between m x points (groupsAt begins First f (wantedGroup m f) 1 1) i k gap
-      ⊎ Between m x points (groupsAt begins Last (wantedGroup m f) f 0 1) i k gap
+-- the orders of rule 2 of a fact, and of rule 4 of a level of a job of so many facts
+abbrev pub OpposingOrder : (ℕ → ℕ) → List ℕ → List ℕ → ℕ → ℕ → ℕ → ℕ → Type 0
+OpposingOrder x points begins f = FromPoints x points (getD begins f 0) (getD begins (f + 1) 0) 1
 
-  abbrev pub LevelOrder : ℕ → ℕ → ℕ → ℕ → Type 0
-  LevelOrder l = Between m x points (groupsAt begins First (usedGroup m l) (usedGroup m l) 1 0)
+abbrev pub LevelOrder : ℕ → (ℕ → ℕ) → List ℕ → List ℕ → ℕ → ℕ → ℕ → ℕ → Type 0
+LevelOrder facts x points begins l = FromPoints x points (getD begins (facts + facts + l) 0) (getD begins (facts + facts + l + 1) 0) 0
 
 -- what lies at least a tick later is later
 later-by-one : (a b : ℕ) → a + 1 ≤ b → ltb a b ≡ true
@@ -65,32 +67,29 @@ eqb-swap a b =
       | no q ↦ ne-eqb a b q ∙ sym (ne-eqb b a (λ r. q (sym r)))
     ]
 
--- from the last tick of its condition
-last-end : (m : Model) (x : ℕ → ℕ) (word : ℕ) → endOf m x Last word ≡ m .conditionTo (wordNumber word)
-unfolding endOf
-last-end m x word = refl
-
 module _ {m : Model} {x : ℕ → ℕ} {points begins : List ℕ} where
   -- Points of facts with values: those of one value against those of the other.
   opposing-rule :
-      {first second : Listed m x points begins} (from : End) (end : ℕ → ℕ) (wait : ℕ) (fits sooner : ℕ → ℕ → Bool) → wait ≤ 1
+      {first second : Listed m x points begins} (origin : ℕ → Origin) (end : ℕ → ℕ) (wait : ℕ) (fits sooner : ℕ → ℕ → Bool)
+      → ((word : ℕ) → origin word .step ≡ wordStep word)
+      → ((word : ℕ) → origin word .value ≡ (wordValue word + 1) % valueSpan)
+      → ((word : ℕ) → origin word .tick ≡ wordTick word + wait)
       → first .groups ≡ second .groups
       → ((a b : ℕ) → fits a b ≡ (eqb (first .group a) (second .group b) && not (eqb (first .value a) (second .value b))))
       → ((g p : ℕ) → g < first .groups → getD begins (first .place g) 0 ≤ p → p < getD begins (first .place g + 1) 0
-      → endOf m x from (getD points p 0) ≡ end (numberAt points p))
-      → ((a : ℕ) → a < first .count → end a ≤ longest)
+      → origin (getD points p 0) .at ≡ end (numberAt points p))
       → ((a b : ℕ) → a < first .count → b < second .count → fits a b ≡ true → (first .step a ≡ second .step b → ⊥)
       → first .tick a + wait ≤ second .tick b
       → sooner a b ≡ true)
       → ((a b : ℕ) → a < first .count → b < second .count → sooner a b ≡ true → first .tick a + wait ≤ second .tick b)
-      → Rule m x points begins first second from end wait 1 fits sooner
-  opposing-rule {first} {second} from end wait fits sooner short alike same ended near waiting waited =
+      → Rule m x points begins first second origin end wait 1 fits sooner
+  opposing-rule {first} {second} origin end wait fits sooner from valued due alike same ended waiting waited =
       record {
-        short = short;
-        turned = omega arith;
+        from = from;
+        valued = valued;
+        due = due;
         facing = λ g h. omega (arith, alike);
         ended = ended;
-        endNear = near;
         fitting = λ a b h l e v.
             same a b
             ∙ ap₂ _&&_ (eq-eqb _ _ (sym e)) (ap not (ne-eqb (first .value a) (second .value b) (λ q. omega (arith, v, q, first .two a h))));
@@ -101,13 +100,6 @@ module _ {m : Model} {x : ℕ → ℕ} {points begins : List ℕ} where
         waiting = waiting;
         waited = waited;
       }
-
-  -- from a point's own tick
-  own-end :
-      (l : Listed m x points begins) (g p : ℕ) → g < l .groups → getD begins (l .place g) 0 ≤ p → p < getD begins (l .place g + 1) 0
-      → endOf m x First (getD points p 0) ≡ l .at (numberAt points p)
-  unfolding endOf
-  own-end l g p h a b = listed-offset l g h p a b .0
 
   module _ (known : ValidPoints m x points begins) where
     unfoldable effectList : Listed m x points begins
@@ -172,30 +164,32 @@ module _ {m : Model} {x : ℕ → ℕ} {points begins : List ℕ} where
 
     -- Rule 2.
     opposing-is :
-        Rule m x points begins effectList effectList First (m .effectAt) 1 1 (λ e f. opposes m e (m .effectFact f) (m .effectValue f))
+        Rule m x points begins effectList effectList (pointOrigin x 1) (m .effectAt) 1 1 (λ e f. opposes m e (m .effectFact f) (m .effectValue f))
         (λ e f. ltb (effectTick m x e) (effectTick m x f))
     unfolding effectList
     opposing-is =
-        opposing-rule First (m .effectAt) 1 _ _ (omega arith) refl (λ e f. refl) (own-end effectList) (effect-near m (known .form))
+        opposing-rule (pointOrigin x 1) (m .effectAt) 1 _ _ (λ w. refl) (λ w. refl) (λ w. refl) refl (λ e f. refl)
+        (λ g p h a b. listed-offset effectList g h p a b .0)
         (λ e f h l r d t. later-by-one _ _ t) (λ e f h l t. one-later _ _ t)
 
-    pub opposing-known : (f : ℕ) → f < m .facts → GroupsKnown m x points (groupsAt begins First f f 1 1)
+    pub opposing-known : (f : ℕ) → f < m .facts → Group (m .steps) x points (getD begins f 0) (getD begins (f + 1) 0)
     unfolding effectList
-    opposing-known f h = groups-known opposing-is f h (known .form .stepCount)
+    opposing-known f h = listed-group effectList f h
 
     pub opposing-raised :
-        (before after : List ℕ) → Reached (m .steps) (Among 0 (m .facts) (OpposingOrder m x points begins)) before after
+        (before after : List ℕ) → Reached (m .steps) (Among 0 (m .facts) (OpposingOrder x points begins)) before after
         → Raised (m .steps) (opposingGap m x) before after
     unfolding effectList opposingGap opposingOrder
     opposing-raised before after w = rule-raised opposing-is before after (known .form .stepCount) w
 
     -- Rule 3.
     before-is :
-        Rule m x points begins effectList conditionList First (m .effectAt) 1 1 (λ e c. opposes m e (m .conditionFact c) (m .conditionValue c))
+        Rule m x points begins effectList conditionList (pointOrigin x 1) (m .effectAt) 1 1 (λ e c. opposes m e (m .conditionFact c) (m .conditionValue c))
         (λ e c. ltb (effectTick m x e) (firstTick m x c))
     unfolding effectList conditionList
     before-is =
-        opposing-rule First (m .effectAt) 1 _ _ (omega arith) refl (λ e c. refl) (own-end effectList) (effect-near m (known .form))
+        opposing-rule (pointOrigin x 1) (m .effectAt) 1 _ _ (λ w. refl) (λ w. refl) (λ w. refl) refl (λ e c. refl)
+        (λ g p h a b. listed-offset effectList g h p a b .0)
         (λ e c h l r d t. later-by-one _ _ t) (λ e c h l t. one-later _ _ t)
 
     -- an opposing effect of another step that is not before the first tick is after the last
@@ -215,22 +209,23 @@ module _ {m : Model} {x : ℕ → ℕ} {points begins : List ℕ} where
         ]
 
     after-is :
-        Rule m x points begins conditionList effectList Last (m .conditionTo) 0 1 (λ c e. opposes m e (m .conditionFact c) (m .conditionValue c))
+        Rule m x points begins conditionList effectList (lastOrigin m) (m .conditionTo) 0 1 (λ c e. opposes m e (m .conditionFact c) (m .conditionValue c))
         (λ c e. ltb (lastTick m x c) (effectTick m x e))
     unfolding effectList conditionList
     after-is =
-        opposing-rule Last (m .conditionTo) 0 (λ c e. opposes m e (m .conditionFact c) (m .conditionValue c)) _ (omega arith) refl
+        opposing-rule (lastOrigin m) (m .conditionTo) 0 (λ c e. opposes m e (m .conditionFact c) (m .conditionValue c)) _ (λ w. refl) (λ w. refl)
+        (λ w. omega arith) refl
         (λ c e. ap₂ (λ s t. s && not t) (eqb-swap (m .effectFact e) (m .conditionFact c)) (eqb-swap (m .effectValue e) (m .conditionValue c)))
-        (λ g p h a b. last-end m x (getD points p 0)) (to-near m (known .form)) after-last
+        (λ g p h a b. refl) after-last
         (λ c e h l t. omega (arith, ltb-true (lastTick m x c) (effectTick m x e) t, known .form .conditionSpan c h))
 
-    pub before-known : (f : ℕ) → f < m .facts → GroupsKnown m x points (groupsAt begins First f (wantedGroup m f) 1 1)
-    unfolding effectList conditionList
-    before-known f h = groups-known before-is f h (known .form .stepCount)
-
-    pub after-known : (f : ℕ) → f < m .facts → GroupsKnown m x points (groupsAt begins Last (wantedGroup m f) f 0 1)
-    unfolding effectList conditionList
-    after-known f h = groups-known after-is f h (known .form .stepCount)
+    pub fact-known : (f : ℕ) → f < m .facts → FactKnown m x points (factAt begins (m .facts) f)
+    unfolding conditionList
+    fact-known f h =
+        record {
+          placed = record { setters = opposing-known f h; wanted = listed-group conditionList f h; few = known .form .stepCount };
+          ended = λ p a b. to-near m (known .form) (numberAt points p) (known .known .wanted f h .holds p a b .0);
+        }
 
     condition-le :
         (i k bound : ℕ) → ((e c : ℕ) → e < m .effects → c < m .conditions → beforeOrder m x i k c e ≤ bound)
@@ -246,16 +241,18 @@ module _ {m : Model} {x : ℕ → ℕ} {points begins : List ℕ} where
         ))
 
     pub conditions-raised :
-        (before after : List ℕ) → Reached (m .steps) (Among 0 (m .facts) (ConditionOrder m x points begins)) before after
+        (before after : List ℕ)
+        → Reached (m .steps) (Among 0 (m .facts) (λ f. FactOrder m x points (factAt begins (m .facts) f))) before after
         → Raised (m .steps) (conditionGap m x) before after
     unfolding effectList conditionList beforeOrder afterOrder
     conditions-raised before after w =
-        reached-raised (m .steps) (Among 0 (m .facts) (ConditionOrder m x points begins)) (conditionGap m x) before after (known .form .stepCount) w
+        reached-raised (m .steps) (Among 0 (m .facts) (λ f. FactOrder m x points (factAt begins (m .facts) f))) (conditionGap m x) before after
+        (known .form .stepCount) w
         (λ i k gap a o.
         ⊎-elim
-        (λ (r : Between m x points (groupsAt begins First (o .0) (wantedGroup m (o .0)) 1 1) i k gap).
+        (λ (r : FromSetters x points (factAt begins (m .facts) (o .0)) i k gap).
         rule-under before-is (o .0) i k gap (conditionGap m x i k) (o .2) (a .2) r (λ e c h l. condition-ge m x i k c e l h .0))
-        (λ (r : Between m x points (groupsAt begins Last (wantedGroup m (o .0)) (o .0) 0 1) i k gap).
+        (λ (r : FromConditions m x points (factAt begins (m .facts) (o .0)) i k gap).
         rule-under after-is (o .0) i k gap (conditionGap m x i k) (o .2) (a .2) r (λ c e h l. condition-ge m x i k c e h l .1))
         (o .3))
         (λ i k bound a all.
@@ -264,28 +261,28 @@ module _ {m : Model} {x : ℕ → ℕ} {points begins : List ℕ} where
 
     -- Rule 4.
     levels-is :
-        Rule m x points begins useList useList First (m .useAt) 1 0 (λ u v. eqb (m .useLevel u) (m .useLevel v))
+        Rule m x points begins useList useList (pointOrigin x 0) (m .useAt) 1 0 (λ u v. eqb (m .useLevel u) (m .useLevel v))
         (λ u v. ltb (useTick m x u) (useTick m x v))
     unfolding useList
     levels-is =
         record {
-          short = omega arith;
-          turned = omega arith;
+          from = λ w. refl;
+          valued = λ w. refl;
+          due = λ w. refl;
           facing = λ g h. h;
-          ended = own-end useList;
-          endNear = use-near m (known .form);
+          ended = λ g p h a b. listed-offset useList g h p a b .0;
           fitting = λ u v h l e z. eq-eqb _ _ (sym e);
           fitted = λ u v h l r. (sym (eqb-true _ _ r), omega arith);
           waiting = λ u v h l r d t. later-by-one _ _ t;
           waited = λ u v h l t. one-later _ _ t;
         }
 
-    pub levels-known : (l : ℕ) → l < m .levels → GroupsKnown m x points (groupsAt begins First (usedGroup m l) (usedGroup m l) 1 0)
+    pub level-known : (l : ℕ) → l < m .levels → Group (m .steps) x points (getD begins (usedGroup m l) 0) (getD begins (usedGroup m l + 1) 0)
     unfolding useList
-    levels-known l h = groups-known levels-is l h (known .form .stepCount)
+    level-known l h = listed-group useList l h
 
     pub levels-raised :
-        (before after : List ℕ) → Reached (m .steps) (Among 0 (m .levels) (LevelOrder m x points begins)) before after
+        (before after : List ℕ) → Reached (m .steps) (Among 0 (m .levels) (LevelOrder (m .facts) x points begins)) before after
         → Raised (m .steps) (levelGap m x) before after
     unfolding useList levelGap levelOrder
     levels-raised before after w = rule-raised levels-is before after (known .form .stepCount) w

@@ -2,50 +2,42 @@
 use Prim.Native.Nat.{ℕ, _+_, _-_, _*_, _%_, _≤_, _<_, max}
 use mathlib.Core.Path.{_≡_}
 use mathlib.Core.List.{List}
+use mathlib.Core.Logic.{_⊎_}
 use lib.ListN.{length, getD, set}
 use Rattle.job.specs.Model.{Model, longest}
 use Rattle.timeline.specs.Words.{wordStep, wordValue, wordNumber, wordTick, stepAt, valueAt, tickAt, valueSpan}
 use Rattle.timeline.specs.Placed.{Parted}
 use Rattle.orders.specs.Gaps.{strictly}
-use Rattle.gaps.specs.declared.rows.Groups.{Groups}
+use Rattle.gaps.specs.declared.rows.Fact.{Fact}
 use Rattle.gaps.specs.declared.rows.Origin.{Origin}
-use Rattle.gaps.specs.declared.rows.End.{End}
-use Rattle.gaps.specs.declared.rows.End.the-variants.{First, Last}
 use Rattle.order_file.specs.Table.{gapIn, gapOfEntry, Gaps, rowWidth, entryBias, tableBias}
 use Rattle.order_file.specs.Contents.{stepLimit}
 
--- how far into its step a point lies, and the end of it that orders lead from
+-- how far into its step a point lies
 abbrev pub offsetOf : (ℕ → ℕ) → ℕ → ℕ
 offsetOf x word = wordTick word - x (wordStep word)
 
 abbrev pub offsetAt : (ℕ → ℕ) → List ℕ → ℕ → ℕ
 offsetAt x points p = offsetOf x (getD points p 0)
 
-unfoldable pub endOf : Model → (ℕ → ℕ) → End → ℕ → ℕ
-endOf m x First word = offsetOf x word
-endOf m x Last word = m .conditionTo (wordNumber word)
+-- from a point to later ones, of the other value (`turn` 1) or of the same (`turn` 0)
+abbrev pub pointOrigin : (ℕ → ℕ) → ℕ → ℕ → Origin
+pointOrigin x turn word =
+    record { step = wordStep word; at = offsetOf x word; value = (wordValue word + turn) % valueSpan; tick = wordTick word + 1 }
 
--- what orders from a point lead from, and what they lead to
-abbrev pub originOf : Model → (ℕ → ℕ) → Groups → ℕ → Origin
-originOf m x groups word =
-    record {
-      step = wordStep word;
-      at = endOf m x (groups .from) word;
-      value = (wordValue word + groups .turn) % valueSpan;
-      tick = wordTick word + groups .wait;
-    }
+-- from the last tick of a condition to what has the other value; what is not before its first tick is after its last
+abbrev pub lastOrigin : Model → ℕ → Origin
+lastOrigin m word =
+    record { step = wordStep word; at = m .conditionTo (wordNumber word); value = (wordValue word + 1) % valueSpan; tick = wordTick word }
 
--- two groups by their numbers
-abbrev pub groupsAt : List ℕ → End → ℕ → ℕ → ℕ → ℕ → Groups
-groupsAt begins from group other wait turn =
+-- the places of a fact's setters and of its conditions
+abbrev pub factAt : List ℕ → ℕ → ℕ → Fact
+factAt begins facts f =
     record {
-      from = from;
-      low = getD begins group 0;
-      high = getD begins (group + 1) 0;
-      after = getD begins other 0;
-      until = getD begins (other + 1) 0;
-      wait = wait;
-      turn = turn;
+      low = getD begins f 0;
+      high = getD begins (f + 1) 0;
+      after = getD begins (facts + f) 0;
+      until = getD begins (facts + f + 1) 0;
     }
 
 -- the places from low to high hold points of n steps, in the order of their ticks
@@ -90,32 +82,45 @@ Onto x origin word i k gap =
 abbrev pub After : (ℕ → ℕ) → List ℕ → ℕ → ℕ → Origin → ℕ → ℕ → ℕ → Type 0
 After x points low high origin = Among low high (λ q. Onto x origin (getD points q 0))
 
--- the orders from the point at place p of the first group, and from all its points, to those of the second
-abbrev pub From : Model → (ℕ → ℕ) → List ℕ → Groups → ℕ → ℕ → ℕ → ℕ → Type 0
-From m x points groups p = After x points (groups .after) (groups .until) (originOf m x groups (getD points p 0))
+-- the orders from a setter at place p of a fact to its conditions, from a condition to its setters, and from all of them
+abbrev pub SetterOrder : (ℕ → ℕ) → List ℕ → Fact → ℕ → ℕ → ℕ → ℕ → Type 0
+SetterOrder x points fact p = After x points (fact .after) (fact .until) (pointOrigin x 1 (getD points p 0))
 
-abbrev pub Between : Model → (ℕ → ℕ) → List ℕ → Groups → ℕ → ℕ → ℕ → Type 0
-Between m x points groups = Among (groups .low) (groups .high) (From m x points groups)
+abbrev pub ConditionOrder : Model → (ℕ → ℕ) → List ℕ → Fact → ℕ → ℕ → ℕ → ℕ → Type 0
+ConditionOrder m x points fact p = After x points (fact .low) (fact .high) (lastOrigin m (getD points p 0))
 
--- two groups that can be ordered
-pub record GroupsKnown (m : Model) (x : ℕ → ℕ) (points : List ℕ) (groups : Groups) : Type 0 where
-  pub first : Group (m .steps) x points (groups .low) (groups .high)
-  pub second : Group (m .steps) x points (groups .after) (groups .until)
-  pub led : (p : ℕ) → groups .low ≤ p → p < groups .high → endOf m x (groups .from) (getD points p 0) ≤ longest
-  pub few : m .steps ≤ stepLimit
-  pub short : groups .wait ≤ 1
-  pub turned : groups .turn ≤ 1
+abbrev pub FromSetters : (ℕ → ℕ) → List ℕ → Fact → ℕ → ℕ → ℕ → Type 0
+FromSetters x points fact = Among (fact .low) (fact .high) (SetterOrder x points fact)
 
-abbrev pub GroupsRaised : Model → (ℕ → ℕ) → List ℕ → Groups → List ℕ → List ℕ → Type 0
-GroupsRaised m x points groups = Reached (m .steps) (Between m x points groups)
+abbrev pub FromConditions : Model → (ℕ → ℕ) → List ℕ → Fact → ℕ → ℕ → ℕ → Type 0
+FromConditions m x points fact = Among (fact .after) (fact .until) (ConditionOrder m x points fact)
 
--- the walk over the second group: its points before place q are ordered after the origin
-pub record Ordering (x : ℕ → ℕ) (points : List ℕ) (groups : Groups) (origin : Origin) (before : List ℕ) (q : ℕ) (gaps : List ℕ) : Type 0 where
-  pub from : groups .after ≤ q
-  pub upto : q ≤ groups .until
+abbrev pub FactOrder : Model → (ℕ → ℕ) → List ℕ → Fact → ℕ → ℕ → ℕ → Type 0
+FactOrder m x points fact i k gap = FromSetters x points fact i k gap ⊎ FromConditions m x points fact i k gap
+
+-- the orders from the point at place p of a group to later ones of the group, and from all its points
+abbrev pub PointOrder : (ℕ → ℕ) → List ℕ → ℕ → ℕ → ℕ → ℕ → ℕ → ℕ → ℕ → Type 0
+PointOrder x points low high turn p = After x points low high (pointOrigin x turn (getD points p 0))
+
+abbrev pub FromPoints : (ℕ → ℕ) → List ℕ → ℕ → ℕ → ℕ → ℕ → ℕ → ℕ → Type 0
+FromPoints x points low high turn = Among low high (PointOrder x points low high turn)
+
+-- a fact whose setters and conditions are points of n steps
+pub record FactPlaced (n : ℕ) (x : ℕ → ℕ) (points : List ℕ) (fact : Fact) : Type 0 where
+  pub setters : Group n x points (fact .low) (fact .high)
+  pub wanted : Group n x points (fact .after) (fact .until)
+  pub few : n ≤ stepLimit
+
+pub record FactKnown (m : Model) (x : ℕ → ℕ) (points : List ℕ) (fact : Fact) : Type 0 where
+  pub placed : FactPlaced (m .steps) x points fact
+  pub ended : (p : ℕ) → fact .after ≤ p → p < fact .until → m .conditionTo (wordNumber (getD points p 0)) ≤ longest
+
+-- the walk over later points: those before place q are ordered after the origin
+pub record Ordering (x : ℕ → ℕ) (points : List ℕ) (low high : ℕ) (origin : Origin) (before : List ℕ) (q : ℕ) (gaps : List ℕ) : Type 0 where
+  pub from : low ≤ q
+  pub upto : q ≤ high
   pub reached :
-      (n : ℕ) → n ≤ stepLimit → origin .step < n → Group n x points (groups .after) (groups .until)
-      → Reached n (After x points (groups .after) q origin) before gaps
+      (n : ℕ) → n ≤ stepLimit → origin .step < n → Group n x points low high → Reached n (After x points low q origin) before gaps
 
 -- where the lead of a value and step stands
 abbrev pub leadPlace : ℕ → ℕ → ℕ
@@ -144,7 +149,7 @@ pub record Noting (x : ℕ → ℕ) (points : List ℕ) (low high noted t : ℕ)
   pub group : Group rowWidth x points low high
   pub from : low ≤ noted
   pub upto : noted ≤ high
-  pub after : (p : ℕ) → noted ≤ p → p < high → t ≤ tickAt points p
+  pub late : (p : ℕ) → noted ≤ p → p < high → t ≤ tickAt points p
   pub ahead : Leads x points noted high leads
 
 -- the same, and all others are before tick t
@@ -168,13 +173,14 @@ pub record OriginKnown (n : ℕ) (origin : Origin) : Type 0 where
   pub near : origin .at ≤ longest
   pub value : origin .value < valueSpan
 
--- the walk back over the first group: the points from place p on are ordered, and what is noted is ahead of all points before it
-pub record Rowing (m : Model) (x : ℕ → ℕ) (points : List ℕ) (groups : Groups) (before leads : List ℕ) (noted p : ℕ) (gaps : List ℕ) : Type 0 where
-  pub from : groups .low ≤ p
-  pub upto : p ≤ groups .high
-  pub notedFrom : groups .after ≤ noted
-  pub notedUpto : noted ≤ groups .until
-  pub ahead :
-      (r q : ℕ) → groups .low ≤ r → r < p → noted ≤ q → q < groups .until → tickAt points r + groups .wait ≤ tickAt points q
-  pub led : Leads x points noted (groups .until) leads
-  pub reached : Reached (m .steps) (Among p (groups .high) (From m x points groups)) before gaps
+-- the walk back over a range: its points from place p on are ordered before those from low to high, and what is noted of these is ahead of
+-- all its points before p
+pub record Rowing (n : ℕ) (x : ℕ → ℕ) (points : List ℕ) (origin : ℕ → Origin) (begin end low high : ℕ) (before leads : List ℕ) (noted p : ℕ)
+    (gaps : List ℕ) : Type 0 where
+  pub from : begin ≤ p
+  pub upto : p ≤ end
+  pub notedFrom : low ≤ noted
+  pub notedUpto : noted ≤ high
+  pub ahead : (r q : ℕ) → begin ≤ r → r < p → noted ≤ q → q < high → origin (getD points r 0) .tick ≤ tickAt points q
+  pub led : Leads x points noted high leads
+  pub reached : Reached n (Among p end (λ r. After x points low high (origin (getD points r 0)))) before gaps

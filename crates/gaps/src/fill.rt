@@ -1,6 +1,7 @@
 // The table of gaps, filled rule by rule (orders, rules 1 to 5). Of several gaps for one entry the largest stays.
 ghost use mathlib.Core.Path.{_≡_};
-ghost use Prim.Native.Nat.{_+_, _≤_, _<_, min};
+ghost use Prim.Native.Nat.{ℕ, _+_, _≤_, _<_, min};
+ghost use mathlib.Core.List.{List};
 ghost use lib.ListN.{length};
 ghost use Rattle.job.specs.Model.{view};
 ghost use Rattle.job.specs.WellFormed.{WellFormed};
@@ -10,11 +11,13 @@ ghost use Rattle.order_file.specs.Contents.{stepLimit};
 ghost use Rattle.order_file.specs.Table.{gapOfEntry, Gaps};
 ghost use Rattle.gaps.specs.Table.{Fillable, TableOf};
 ghost use Rattle.gaps.specs.Raised.{EntryKnown, Raised, SupportKnown, RaisedByLinks, ValidPoints, serialRow, entryFrom, laterGap};
-ghost use Rattle.gaps.specs.Points.{groupsAt};
-use crate::rows::End;
-use crate::rows::Groups;
+ghost use Rattle.gaps.specs.Points.{factAt};
+use crate::rows::Fact;
+use crate::rows::OTHER;
+use crate::rows::SAME;
 use crate::rows::raise;
-use crate::rows::raise_group;
+use crate::rows::raise_among;
+use crate::rows::raise_conditions;
 use crate::rows::strictly;
 use job::layout::Job;
 use job::records::condition_from;
@@ -67,53 +70,37 @@ fn fill_support(s: &[u8], job: Job, links: &[u16], gaps: &mut [u32])
     }
 }
 
-// Two groups, by their numbers.
-fn groups_at(
-    begins: &[u16],
-    from: End,
-    group: usize,
-    other: usize,
-    wait: usize,
-    turn: u16,
-) -> Groups
-    requires { ⌜ (group + 1 < length (now begins)) × (other + 1 < length (now begins)) ⌝ }
-    ensures { λ r. ⌜ r ≡ groupsAt (now (begins .entry)) from group other wait turn ⌝ }
-{
-    Groups {
-        from,
-        low: begin_at(begins, group),
-        high: begin_at(begins, group + 1),
-        after: begin_at(begins, other),
-        until: begin_at(begins, other + 1),
-        wait,
-        turn,
-    }
-}
-
 // Rule 2 for each fact.
-fn fill_opposing(
-    s: &[u8],
-    job: Job,
-    starts: &[u32],
-    points: &[u64],
-    begins: &[u16],
-    gaps: &mut [u32],
-)
-    requires { ⌜ ValidPoints (view job (now s)) (scheduleOf (now starts)) (now points) (now begins) × Gaps (now gaps) ⌝ }
-    ensures { λ _. ⌜ Raised (job .count .steps) (opposingGap (view job (now (s .entry))) (scheduleOf (now (starts .entry))))
-        (now (gaps .entry)) (now (gaps .exit)) ⌝ }
+fn fill_opposing(job: Job, starts: &[u32], points: &[u64], begins: &[u16], gaps: &mut [u32])
+    requires { ⌜ ((s : List ℕ) × ValidPoints (view job s) (scheduleOf (now starts)) (now points) (now begins) × Gaps (now gaps)) ⌝ }
+    ensures { λ _. ⌜ ((s : List ℕ) → ValidPoints (view job s) (scheduleOf (now (starts .entry))) (now (points .entry)) (now (begins .entry))
+        → Raised (job .count .steps) (opposingGap (view job s) (scheduleOf (now (starts .entry)))) (now (gaps .entry)) (now (gaps .exit))) ⌝ }
 {
     let n = job.count.facts as usize;
+    let steps = job.count.steps as usize;
     let mut f = 0;
     while f < n {
-        let groups = groups_at(begins, End::First, f, f, 1, 1);
-        raise_group(s, job, starts, points, groups, gaps);
+        let low = begin_at(begins, f);
+        let high = begin_at(begins, f + 1);
+        raise_among(steps, starts, points, low, high, OTHER, gaps);
         f += 1;
     }
 }
 
-// Rule 3 for each fact. A condition's last tick is looked for from its first: what opposes it and is not before the one is after the
-// other, as the schedule is valid.
+// The places of fact f, of so many.
+fn fact_at(begins: &[u16], facts: usize, f: usize) -> Fact
+    requires { ⌜ (f < facts) × (facts + facts < length (now begins)) × (facts < 65536) ⌝ }
+    ensures { λ r. ⌜ r ≡ factAt (now (begins .entry)) facts f ⌝ }
+{
+    Fact {
+        low: begin_at(begins, f),
+        high: begin_at(begins, f + 1),
+        after: begin_at(begins, facts + f),
+        until: begin_at(begins, facts + f + 1),
+    }
+}
+
+// Rule 3 for each fact.
 fn fill_conditions(
     s: &[u8],
     job: Job,
@@ -129,28 +116,27 @@ fn fill_conditions(
     let n = job.count.facts as usize;
     let mut f = 0;
     while f < n {
-        let wanted = n + f;
-        let before = groups_at(begins, End::First, f, wanted, 1, 1);
-        raise_group(s, job, starts, points, before, gaps);
-        let after = groups_at(begins, End::Last, wanted, f, 0, 1);
-        raise_group(s, job, starts, points, after, gaps);
+        let fact = fact_at(begins, n, f);
+        raise_conditions(s, job, starts, points, fact, gaps);
         f += 1;
     }
 }
 
 // Rule 4 for each level.
-fn fill_levels(s: &[u8], job: Job, starts: &[u32], points: &[u64], begins: &[u16], gaps: &mut [u32])
-    requires { ⌜ ValidPoints (view job (now s)) (scheduleOf (now starts)) (now points) (now begins) × Gaps (now gaps) ⌝ }
-    ensures { λ _. ⌜ Raised (job .count .steps) (levelGap (view job (now (s .entry))) (scheduleOf (now (starts .entry))))
-        (now (gaps .entry)) (now (gaps .exit)) ⌝ }
+fn fill_levels(job: Job, starts: &[u32], points: &[u64], begins: &[u16], gaps: &mut [u32])
+    requires { ⌜ ((s : List ℕ) × ValidPoints (view job s) (scheduleOf (now starts)) (now points) (now begins) × Gaps (now gaps)) ⌝ }
+    ensures { λ _. ⌜ ((s : List ℕ) → ValidPoints (view job s) (scheduleOf (now (starts .entry))) (now (points .entry)) (now (begins .entry))
+        → Raised (job .count .steps) (levelGap (view job s) (scheduleOf (now (starts .entry)))) (now (gaps .entry)) (now (gaps .exit))) ⌝ }
 {
     let facts = job.count.facts as usize;
     let n = job.count.levels as usize;
+    let steps = job.count.steps as usize;
     let mut l = 0;
     while l < n {
         let used = facts + facts + l;
-        let groups = groups_at(begins, End::First, used, used, 1, 0);
-        raise_group(s, job, starts, points, groups, gaps);
+        let low = begin_at(begins, used);
+        let high = begin_at(begins, used + 1);
+        raise_among(steps, starts, points, low, high, SAME, gaps);
         l += 1;
     }
 }
@@ -271,8 +257,8 @@ pub fn fill_gaps(
     ensures { λ _. ⌜ TableOf (job .count .steps) (gapOf (view job (now (s .entry))) (scheduleOf (now (starts .entry)))) (now (gaps .exit)) ⌝ }
 {
     fill_support(s, job, links, gaps);
-    fill_opposing(s, job, starts, points, begins, gaps);
+    fill_opposing(job, starts, points, begins, gaps);
     fill_conditions(s, job, starts, points, begins, gaps);
-    fill_levels(s, job, starts, points, begins, gaps);
+    fill_levels(job, starts, points, begins, gaps);
     fill_serial(s, job, starts, gaps);
 }

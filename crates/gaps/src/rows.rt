@@ -1,7 +1,7 @@
-// Orders between two groups of points, into the table of gaps: pair by pair, or a whole row of the table for each point of the first
-// group. Going back in time over it, what of the second lies far enough ahead only grows, and of a step only its largest lead matters.
+// Orders between groups of points, into the table of gaps: pair by pair, or a whole row of the table for each point. Going back in time, what
+// lies far enough ahead only grows, and of a step only its largest lead matters.
 ghost use mathlib.Core.Path.{_≡_};
-ghost use Prim.Native.Nat.{ℕ, _≤_, _<_};
+ghost use Prim.Native.Nat.{ℕ, _+_, _≤_, _<_};
 ghost use lib.ListN.{getD};
 ghost use Rattle.job.specs.Model.{view, longest};
 ghost use Rattle.validity.specs.Ticks.{scheduleOf};
@@ -10,7 +10,8 @@ ghost use Rattle.orders.specs.Gaps as spec;
 ghost use Rattle.order_file.specs.Table.{gapOfEntry, Gaps, rowWidth};
 ghost use Rattle.gaps.specs.Table.{single};
 ghost use Rattle.gaps.specs.Raised.{EntryKnown, Raised};
-ghost use Rattle.gaps.specs.Points.{offsetOf, endOf, originOf, OriginKnown, GroupsKnown, Reached, Onto, From, GroupsRaised};
+ghost use Rattle.gaps.specs.Points.{offsetOf, pointOrigin, lastOrigin, OriginKnown, Group, FactPlaced, FactKnown, Reached, Onto, After};
+ghost use Rattle.gaps.specs.Points.{FromSetters, FromConditions, FactOrder, FromPoints};
 ghost use Rattle.gaps.specs.Points.{Notable, Noting, NotedBack, leadsWith, LeadKnown, Ahead};
 ghost use Rattle.order_file.specs.Contents.{stepLimit};
 use job::layout::Job;
@@ -31,25 +32,23 @@ const AT_START: usize = ENTRY_BIAS as usize + 1;
 // A lead for each value and step.
 const LEADS: usize = VALUE_SPAN as usize * WIDTH;
 
+// The lead of a step of which nothing lies ahead.
+const NO_LEAD: u32 = 0;
+
+// From one value of two to the other, or to the same.
+pub const OTHER: u16 = 1;
+
+pub const SAME: u16 = 0;
+
 // From how many points on a row is cheaper than the pairs.
 const MANY: usize = 8;
 
-// What orders lead from: a point's own tick, which is the first of a condition, or the last tick of its condition.
-pub enum End {
-    First,
-    Last,
-}
-
-// Two groups of points: the first from place `low` up to `high`, the second from `after` up to `until`. A point of the second is ordered
-// after one of the first that lies at least `wait` ticks before it and has the other value (`turn` 1) or the same (`turn` 0).
-pub struct Groups {
-    pub from: End,
+// The places of a fact: its setters from `low` up to `high`, its conditions from `after` up to `until`.
+pub struct Fact {
     pub low: usize,
     pub high: usize,
     pub after: usize,
     pub until: usize,
-    pub wait: usize,
-    pub turn: u16,
 }
 
 // What orders lead from, `at` into a step, and which points they lead to: those with a value, from a tick on.
@@ -68,27 +67,29 @@ fn offset_of(starts: &[u32], word: u64) -> usize
     tick_of(word) - start_of(starts, step_of(word))
 }
 
-fn end_of(s: &[u8], job: Job, starts: &[u32], from: End, word: u64) -> usize
-    requires { ⌜ scheduleOf (now starts) (wordStep word) ≤ wordTick word ⌝ }
-    ensures { λ r. ⌜ r ≡ endOf (view job (now (s .entry))) (scheduleOf (now (starts .entry))) from word ⌝ }
+// From a point to later ones of the other value or of the same, by `turn`.
+fn point_origin(starts: &[u32], word: u64, turn: u16) -> Origin
+    requires { ⌜ (scheduleOf (now starts) (wordStep word) ≤ wordTick word) × (turn ≤ 1) ⌝ }
+    ensures { λ r. ⌜ r ≡ pointOrigin (scheduleOf (now (starts .entry))) turn word ⌝ }
 {
-    match from {
-        End::First => offset_of(starts, word),
-        End::Last => condition_to(s, job, number_of(word)),
+    Origin {
+        step: step_of(word),
+        at: offset_of(starts, word),
+        value: (value_of(word) + turn) % VALUE_SPAN as u16,
+        tick: tick_of(word) + 1,
     }
 }
 
-// The origin of the orders from a point of the first group.
-fn origin_of(s: &[u8], job: Job, starts: &[u32], groups: Groups, word: u64) -> Origin
-    requires { ⌜ (scheduleOf (now starts) (wordStep word) ≤ wordTick word) × (groups .wait ≤ 1) × (groups .turn ≤ 1) ⌝ }
-    ensures { λ r. ⌜ r ≡ originOf (view job (now (s .entry))) (scheduleOf (now (starts .entry))) groups word ⌝ }
+// From the last tick of a condition to setters of the other value. They are looked for from its first tick: what opposes it and is not
+// before the one is after the other, as the schedule is valid.
+fn last_origin(s: &[u8], job: Job, word: u64) -> Origin
+    ensures { λ r. ⌜ r ≡ lastOrigin (view job (now (s .entry))) word ⌝ }
 {
-    let from = groups.from;
     Origin {
         step: step_of(word),
-        at: end_of(s, job, starts, from, word),
-        value: (value_of(word) + groups.turn) % VALUE_SPAN as u16,
-        tick: tick_of(word) + groups.wait,
+        at: condition_to(s, job, number_of(word)),
+        value: (value_of(word) + OTHER) % VALUE_SPAN as u16,
+        tick: tick_of(word),
     }
 }
 
@@ -126,38 +127,65 @@ fn raise_onto(starts: &[u32], origin: Origin, word: u64, gaps: &mut [u32])
     }
 }
 
-// Orders the points of the second group after the one at place p.
+// Orders the points from place `low` up to `high` after the origin.
 fn raise_after(
-    s: &[u8],
-    job: Job,
     starts: &[u32],
     points: &[u64],
-    groups: Groups,
-    p: usize,
+    origin: Origin,
+    low: usize,
+    high: usize,
     gaps: &mut [u32],
 )
-    requires { ⌜ GroupsKnown (view job (now s)) (scheduleOf (now starts)) (now points) groups × Gaps (now gaps) × (groups .low ≤ p)
-        × (p < groups .high) ⌝ }
-    ensures { λ _. ⌜ Reached (job .count .steps) (From (view job (now (s .entry))) (scheduleOf (now (starts .entry))) (now (points .entry)) groups p)
-        (now (gaps .entry)) (now (gaps .exit)) ⌝ }
+    requires { ⌜ Gaps (now gaps) × OriginKnown rowWidth origin × Group rowWidth (scheduleOf (now starts)) (now points) low high ⌝ }
+    ensures { λ _. ⌜ ((n : ℕ) → n ≤ stepLimit → origin .step < n → Group n (scheduleOf (now (starts .entry))) (now (points .entry)) low high
+        → Reached n (After (scheduleOf (now (starts .entry))) (now (points .entry)) low high origin) (now (gaps .entry)) (now (gaps .exit))) ⌝ }
 {
-    let origin = origin_of(s, job, starts, groups, points[p]);
-    let mut q = groups.after;
-    while q < groups.until {
+    let mut q = low;
+    while q < high {
         raise_onto(starts, origin, points[q], gaps);
         q += 1;
     }
 }
 
-// Each point of the first group in turn.
-fn raise_pairs(s: &[u8], job: Job, starts: &[u32], points: &[u64], groups: Groups, gaps: &mut [u32])
-    requires { ⌜ GroupsKnown (view job (now s)) (scheduleOf (now starts)) (now points) groups × Gaps (now gaps) ⌝ }
-    ensures { λ _. ⌜ GroupsRaised (view job (now (s .entry))) (scheduleOf (now (starts .entry))) (now (points .entry)) groups (now (gaps .entry))
-        (now (gaps .exit)) ⌝ }
+// Each setter before the later conditions of the other value.
+fn pair_setters(starts: &[u32], points: &[u64], fact: Fact, gaps: &mut [u32])
+    requires { ⌜ Gaps (now gaps) × FactPlaced rowWidth (scheduleOf (now starts)) (now points) fact ⌝ }
+    ensures { λ _. ⌜ ((n : ℕ) → FactPlaced n (scheduleOf (now (starts .entry))) (now (points .entry)) fact
+        → Reached n (FromSetters (scheduleOf (now (starts .entry))) (now (points .entry)) fact) (now (gaps .entry)) (now (gaps .exit))) ⌝ }
 {
-    let mut p = groups.low;
-    while p < groups.high {
-        raise_after(s, job, starts, points, groups, p, gaps);
+    let mut p = fact.low;
+    while p < fact.high {
+        let origin = point_origin(starts, points[p], OTHER);
+        raise_after(starts, points, origin, fact.after, fact.until, gaps);
+        p += 1;
+    }
+}
+
+// Each condition before the later setters of the other value.
+fn pair_conditions(s: &[u8], job: Job, starts: &[u32], points: &[u64], fact: Fact, gaps: &mut [u32])
+    requires { ⌜ FactKnown (view job (now s)) (scheduleOf (now starts)) (now points) fact × Gaps (now gaps) ⌝ }
+    ensures { λ _. ⌜ Reached (job .count .steps)
+        (FromConditions (view job (now (s .entry))) (scheduleOf (now (starts .entry))) (now (points .entry)) fact)
+        (now (gaps .entry)) (now (gaps .exit)) ⌝ }
+{
+    let mut p = fact.after;
+    while p < fact.until {
+        let origin = last_origin(s, job, points[p]);
+        raise_after(starts, points, origin, fact.low, fact.high, gaps);
+        p += 1;
+    }
+}
+
+// Each point before the later ones of the other value or of the same, by `turn`. What stands before it in its group is not later.
+fn pair_among(starts: &[u32], points: &[u64], low: usize, high: usize, turn: u16, gaps: &mut [u32])
+    requires { ⌜ Gaps (now gaps) × Group rowWidth (scheduleOf (now starts)) (now points) low high × (turn ≤ 1) ⌝ }
+    ensures { λ _. ⌜ ((n : ℕ) → n ≤ stepLimit → Group n (scheduleOf (now (starts .entry))) (now (points .entry)) low high
+        → Reached n (FromPoints (scheduleOf (now (starts .entry))) (now (points .entry)) low high turn) (now (gaps .entry)) (now (gaps .exit))) ⌝ }
+{
+    let mut p = low;
+    while p < high {
+        let origin = point_origin(starts, points[p], turn);
+        raise_after(starts, points, origin, p + 1, high, gaps);
         p += 1;
     }
 }
@@ -214,39 +242,105 @@ fn raise_row(n: usize, origin: Origin, leads: &[u32; LEADS], gaps: &mut [u32])
     gaps[row + step] = own;
 }
 
-// Each point of the first group, the latest first, by a row.
-fn raise_rows(s: &[u8], job: Job, starts: &[u32], points: &[u64], groups: Groups, gaps: &mut [u32])
-    requires { ⌜ GroupsKnown (view job (now s)) (scheduleOf (now starts)) (now points) groups × Gaps (now gaps) ⌝ }
-    ensures { λ _. ⌜ GroupsRaised (view job (now (s .entry))) (scheduleOf (now (starts .entry))) (now (points .entry)) groups (now (gaps .entry))
-        (now (gaps .exit)) ⌝ }
+// The same as `pair_setters`, the latest setter first, by a row.
+fn row_setters(n: usize, starts: &[u32], points: &[u64], fact: Fact, gaps: &mut [u32])
+    requires { ⌜ Gaps (now gaps) × FactPlaced n (scheduleOf (now starts)) (now points) fact ⌝ }
+    ensures { λ _. ⌜ Reached n (FromSetters (scheduleOf (now (starts .entry))) (now (points .entry)) fact) (now (gaps .entry)) (now (gaps .exit)) ⌝ }
 {
-    let mut leads = [0u32; LEADS];
-    let mut noted = groups.until;
-    let mut p = groups.high;
-    while groups.low < p {
+    let mut leads = [NO_LEAD; LEADS];
+    let mut noted = fact.until;
+    let mut p = fact.high;
+    while fact.low < p {
         p -= 1;
-        let origin = origin_of(s, job, starts, groups, points[p]);
-        noted = note_from(starts, points, groups.after, noted, origin.tick, &mut leads);
+        let origin = point_origin(starts, points[p], OTHER);
+        noted = note_from(starts, points, fact.after, noted, origin.tick, &mut leads);
+        raise_row(n, origin, &leads, gaps);
+    }
+}
+
+// The same as `pair_conditions`, the latest condition first, by a row.
+fn row_conditions(s: &[u8], job: Job, starts: &[u32], points: &[u64], fact: Fact, gaps: &mut [u32])
+    requires { ⌜ FactKnown (view job (now s)) (scheduleOf (now starts)) (now points) fact × Gaps (now gaps) ⌝ }
+    ensures { λ _. ⌜ Reached (job .count .steps)
+        (FromConditions (view job (now (s .entry))) (scheduleOf (now (starts .entry))) (now (points .entry)) fact)
+        (now (gaps .entry)) (now (gaps .exit)) ⌝ }
+{
+    let mut leads = [NO_LEAD; LEADS];
+    let mut noted = fact.high;
+    let mut p = fact.until;
+    while fact.after < p {
+        p -= 1;
+        let origin = last_origin(s, job, points[p]);
+        noted = note_from(starts, points, fact.low, noted, origin.tick, &mut leads);
         raise_row(job.count.steps as usize, origin, &leads, gaps);
     }
 }
 
-// Orders the points of the first group before those of the second.
-pub fn raise_group(
+// The same as `pair_among`, the latest point first, by a row.
+fn row_among(
+    n: usize,
+    starts: &[u32],
+    points: &[u64],
+    low: usize,
+    high: usize,
+    turn: u16,
+    gaps: &mut [u32],
+)
+    requires { ⌜ Gaps (now gaps) × (n ≤ stepLimit) × Group n (scheduleOf (now starts)) (now points) low high × (turn ≤ 1) ⌝ }
+    ensures { λ _. ⌜ Reached n (FromPoints (scheduleOf (now (starts .entry))) (now (points .entry)) low high turn)
+        (now (gaps .entry)) (now (gaps .exit)) ⌝ }
+{
+    let mut leads = [NO_LEAD; LEADS];
+    let mut noted = high;
+    let mut p = high;
+    while low < p {
+        p -= 1;
+        let origin = point_origin(starts, points[p], turn);
+        noted = note_from(starts, points, low, noted, origin.tick, &mut leads);
+        raise_row(n, origin, &leads, gaps);
+    }
+}
+
+// Rules 2 and 4: the points of a group among themselves.
+pub fn raise_among(
+    n: usize,
+    starts: &[u32],
+    points: &[u64],
+    low: usize,
+    high: usize,
+    turn: u16,
+    gaps: &mut [u32],
+)
+    requires { ⌜ Gaps (now gaps) × (n ≤ stepLimit) × Group n (scheduleOf (now starts)) (now points) low high × (turn ≤ 1) ⌝ }
+    ensures { λ _. ⌜ Reached n (FromPoints (scheduleOf (now (starts .entry))) (now (points .entry)) low high turn)
+        (now (gaps .entry)) (now (gaps .exit)) ⌝ }
+{
+    if high - low < MANY {
+        pair_among(starts, points, low, high, turn, gaps);
+    } else {
+        row_among(n, starts, points, low, high, turn, gaps);
+    }
+}
+
+// Rule 3 of a fact.
+pub fn raise_conditions(
     s: &[u8],
     job: Job,
     starts: &[u32],
     points: &[u64],
-    groups: Groups,
+    fact: Fact,
     gaps: &mut [u32],
 )
-    requires { ⌜ GroupsKnown (view job (now s)) (scheduleOf (now starts)) (now points) groups × Gaps (now gaps) ⌝ }
-    ensures { λ _. ⌜ GroupsRaised (view job (now (s .entry))) (scheduleOf (now (starts .entry))) (now (points .entry)) groups (now (gaps .entry))
-        (now (gaps .exit)) ⌝ }
+    requires { ⌜ FactKnown (view job (now s)) (scheduleOf (now starts)) (now points) fact × Gaps (now gaps) ⌝ }
+    ensures { λ _. ⌜ Reached (job .count .steps)
+        (FactOrder (view job (now (s .entry))) (scheduleOf (now (starts .entry))) (now (points .entry)) fact)
+        (now (gaps .entry)) (now (gaps .exit)) ⌝ }
 {
-    if groups.until - groups.after < MANY {
-        raise_pairs(s, job, starts, points, groups, gaps);
+    if fact.high - fact.low < MANY {
+        pair_setters(starts, points, fact, gaps);
+        pair_conditions(s, job, starts, points, fact, gaps);
     } else {
-        raise_rows(s, job, starts, points, groups, gaps);
+        row_setters(job.count.steps as usize, starts, points, fact, gaps);
+        row_conditions(s, job, starts, points, fact, gaps);
     }
 }

@@ -6,9 +6,9 @@ use borrow.Author.Needs.{needs}
 use denote.Ref.{now}
 use Rattle.job.specs.Model.{view}
 use Rattle.validity.specs.Ticks.{scheduleOf}
-use Rattle.gaps.specs.Points.{Reached, Among}
-use Rattle.gaps.proofs.Reached.{reached-either, within-up, within-all, within-empty}
-use Rattle.gaps.proofs.Rules.{ConditionOrder, given-known, given-reached, before-known, after-known, conditions-raised}
+use Rattle.gaps.specs.Points.{factAt, FactOrder, Reached, Among}
+use Rattle.gaps.proofs.Reached.{within-up, within-all, within-empty}
+use Rattle.gaps.proofs.Rules.{given-known, given-reached, fact-known, conditions-raised}
 use Rattle.gaps.proofs.fill.fill_conditions.Statement.{statement}
 use Rattle.gaps.proofs.fill.fill_conditions.Tie as tie
 
@@ -17,59 +17,36 @@ fill-conditions-spec =
     tie.close
     (tie.spec
     (λ s job starts points begins gaps₀ n f₀ gaps f. (f ≤ n) × Reached (job .count .steps)
-    (Among 0 f (ConditionOrder (view job s) (scheduleOf starts) points begins)) gaps₀ gaps)
+    (Among 0 f (λ g. FactOrder (view job s) (scheduleOf starts) points (factAt begins (job .count .facts) g))) gaps₀ gaps)
     (λ s job starts points begins gaps₀ n f₀ gaps f. n - f)
     (λ c. search needs)
     (λ c. (omega arith, within-empty _ _ _ _ _ (omega arith)))
-    (λ c.
-    let d = c .before .before .before .before .before .before .before .before in
-    omega (arith, c .loop-test .taken, d .pre .0 .form .factCount))
     (λ c κs.
     let d = c .before .before .before .before .before .before .before .before in
-    let room = d .pre .0 .known .room in
-    (omega (arith, room, c .loop-test .taken), omega (arith, room, c .loop-test .taken)))
+    (c .loop-test .taken, omega (arith, d .pre .0 .known .room), omega (arith, d .pre .0 .form .factCount)))
     (λ c κs.
     let made = c .before in
     let test = made .before in
     let l = test .before in
-    let d = l .before .before .before .before .before .before .before in
-    (given-known (made .groups-at .ensures) (before-known (d .pre .0) _ (test .loop-test .taken)), l .loop .inv .1 .whole (d .pre .1)))
-    (λ c κs.
-    let test = c .before .before .before .before .before in
-    let d = test .before .before .before .before .before .before .before .before in
-    let room = d .pre .0 .known .room in
-    (omega (arith, room, test .loop-test .taken), omega (arith, room, test .loop-test .taken)))
-    (λ c κs.
-    let made = c .before in
-    let raised = made .before .before .before in
-    let test = raised .before .before .before in
-    let l = test .before in
     let d = l .before .before .before .before .before .before .before in (
-      given-known (made .groups-at2 .ensures) (after-known (d .pre .0) _ (test .loop-test .taken)),
-      raised .raise-group .ensures .whole (l .loop .inv .1 .whole (d .pre .1)),
+      given-known (made .fact-at .ensures) (fact-known (d .pre .0) _ (test .loop-test .taken)),
+      l .loop .inv .1 .whole (d .pre .1),
     ))
     (λ c.
-    let test = c .before .before .before .before .before .before .before .before .before .before in
+    let test = c .before .before .before .before .before in
     let d = test .before .before .before .before .before .before .before .before in
     omega (arith, test .loop-test .taken, d .pre .0 .form .factCount))
+    (λ c. omega (arith, c .before .before .before .before .before .loop-test .taken))
     (λ c.
-    let test = c .before .before .before .before .before .before .before .before .before .before in
-    omega (arith, test .loop-test .taken))
-    (λ c.
-    let second = c .before .before in
-    let after = second .before .before in
-    let first = after .before .before .before in
-    let before = first .before .before in
-    let test = before .before in
+    let raised = c .before .before in
+    let made = raised .before .before in
+    let test = made .before in
     let l = test .before in
-    let d = l .before .before .before .before .before .before .before in
-    let a = d .args in
-    let m = view (a .job) (now (a .s)) in
-    let x = scheduleOf (now (a .starts)) in (
+    let a = l .before .before .before .before .before .before .before .args in (
       omega (arith, test .loop-test .taken),
       within-up _ _ _ _ _ _ _ (omega arith) (l .loop .inv .1)
-          (reached-either _ _ _ _ _ _ (given-reached (before .groups-at .ensures) _ m x (now (a .points)) _ _ (first .raise-group .ensures))
-          (given-reached (after .groups-at2 .ensures) _ m x (now (a .points)) _ _ (second .raise-group2 .ensures))),
+          (given-reached (made .fact-at .ensures) _ (view (a .job) (now (a .s))) (scheduleOf (now (a .starts))) (now (a .points)) _ _
+          (raised .raise-conditions .ensures)),
     ))
     (λ c.
     let l = c .before in

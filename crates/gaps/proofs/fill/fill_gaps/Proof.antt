@@ -1,6 +1,8 @@
 -- The rules one after the other.
 use native.Mathlib.Omega.{arith}
+use denote.Ref.{now}
 use Rattle.orders.specs.Gaps.{gapOf}
+use Rattle.gaps.specs.Raised.{ValidPoints}
 use Rattle.links.proofs.LinkList.{valid-named}
 use Rattle.gaps.proofs.Raised.{raised-then, empty-gaps, table-of}
 use Rattle.gaps.proofs.fill.fill_gaps.Statement.{statement}
@@ -26,27 +28,29 @@ fill-gaps-spec =
     let w = d .pre in
     let none = empty-gaps _ (w .size) (w .empty) in
     let whole1 = support .fill-support .ensures _ (w .linked) .whole none in
-    (record { form = w .form; known = w .known; valid = w .valid }, whole1))
+    (now (d .args .s), record { form = w .form; known = w .known; valid = w .valid }, whole1))
     (λ c κs.
     let opposing = c .before .before .before in
     let support = opposing .before .before .before .before in
     let d = support .before .before .before .before .before .before .before .before in
     let w = d .pre in
+    let known : ValidPoints _ _ _ _ = record { form = w .form; known = w .known; valid = w .valid } in
     let none = empty-gaps _ (w .size) (w .empty) in
     let whole1 = support .fill-support .ensures _ (w .linked) .whole none in
-    let whole2 = opposing .fill-opposing .ensures .whole whole1 in
-    (record { form = w .form; known = w .known; valid = w .valid }, whole2))
+    let whole2 = opposing .fill-opposing .ensures _ known .whole whole1 in
+    (known, whole2))
     (λ c κs.
     let conditions = c .before .before .before in
     let opposing = conditions .before .before .before .before in
     let support = opposing .before .before .before .before in
     let d = support .before .before .before .before .before .before .before .before in
     let w = d .pre in
+    let known : ValidPoints _ _ _ _ = record { form = w .form; known = w .known; valid = w .valid } in
     let none = empty-gaps _ (w .size) (w .empty) in
     let whole1 = support .fill-support .ensures _ (w .linked) .whole none in
-    let whole2 = opposing .fill-opposing .ensures .whole whole1 in
+    let whole2 = opposing .fill-opposing .ensures _ known .whole whole1 in
     let whole3 = conditions .fill-conditions .ensures .whole whole2 in
-    (record { form = w .form; known = w .known; valid = w .valid }, whole3))
+    (now (d .args .s), known, whole3))
     (λ c κs.
     let levels = c .before .before .before in
     let conditions = levels .before .before .before .before in
@@ -54,11 +58,12 @@ fill-gaps-spec =
     let support = opposing .before .before .before .before in
     let d = support .before .before .before .before .before .before .before .before in
     let w = d .pre in
+    let known : ValidPoints _ _ _ _ = record { form = w .form; known = w .known; valid = w .valid } in
     let none = empty-gaps _ (w .size) (w .empty) in
     let whole1 = support .fill-support .ensures _ (w .linked) .whole none in
-    let whole2 = opposing .fill-opposing .ensures .whole whole1 in
+    let whole2 = opposing .fill-opposing .ensures _ known .whole whole1 in
     let whole3 = conditions .fill-conditions .ensures .whole whole2 in
-    let whole4 = levels .fill-levels .ensures .whole whole3 in
+    let whole4 = levels .fill-levels .ensures _ known .whole whole3 in
     (w .form, whole4))
     (λ c.
     let serial = c .before .before in
@@ -68,11 +73,12 @@ fill-gaps-spec =
     let support = opposing .before .before .before .before in
     let d = support .before .before .before .before .before .before .before .before in
     let w = d .pre in
+    let known : ValidPoints _ _ _ _ = record { form = w .form; known = w .known; valid = w .valid } in
     let none = empty-gaps _ (w .size) (w .empty) in
     let whole1 = support .fill-support .ensures _ (w .linked) .whole none in
-    let whole2 = opposing .fill-opposing .ensures .whole whole1 in
+    let whole2 = opposing .fill-opposing .ensures _ known .whole whole1 in
     let whole3 = conditions .fill-conditions .ensures .whole whole2 in
-    let whole4 = levels .fill-levels .ensures .whole whole3 in
+    let whole4 = levels .fill-levels .ensures _ known .whole whole3 in
     let whole5 = serial .fill-serial .ensures .whole whole4 in
     omega (arith, whole5 .size, w .size))
     (λ c.
@@ -83,9 +89,10 @@ fill-gaps-spec =
     let support = opposing .before .before .before .before in
     let d = support .before .before .before .before .before .before .before .before in
     let w = d .pre in
+    let known : ValidPoints _ _ _ _ = record { form = w .form; known = w .known; valid = w .valid } in
     table-of _ _ _ _
     (raised-then _ _ _ _ _ _
     (raised-then _ _ _ _ _ _
     (raised-then _ _ _ _ _ _
-    (raised-then _ _ _ _ _ _ (support .fill-support .ensures _ (w .linked)) (opposing .fill-opposing .ensures))
-    (conditions .fill-conditions .ensures)) (levels .fill-levels .ensures)) (serial .fill-serial .ensures)) (w .size) (w .empty)))
+    (raised-then _ _ _ _ _ _ (support .fill-support .ensures _ (w .linked)) (opposing .fill-opposing .ensures _ known))
+    (conditions .fill-conditions .ensures)) (levels .fill-levels .ensures _ known)) (serial .fill-serial .ensures)) (w .size) (w .empty)))
