@@ -333,7 +333,8 @@ module _ (s : List ℕ) {r : Verdict} (e : r ≡ formCheck s) where
   outcome : (number r ≡ 0) ⊎ ((j : ℕ) × FirstRefuses (formStep s) 7 j × (r ≡ formStep s j) × (number r ≡ suc j))
   outcome =
       ⊎-elim
-      (λ (a : (number (inTurn (formStep s) 7) ≡ 0) × ((k : ℕ) → k < 7 → number (formStep s k) ≡ 0)). inl (ap number (e ∙ form-in-turn s) ∙ a .0))
+      (λ (a : (number (inTurn (formStep s) 7) ≡ 0) × ((k : ℕ) → k < 7 → number (formStep s k) ≡ 0)). inl
+      (ap number (e ∙ form-in-turn s) ∙ a .0))
       (λ (a : (j : ℕ) × FirstRefuses (formStep s) 7 j).
       let q = e ∙ form-in-turn s ∙ a .1 .verdict in
       inr (a .0, a .1, q, ap number q ∙ form-own s (a .0) (a .1 .below) (a .1 .refuses)))

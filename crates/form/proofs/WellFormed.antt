@@ -194,7 +194,8 @@ module _ (m : Model) (ok : (t : Table) (k : ℕ) → k < countIn m t → recordO
   no-opposes-own = omega arith
 
   later-agrees :
-      (e f : ℕ) → e < m .effects → f < e → m .effectStep e ≡ m .effectStep f → m .effectFact e ≡ m .effectFact f → m .effectAt e ≡ m .effectAt f
+      (e f : ℕ) → e < m .effects → f < e → m .effectStep e ≡ m .effectStep f → m .effectFact e ≡ m .effectFact f
+      → m .effectAt e ≡ m .effectAt f
       → m .effectValue e ≡ m .effectValue f
   unfolding bothWaysStep setBefore bothWays
   later-agrees e f h g s t a =
@@ -214,14 +215,18 @@ module _ (m : Model) (ok : (t : Table) (k : ℕ) → k < countIn m t → recordO
       (λ l. later-agrees e f h l s t a)
       (λ q. ap (m .effectValue) q)
 
-  no-later-use : (u v : ℕ) → u < m .uses → v < u → m .useStep u ≡ m .useStep v → m .useLevel u ≡ m .useLevel v → m .useAt u ≡ m .useAt v → ⊥
+  no-later-use :
+      (u v : ℕ) → u < m .uses → v < u → m .useStep u ≡ m .useStep v → m .useLevel u ≡ m .useLevel v → m .useAt u ≡ m .useAt v
+      → ⊥
   unfolding usesTwiceStep usedBefore usesTwice
   no-later-use u v h g s t a =
       contrary
       (ap₂ _&&_ (ap₂ _&&_ (eq-eqb _ _ s) (eq-eqb _ _ t)) (eq-eqb _ _ a))
       (any-false (usesTwice m u) u (owner-none (m .steps) (m .useStep) (usedBefore m) (m .uses) no-uses-twice u h (use-in m u (ok Uses u h) .0)) v g)
 
-  one-use : (u v : ℕ) → u < m .uses → v < m .uses → m .useStep u ≡ m .useStep v → m .useLevel u ≡ m .useLevel v → m .useAt u ≡ m .useAt v → u ≡ v
+  one-use :
+      (u v : ℕ) → u < m .uses → v < m .uses → m .useStep u ≡ m .useStep v → m .useLevel u ≡ m .useLevel v → m .useAt u ≡ m .useAt v
+      → u ≡ v
   one-use u v h g s t a =
       by-order u v
       (λ l. absurd (no-later-use v u g l (sym s) (sym t) (sym a)))
@@ -229,7 +234,8 @@ module _ (m : Model) (ok : (t : Table) (k : ℕ) → k < countIn m t → recordO
       (λ q. q)
 
   keeps-own :
-      (e c : ℕ) → e < m .effects → c < m .conditions → m .effectStep e ≡ m .conditionStep c → m .effectFact e ≡ m .conditionFact c → m .conditionFrom
+      (e c : ℕ) → e < m .effects → c < m .conditions → m .effectStep e ≡ m .conditionStep c → m .effectFact e ≡ m .conditionFact c
+      → m .conditionFrom
       c ≤ m .effectAt e → m .effectAt e < m .conditionTo c → m .effectValue e ≡ m .conditionValue c
   unfolding opposesOwnStep opposesAny opposesOwn
   keeps-own e c h g s t a b =

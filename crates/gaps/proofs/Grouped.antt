@@ -84,7 +84,8 @@ module _ (origin : Origin) (word : ℕ) {v t : ℕ} (value : v ≡ wordValue wor
 
 -- The order to a point, made or not.
 module _ (n : ℕ) (x : ℕ → ℕ) (origin : Origin) (word : ℕ) where
-  pub onto-none : (gaps : List ℕ) → (wordValue word ≡ origin .value → origin .tick ≤ wordTick word → ⊥) → Reached n (Onto x origin word) gaps gaps
+  pub onto-none :
+      (gaps : List ℕ) → (wordValue word ≡ origin .value → origin .tick ≤ wordTick word → ⊥) → Reached n (Onto x origin word) gaps gaps
   onto-none gaps d = reached-none n (Onto x origin word) gaps (λ i k gap o. d (o .0) (o .1))
 
   pub onto-one :
@@ -375,7 +376,8 @@ module _ (origin : Origin) (leads before : List ℕ) where
 
   -- the step's own entry put back, the row is raised to the orders of the leads
   pub rowed-reached :
-      (n k : ℕ) (now : List ℕ) {own : ℕ} → n ≤ stepLimit → OriginKnown n origin → ((j : ℕ) → LeadKnown (getD leads j 0)) → length before ≡ tableSize
+      (n k : ℕ) (now : List ℕ) {own : ℕ} → n ≤ stepLimit → OriginKnown n origin → ((j : ℕ) → LeadKnown (getD leads j 0))
+      → length before ≡ tableSize
       → own ≡ getD before (rowWidth * origin .step + origin .step) 0
       → k ≤ n
       → n ≤ k

@@ -44,7 +44,9 @@ joins a b c d e true p q = omega arith
 joins a b c d e false p q = omega arith
 
 -- A table that is high enough stays as it is.
-raised-still : (n : ℕ) (f : ℕ → ℕ → ℕ) (gaps : List ℕ) → ((i k : ℕ) → (i ≡ k → ⊥) → f i k ≤ gapIn gaps i k) → Raised n f gaps gaps
+raised-still :
+    (n : ℕ) (f : ℕ → ℕ → ℕ) (gaps : List ℕ) → ((i k : ℕ) → (i ≡ k → ⊥) → f i k ≤ gapIn gaps i k)
+    → Raised n f gaps gaps
 raised-still n f gaps high =
     record {
       whole = λ g. g;
@@ -159,7 +161,8 @@ module _ (n : ℕ) (f g : ℕ → ℕ → ℕ) (before : List ℕ) where
 
 -- by one order, which f names
 pub raised-one :
-    (n : ℕ) (f : ℕ → ℕ → ℕ) (a b gap : ℕ) (before after : List ℕ) → n ≤ stepLimit → a < n → b < n → Raised rowWidth (single a b gap) before after
+    (n : ℕ) (f : ℕ → ℕ → ℕ) (a b gap : ℕ) (before after : List ℕ) → n ≤ stepLimit → a < n → b < n
+    → Raised rowWidth (single a b gap) before after
     → ((i k : ℕ) → single a b gap i k ≡ f i k)
     → Raised n f before after
 raised-one n f a b gap before after m h l w e =

@@ -10,6 +10,7 @@ use Rattle.timeline.specs.Placed.{Parted}
 use Rattle.orders.specs.Gaps.{strictly}
 use Rattle.gaps.specs.declared.rows.Fact.{Fact}
 use Rattle.gaps.specs.declared.rows.Origin.{Origin}
+use Rattle.gaps.specs.declared.rows.Span.{Span}
 use Rattle.order_file.specs.Table.{gapIn, gapOfEntry, Gaps, rowWidth, entryBias, tableBias}
 use Rattle.order_file.specs.Contents.{stepLimit}
 
@@ -104,6 +105,11 @@ PointOrder x points low high turn p = After x points low high (pointOrigin x tur
 
 abbrev pub FromPoints : (ℕ → ℕ) → List ℕ → ℕ → ℕ → ℕ → ℕ → ℕ → ℕ → Type 0
 FromPoints x points low high turn = Among low high (PointOrder x points low high turn)
+
+-- the orders from the points of the first places to later ones of the second
+abbrev pub FromTo : (ℕ → ℕ) → List ℕ → Span → Span → ℕ → ℕ → ℕ → ℕ → Type 0
+FromTo x points first second turn =
+    Among (first .low) (first .high) (λ p. After x points (second .low) (second .high) (pointOrigin x turn (getD points p 0)))
 
 -- a fact whose setters and conditions are points of n steps
 pub record FactPlaced (n : ℕ) (x : ℕ → ℕ) (points : List ℕ) (fact : Fact) : Type 0 where

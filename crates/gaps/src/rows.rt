@@ -11,7 +11,7 @@ ghost use Rattle.order_file.specs.Table.{gapOfEntry, Gaps, rowWidth};
 ghost use Rattle.gaps.specs.Table.{single};
 ghost use Rattle.gaps.specs.Raised.{EntryKnown, Raised};
 ghost use Rattle.gaps.specs.Points.{offsetOf, pointOrigin, lastOrigin, OriginKnown, Group, FactPlaced, FactKnown, Reached, Onto, After};
-ghost use Rattle.gaps.specs.Points.{FromSetters, FromConditions, FactOrder, FromPoints};
+ghost use Rattle.gaps.specs.Points.{FromTo, FromSetters, FromConditions, FactOrder, FromPoints};
 ghost use Rattle.gaps.specs.Points.{Notable, Noting, NotedBack, leadsWith, LeadKnown, Ahead};
 ghost use Rattle.order_file.specs.Contents.{stepLimit};
 use job::layout::Job;
@@ -49,6 +49,12 @@ pub struct Fact {
     pub high: usize,
     pub after: usize,
     pub until: usize,
+}
+
+// Places from `low` up to `high`.
+pub struct Span {
+    pub low: usize,
+    pub high: usize,
 }
 
 // What orders lead from, `at` into a step, and which points they lead to: those with a value, from a tick on.
@@ -242,18 +248,30 @@ fn raise_row(n: usize, origin: Origin, leads: &[u32; LEADS], gaps: &mut [u32])
     gaps[row + step] = own;
 }
 
-// The same as `pair_setters`, the latest setter first, by a row.
-fn row_setters(n: usize, starts: &[u32], points: &[u64], fact: Fact, gaps: &mut [u32])
-    requires { ⌜ Gaps (now gaps) × FactPlaced n (scheduleOf (now starts)) (now points) fact ⌝ }
-    ensures { λ _. ⌜ Reached n (FromSetters (scheduleOf (now (starts .entry))) (now (points .entry)) fact) (now (gaps .entry)) (now (gaps .exit)) ⌝ }
+// Each point of the first places before the later ones of the second that have the other value or the same, by `turn`: the latest point
+// first, by a row.
+fn row_points(
+    n: usize,
+    starts: &[u32],
+    points: &[u64],
+    first: Span,
+    second: Span,
+    turn: u16,
+    gaps: &mut [u32],
+)
+    requires { ⌜ Gaps (now gaps) × (n ≤ stepLimit) × Group n (scheduleOf (now starts)) (now points) (first .low) (first .high)
+        × Group n (scheduleOf (now starts)) (now points) (second .low) (second .high)
+        × (turn ≤ 1) ⌝ }
+    ensures { λ _. ⌜ Reached n (FromTo (scheduleOf (now (starts .entry))) (now (points .entry)) first second turn)
+        (now (gaps .entry)) (now (gaps .exit)) ⌝ }
 {
     let mut leads = [NO_LEAD; LEADS];
-    let mut noted = fact.until;
-    let mut p = fact.high;
-    while fact.low < p {
+    let mut noted = second.high;
+    let mut p = first.high;
+    while first.low < p {
         p -= 1;
-        let origin = point_origin(starts, points[p], OTHER);
-        noted = note_from(starts, points, fact.after, noted, origin.tick, &mut leads);
+        let origin = point_origin(starts, points[p], turn);
+        noted = note_from(starts, points, second.low, noted, origin.tick, &mut leads);
         raise_row(n, origin, &leads, gaps);
     }
 }
@@ -276,31 +294,6 @@ fn row_conditions(s: &[u8], job: Job, starts: &[u32], points: &[u64], fact: Fact
     }
 }
 
-// The same as `pair_among`, the latest point first, by a row.
-fn row_among(
-    n: usize,
-    starts: &[u32],
-    points: &[u64],
-    low: usize,
-    high: usize,
-    turn: u16,
-    gaps: &mut [u32],
-)
-    requires { ⌜ Gaps (now gaps) × (n ≤ stepLimit) × Group n (scheduleOf (now starts)) (now points) low high × (turn ≤ 1) ⌝ }
-    ensures { λ _. ⌜ Reached n (FromPoints (scheduleOf (now (starts .entry))) (now (points .entry)) low high turn)
-        (now (gaps .entry)) (now (gaps .exit)) ⌝ }
-{
-    let mut leads = [NO_LEAD; LEADS];
-    let mut noted = high;
-    let mut p = high;
-    while low < p {
-        p -= 1;
-        let origin = point_origin(starts, points[p], turn);
-        noted = note_from(starts, points, low, noted, origin.tick, &mut leads);
-        raise_row(n, origin, &leads, gaps);
-    }
-}
-
 // Rules 2 and 4: the points of a group among themselves.
 pub fn raise_among(
     n: usize,
@@ -318,7 +311,8 @@ pub fn raise_among(
     if high - low < MANY {
         pair_among(starts, points, low, high, turn, gaps);
     } else {
-        row_among(n, starts, points, low, high, turn, gaps);
+        let group = Span { low, high };
+        row_points(n, starts, points, group, group, turn, gaps);
     }
 }
 
@@ -340,7 +334,16 @@ pub fn raise_conditions(
         pair_setters(starts, points, fact, gaps);
         pair_conditions(s, job, starts, points, fact, gaps);
     } else {
-        row_setters(job.count.steps as usize, starts, points, fact, gaps);
+        let n = job.count.steps as usize;
+        let setters = Span {
+            low: fact.low,
+            high: fact.high,
+        };
+        let wanted = Span {
+            low: fact.after,
+            high: fact.until,
+        };
+        row_points(n, starts, points, setters, wanted, OTHER, gaps);
         row_conditions(s, job, starts, points, fact, gaps);
     }
 }

@@ -54,7 +54,8 @@ pub record WellFormed (m : Model) : Type 0 where
       → m .effectAt e ≡ m .effectAt f
       → m .effectValue e ≡ m .effectValue f
   pub oneUse :
-      (u v : ℕ) → u < m .uses → v < m .uses → m .useStep u ≡ m .useStep v → m .useLevel u ≡ m .useLevel v → m .useAt u ≡ m .useAt v → u ≡ v
+      (u v : ℕ) → u < m .uses → v < m .uses → m .useStep u ≡ m .useStep v → m .useLevel u ≡ m .useLevel v → m .useAt u ≡ m .useAt v
+      → u ≡ v
   pub keepsOwn :
       (e c : ℕ) → e < m .effects → c < m .conditions → m .effectStep e ≡ m .conditionStep c → m .effectFact e ≡ m .conditionFact c
       → m .conditionFrom c ≤ m .effectAt e

@@ -24,13 +24,17 @@ use Rattle.orders.proofs.Planned.{planned-obeys}
 use Rattle.order_file.specs.Table.{rowWidth, tableSize}
 
 module _ (m : Model) (x : ℕ → ℕ) where
-  ordered-in : (i k q : ℕ) → q / rowWidth ≡ i → q % rowWidth ≡ k → i < m .steps → k < m .steps → (gapOf m x i k ≡ 0 → ⊥) → ordered m x q ≡ true
+  ordered-in :
+      (i k q : ℕ) → q / rowWidth ≡ i → q % rowWidth ≡ k → i < m .steps → k < m .steps → (gapOf m x i k ≡ 0 → ⊥)
+      → ordered m x q ≡ true
   unfolding ordered
   ordered-in i k q a b h g n =
       rw (a, b) (ap₂ _&&_ (ap₂ _&&_ (lt-ltb _ _ h) (lt-ltb _ _ g)) (ap not (ne-eqb _ _ n)))
 
   -- what a pair that is ordered has
-  pub ordered-out : (q : ℕ) → ordered m x q ≡ true → (q / rowWidth < m .steps) × (q % rowWidth < m .steps) × (gapOf m x (q / rowWidth) (q % rowWidth) ≡ 0 → ⊥)
+  pub ordered-out :
+      (q : ℕ) → ordered m x q ≡ true → (q / rowWidth < m .steps) × (q % rowWidth < m .steps)
+      × (gapOf m x (q / rowWidth) (q % rowWidth) ≡ 0 → ⊥)
   unfolding ordered
   ordered-out q e =
       let b = and-both _ _ e in
@@ -90,7 +94,9 @@ module _ (m : Model) (x : ℕ → ℕ) where
         }
 
 -- an order that is kept demands no more than is given
-demand-kept : (gap : ℕ → ℕ → ℕ) (i k : ℕ) (y : ℕ → ℕ) → ((gap i k ≡ 0 → ⊥) → y i + gap i k ≤ y k + gapBias) → demand gap gapBias i k (y i) ≤ y k
+demand-kept :
+    (gap : ℕ → ℕ → ℕ) (i k : ℕ) (y : ℕ → ℕ) → ((gap i k ≡ 0 → ⊥) → y i + gap i k ≤ y k + gapBias)
+    → demand gap gapBias i k (y i) ≤ y k
 unfolding demand
 demand-kept gap i k y h =
     elim (ℕ-discrete (gap i k) 0) [
@@ -98,7 +104,9 @@ demand-kept gap i k y h =
       | no z ↦ rw (ne-eqb _ _ z) (omega (arith, h z))
     ]
 
-kept-demand : (gap : ℕ → ℕ → ℕ) (i k : ℕ) (y : ℕ → ℕ) → demand gap gapBias i k (y i) ≤ y k → (gap i k ≡ 0 → ⊥) → y i + gap i k ≤ y k + gapBias
+kept-demand :
+    (gap : ℕ → ℕ → ℕ) (i k : ℕ) (y : ℕ → ℕ) → demand gap gapBias i k (y i) ≤ y k → (gap i k ≡ 0 → ⊥)
+    → y i + gap i k ≤ y k + gapBias
 unfolding demand
 kept-demand gap i k y h z = let g = rw (ne-eqb _ _ z) at h in omega arith
 

@@ -31,7 +31,8 @@ module _ (m : Model) (x : ℕ → ℕ) (w : WellFormed m) where
   gap-filed : (i k : ℕ) → i < m .steps → k < m .steps → filedGap (fileOf m x) i k ≡ gapOf m x i k
   unfolding filedGap fileOf
   gap-filed i k h g =
-      let f : ℕ → ℕ = λ o. single (pairOf m x o / rowWidth) (pairOf m x o % rowWidth) (gapOf m x (pairOf m x o / rowWidth) (pairOf m x o % rowWidth)) i k in
+      let f : ℕ → ℕ = λ o. single (pairOf m x o / rowWidth) (pairOf m x o % rowWidth)
+      (gapOf m x (pairOf m x o / rowWidth) (pairOf m x o % rowWidth)) i k in
       let n : ℕ = count tableSize (ordered m x) in
       let most : largest n f ≤ gapOf m x i k =
       largest-le f n (gapOf m x i k) (λ o _. single-le n (gapOf m x) i k (pairOf m x o / rowWidth) (pairOf m x o % rowWidth))

@@ -73,7 +73,8 @@ module _ (m : Model) (x : ℕ → ℕ) (w : WellFormed m) (found : ℕ) (limits 
       sym (length-encode (heldIn (m .steps) (m .conditions + m .goals) found limits latest early gaps linked))
       ∙ ap length (held-file m x w found limits latest early gaps linked holds)
 
-  pub written-short : (n : ℕ) (before : List ℕ) → n ≡ length (encode (fileOf m x)) → length before < n → Filing (fileOf m x) before before BufferTooShort
+  pub written-short :
+      (n : ℕ) (before : List ℕ) → n ≡ length (encode (fileOf m x)) → length before < n → Filing (fileOf m x) before before BufferTooShort
   written-short n before e h =
       let f = lt-leb (length (encode (fileOf m x))) (length before) (omega arith) in
       record { answer = simp f; buffer = simp f }

@@ -54,7 +54,8 @@ pub record Held (P : ℕ → Type 0) (g : ℕ) (tick value step : ℕ → ℕ) (
   pub given : (j : ℕ) → j < n → groupAt list j ≡ g → (k : ℕ) × P k × Made (getD list j 0) g (tick k) k (value k) (step k)
   pub listed : (k : ℕ) → P k → (j : ℕ) × (j < n) × Made (getD list j 0) g (tick k) k (value k) (step k)
 
-module _ {P : ℕ → Type 0} {g : ℕ} {tick value step : ℕ → ℕ} {n groups : ℕ} {list points begins : List ℕ} (held : Held P g tick value step n list)
+module _ {P : ℕ → Type 0} {g : ℕ} {tick value step : ℕ → ℕ} {n groups : ℕ} {list points begins : List ℕ}
+    (held : Held P g tick value step n list)
     (distinct : Distinct n list) (same : Rearranged n list points) (grouped : Grouped n groups points begins) (counted : g < groups)
     (room : n ≤ length points) where
   -- the record at a place of the group

@@ -5,10 +5,13 @@ use Prim.Native.String.{String, [] as []ˢ, _∷_ as _∷ˢ_}
 use mathlib.Core.Path.{_≡_}
 use mathlib.Core.List.{List, [], _∷_, _++_}
 use lib.ListN.{length}
+use Rattle.little_endian.specs.Bytes.{u16Bytes, u32Bytes}
+use Rattle.order_file.specs.Contents.{noLatest, initialState}
 use Rattle.order_file.specs.Held.{over}
-use Rattle.orders.specs.Starred.{goal, small, nothing, levelled, serially}
+use Rattle.orders.specs.Starred.{goal, small, nothing, levelled, serially, negative}
 use Rattle.partialize.specs.declared.answer.Answer.the-variants.{BufferTooShort}
 use Rattle.partialize.specs.Answer as answer
+use Rattle.verdict.specs.Verdict.{nowhere}
 use Rattle.partialize.specs.Partialization.{answerTo, bufferAfter}
 use Rattle.sheet.specs.Text.{newline}
 use Rattle.printout.specs.Shown.{shown}
@@ -45,6 +48,21 @@ unfoldable pub lines : List String → List ℕ
 lines [] = []
 lines (l ∷ ls) = codes l ++ newline ++ lines ls
 
+-- the parts of an order file, "The order file": its windows begin at byte 24
+abbrev pub header : ℕ → ℕ → ℕ → ℕ → ℕ → ℕ → List ℕ
+header steps orders links rounds ordersFrom linksFrom =
+    u16Bytes 1 ++ u16Bytes steps ++ u16Bytes orders ++ u16Bytes links
+    ++ u32Bytes rounds ++ u32Bytes 24 ++ u32Bytes ordersFrom ++ u32Bytes linksFrom
+
+abbrev pub window : ℕ → ℕ → ℕ → List ℕ
+window limit latest earliest = u32Bytes limit ++ u32Bytes latest ++ u32Bytes earliest
+
+abbrev pub order : ℕ → ℕ → ℕ → List ℕ
+order first second gap = u16Bytes first ++ u16Bytes second ++ u32Bytes gap
+
+abbrev pub link : ℕ → List ℕ
+link = u16Bytes
+
 -- the starred cases
 unfoldable pub starredWhole : List Whole
 starredWhole =
@@ -52,33 +70,24 @@ starredWhole =
     record {
       job = small 0 20 3 0 [];
       number = 0;
-      place = 65535;
-      file =
-          1 ∷ 0 ∷ 2 ∷ 0 ∷ 1 ∷ 0 ∷ 1 ∷ 0 ∷ 2 ∷ 0 ∷ 0 ∷ 0 ∷ 24 ∷ 0 ∷ 0 ∷ 0 ∷ 48 ∷ 0 ∷ 0 ∷ 0 ∷ 56 ∷ 0 ∷ 0 ∷ 0
-          ∷ 0 ∷ 0 ∷ 0 ∷ 0 ∷ 255 ∷ 255 ∷ 255 ∷ 255 ∷ 0 ∷ 0 ∷ 0 ∷ 0 ∷ 0 ∷ 0 ∷ 0 ∷ 0 ∷ 255 ∷ 255 ∷ 255 ∷ 255 ∷ 6 ∷ 0 ∷ 0 ∷ 0
-          ∷ 0 ∷ 0 ∷ 1 ∷ 0 ∷ 6 ∷ 0 ∷ 0 ∷ 0
-          ∷ 0 ∷ 0 ∷ [];
+      place = nowhere;
+      file = header 2 1 1 2 48 56 ++ window 0 noLatest 0 ++ window 0 noLatest 6 ++ order 0 1 6 ++ link 0;
       text = lines ("steps 2 rounds 2" ∷ "step 0 earliest 0 latest none" ∷ "step 1 earliest 6 latest none" ∷ "order 0 1 6" ∷ []);
     }
     -- no steps and no goals
     ∷ record {
       job = nothing;
       number = 0;
-      place = 65535;
-      file =
-          1 ∷ 0 ∷ 0 ∷ 0 ∷ 0 ∷ 0 ∷ 0 ∷ 0 ∷ 0 ∷ 0 ∷ 0 ∷ 0 ∷ 24 ∷ 0 ∷ 0 ∷ 0 ∷ 24 ∷ 0 ∷ 0 ∷ 0 ∷ 24 ∷ 0 ∷ 0 ∷ 0 ∷ [];
+      place = nowhere;
+      file = header 0 0 0 0 24 24;
       text = lines ("steps 0 rounds 0" ∷ []);
     }
     -- step 1 at 16
     ∷ record {
       job = small 0 16 3 0 [];
       number = 0;
-      place = 65535;
-      file =
-          1 ∷ 0 ∷ 2 ∷ 0 ∷ 1 ∷ 0 ∷ 1 ∷ 0 ∷ 2 ∷ 0 ∷ 0 ∷ 0 ∷ 24 ∷ 0 ∷ 0 ∷ 0 ∷ 48 ∷ 0 ∷ 0 ∷ 0 ∷ 56 ∷ 0 ∷ 0 ∷ 0
-          ∷ 0 ∷ 0 ∷ 0 ∷ 0 ∷ 255 ∷ 255 ∷ 255 ∷ 255 ∷ 0 ∷ 0 ∷ 0 ∷ 0 ∷ 0 ∷ 0 ∷ 0 ∷ 0 ∷ 255 ∷ 255 ∷ 255 ∷ 255 ∷ 6 ∷ 0 ∷ 0 ∷ 0
-          ∷ 0 ∷ 0 ∷ 1 ∷ 0 ∷ 6 ∷ 0 ∷ 0 ∷ 0
-          ∷ 0 ∷ 0 ∷ [];
+      place = nowhere;
+      file = header 2 1 1 2 48 56 ++ window 0 noLatest 0 ++ window 0 noLatest 6 ++ order 0 1 6 ++ link 0;
       text = lines ("steps 2 rounds 2" ∷ "step 0 earliest 0 latest none" ∷ "step 1 earliest 6 latest none" ∷ "order 0 1 6" ∷ []);
     }
     -- step 1 at 15
@@ -87,24 +96,16 @@ starredWhole =
     ∷ record {
       job = small 1 20 3 0 [];
       number = 0;
-      place = 65535;
-      file =
-          1 ∷ 0 ∷ 2 ∷ 0 ∷ 1 ∷ 0 ∷ 1 ∷ 0 ∷ 2 ∷ 0 ∷ 0 ∷ 0 ∷ 24 ∷ 0 ∷ 0 ∷ 0 ∷ 48 ∷ 0 ∷ 0 ∷ 0 ∷ 56 ∷ 0 ∷ 0 ∷ 0
-          ∷ 10 ∷ 0 ∷ 0 ∷ 0 ∷ 10 ∷ 0 ∷ 0 ∷ 0 ∷ 10 ∷ 0 ∷ 0 ∷ 0 ∷ 0 ∷ 0 ∷ 0 ∷ 0 ∷ 255 ∷ 255 ∷ 255 ∷ 255 ∷ 16 ∷ 0 ∷ 0 ∷ 0
-          ∷ 0 ∷ 0 ∷ 1 ∷ 0 ∷ 6 ∷ 0 ∷ 0 ∷ 0
-          ∷ 0 ∷ 0 ∷ [];
+      place = nowhere;
+      file = header 2 1 1 2 48 56 ++ window 10 10 10 ++ window 0 noLatest 16 ++ order 0 1 6 ++ link 0;
       text = lines ("steps 2 rounds 2" ∷ "step 0 earliest 10 latest 10" ∷ "step 1 earliest 16 latest none" ∷ "order 0 1 6" ∷ []);
     }
     -- goal fact 1 = 1, deadline 15
     ∷ record {
       job = small 0 20 3 0 (goal 1 1 15 ∷ []);
       number = 0;
-      place = 65535;
-      file =
-          1 ∷ 0 ∷ 2 ∷ 0 ∷ 1 ∷ 0 ∷ 2 ∷ 0 ∷ 2 ∷ 0 ∷ 0 ∷ 0 ∷ 24 ∷ 0 ∷ 0 ∷ 0 ∷ 48 ∷ 0 ∷ 0 ∷ 0 ∷ 56 ∷ 0 ∷ 0 ∷ 0
-          ∷ 0 ∷ 0 ∷ 0 ∷ 0 ∷ 10 ∷ 0 ∷ 0 ∷ 0 ∷ 0 ∷ 0 ∷ 0 ∷ 0 ∷ 0 ∷ 0 ∷ 0 ∷ 0 ∷ 255 ∷ 255 ∷ 255 ∷ 255 ∷ 6 ∷ 0 ∷ 0 ∷ 0
-          ∷ 0 ∷ 0 ∷ 1 ∷ 0 ∷ 6 ∷ 0 ∷ 0 ∷ 0
-          ∷ 0 ∷ 0 ∷ 0 ∷ 0 ∷ [];
+      place = nowhere;
+      file = header 2 1 2 2 48 56 ++ window 0 10 0 ++ window 0 noLatest 6 ++ order 0 1 6 ++ link 0 ++ link 0;
       text = lines ("steps 2 rounds 2" ∷ "step 0 earliest 0 latest 10" ∷ "step 1 earliest 6 latest none" ∷ "order 0 1 6" ∷ []);
     }
     -- deadline 14
@@ -113,12 +114,8 @@ starredWhole =
     ∷ record {
       job = small 0 20 8 8 [];
       number = 0;
-      place = 65535;
-      file =
-          1 ∷ 0 ∷ 2 ∷ 0 ∷ 1 ∷ 0 ∷ 1 ∷ 0 ∷ 1 ∷ 0 ∷ 0 ∷ 0 ∷ 24 ∷ 0 ∷ 0 ∷ 0 ∷ 48 ∷ 0 ∷ 0 ∷ 0 ∷ 56 ∷ 0 ∷ 0 ∷ 0
-          ∷ 0 ∷ 0 ∷ 0 ∷ 0 ∷ 255 ∷ 255 ∷ 255 ∷ 255 ∷ 0 ∷ 0 ∷ 0 ∷ 0 ∷ 0 ∷ 0 ∷ 0 ∷ 0 ∷ 255 ∷ 255 ∷ 255 ∷ 255 ∷ 0 ∷ 0 ∷ 0 ∷ 0
-          ∷ 0 ∷ 0 ∷ 1 ∷ 0 ∷ 254 ∷ 255 ∷ 255 ∷ 255
-          ∷ 0 ∷ 0 ∷ [];
+      place = nowhere;
+      file = header 2 1 1 1 48 56 ++ window 0 noLatest 0 ++ window 0 noLatest 0 ++ order 0 1 (negative 2) ++ link 0;
       text = lines ("steps 2 rounds 1" ∷ "step 0 earliest 0 latest none" ∷ "step 1 earliest 0 latest none" ∷ "order 0 1 -2" ∷ []);
     }
     -- level 1, bounds 0 to 1, uses −1 and +1 by two steps at one tick
@@ -127,21 +124,16 @@ starredWhole =
     ∷ record {
       job = levelled 2;
       number = 0;
-      place = 65535;
-      file =
-          1 ∷ 0 ∷ 2 ∷ 0 ∷ 0 ∷ 0 ∷ 0 ∷ 0 ∷ 1 ∷ 0 ∷ 0 ∷ 0 ∷ 24 ∷ 0 ∷ 0 ∷ 0 ∷ 48 ∷ 0 ∷ 0 ∷ 0 ∷ 48 ∷ 0 ∷ 0 ∷ 0
-          ∷ 0 ∷ 0 ∷ 0 ∷ 0 ∷ 255 ∷ 255 ∷ 255 ∷ 255 ∷ 0 ∷ 0 ∷ 0 ∷ 0 ∷ 0 ∷ 0 ∷ 0 ∷ 0 ∷ 255 ∷ 255 ∷ 255 ∷ 255 ∷ 0 ∷ 0 ∷ 0 ∷ 0 ∷ [];
+      place = nowhere;
+      file = header 2 0 0 1 48 48 ++ window 0 noLatest 0 ++ window 0 noLatest 0;
       text = lines ("steps 2 rounds 1" ∷ "step 0 earliest 0 latest none" ∷ "step 1 earliest 0 latest none" ∷ []);
     }
     -- serial, lengths 5 and 2, starts 0 and 5
     ∷ record {
       job = serially 5;
       number = 0;
-      place = 65535;
-      file =
-          1 ∷ 0 ∷ 2 ∷ 0 ∷ 1 ∷ 0 ∷ 0 ∷ 0 ∷ 2 ∷ 0 ∷ 0 ∷ 0 ∷ 24 ∷ 0 ∷ 0 ∷ 0 ∷ 48 ∷ 0 ∷ 0 ∷ 0 ∷ 56 ∷ 0 ∷ 0 ∷ 0
-          ∷ 0 ∷ 0 ∷ 0 ∷ 0 ∷ 255 ∷ 255 ∷ 255 ∷ 255 ∷ 0 ∷ 0 ∷ 0 ∷ 0 ∷ 0 ∷ 0 ∷ 0 ∷ 0 ∷ 255 ∷ 255 ∷ 255 ∷ 255 ∷ 5 ∷ 0 ∷ 0 ∷ 0
-          ∷ 0 ∷ 0 ∷ 1 ∷ 0 ∷ 5 ∷ 0 ∷ 0 ∷ 0 ∷ [];
+      place = nowhere;
+      file = header 2 1 0 2 48 56 ++ window 0 noLatest 0 ++ window 0 noLatest 5 ++ order 0 1 5;
       text = lines ("steps 2 rounds 2" ∷ "step 0 earliest 0 latest none" ∷ "step 1 earliest 5 latest none" ∷ "order 0 1 5" ∷ []);
     }
     -- starts 0 and 4

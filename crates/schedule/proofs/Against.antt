@@ -91,7 +91,8 @@ module _ {m : Model} {x : ℕ → ℕ} {points begins : List ℕ} (known : Point
       (either (test e)))
 
   pub scan-any :
-      ((e : ℕ) → e < m .effects → test e ≡ true → Opposing m x f value step first last e) → ((e : ℕ) → Opposing m x f value step first last e → test e ≡ true)
+      ((e : ℕ) → e < m .effects → test e ≡ true → Opposing m x f value step first last e)
+      → ((e : ℕ) → Opposing m x f value step first last e → test e ≡ true)
       → r ≡ any (m .effects) test
   scan-any out into = ⊎-elim (λ (t : r ≡ true). t ∙ sym (scan-hit into t)) (λ (n : r ≡ false). n ∙ sym (scan-none out n)) (either r)
 

@@ -27,7 +27,8 @@ use Rattle.schedule.proofs.Against.{Opposing, scan-any}
 
 -- one more point of the value
 pub of-value-more :
-    (points : List ℕ) {from place value : ℕ} → OfValue points from place value → valueAt points place ≡ value → OfValue points from (place + 1) value
+    (points : List ℕ) {from place value : ℕ} → OfValue points from place value → valueAt points place ≡ value
+    → OfValue points from (place + 1) value
 of-value-more points {from} {place} so e p l g =
     elim (decLt p place) [ yes i ↦ so p l i | no i ↦ ap (valueAt points) (let q : p ≡ place = omega arith in q) ∙ e ]
 

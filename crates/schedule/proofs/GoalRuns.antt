@@ -35,7 +35,8 @@ module _ (m : Model) (x : ℕ → ℕ) (form : WellFormed m) (g : ℕ) (h : g < 
   missed-last other = sym (passed (goalFails m x g) (λ f. other (goal-holds m x g f .0)))
 
   missed-after :
-      (m .goalDeadline g ≡ noDeadline → ⊥) → (t : ℕ) → m .goalDeadline g < t → (seen m x (m .goalFact g) t ≡ m .goalValue g → ⊥) → true ≡ goalFails m x g
+      (m .goalDeadline g ≡ noDeadline → ⊥) → (t : ℕ) → m .goalDeadline g < t → (seen m x (m .goalFact g) t ≡ m .goalValue g → ⊥)
+      → true ≡ goalFails m x g
   missed-after due t l other = sym (passed (goalFails m x g) (λ f. other (goal-in-time m x form g t h (goal-holds m x g f .1) due l)))
 
   -- what undoes it gives its fact the other value after the deadline
@@ -77,7 +78,9 @@ module _ (m : Model) (x : ℕ → ℕ) (form : WellFormed m) (g : ℕ) (h : g < 
       ]))
 
   -- where nothing opposes it, the initial value stays
-  met-always : m .initial (m .goalFact g) ≡ m .goalValue g → ((e : ℕ) → Giver m (m .goalFact g) (1 - m .goalValue g) e → ⊥) → false ≡ goalFails m x g
+  met-always :
+      m .initial (m .goalFact g) ≡ m .goalValue g → ((e : ℕ) → Giver m (m .goalFact g) (1 - m .goalValue g) e → ⊥)
+      → false ≡ goalFails m x g
   met-always kept none =
       let stays : (t : ℕ) → seen m x (m .goalFact g) t ≡ m .goalValue g =
       λ t. seen-by-initial m x (m .goalFact g) (m .goalValue g) t (form .goalValue g h) kept (λ e o _. none e o)
@@ -278,7 +281,9 @@ pub record GoalRead (m : Model) (begins : List ℕ) (g low high value initial : 
   pub kept : eqb initial value ≡ eqb (m .initial (m .goalFact g)) value
 
 pub goal-read :
-    {m : Model} {begins : List ℕ} {g : ℕ} {fact low high value initial : ℕ} → fact ≡ m .goalFact g → value ≡ m .goalValue g → low ≡ getD begins fact 0
+    {m :
+    Model} {begins : List ℕ} {g : ℕ} {fact low high value initial : ℕ} → fact ≡ m .goalFact g → value ≡ m .goalValue g
+    → low ≡ getD begins fact 0
     → high ≡ getD begins (fact + 1) 0
     → initial ≡ m .initial fact
     → GoalRead m begins g low high value initial
@@ -301,7 +306,8 @@ module _ {m : Model} {points begins : List ℕ} (given : GoalsKnown m points beg
   goal-unset none x known one = unset m x known one (given .form) g h (read .from) (read .to) (read .wanted) none (read .kept)
 
   pub goal-unseen :
-      low < high → (valueAt points (high - 1) ≡ value → ⊥) → (x : ℕ → ℕ) → PointsKnown m x points begins → OneValue m x → true ≡ goalFails m x g
+      low < high → (valueAt points (high - 1) ≡ value → ⊥) → (x : ℕ → ℕ) → PointsKnown m x points begins → OneValue m x
+      → true ≡ goalFails m x g
   goal-unseen some other x known one = unseen m x known one (given .form) g h (read .from) (read .to) (read .wanted) some other
 
   pub goal-by-run :

@@ -59,7 +59,9 @@ module _ {m : Model} {points : List ℕ} {low high : ℕ} where
           few = (omega (arith, so .few .0, added .few .0), omega (arith, so .few .1, added .few .1));
         }
       where
-        more : (g : ℕ → ℕ) {total other : ℕ} → total ≡ sumFrom low g points (sums .place) → other ≡ total + g u → other ≡ sumFrom low g points (next .place)
+        more :
+            (g : ℕ → ℕ) {total other : ℕ} → total ≡ sumFrom low g points (sums .place) → other ≡ total + g u
+            → other ≡ sumFrom low g points (next .place)
         more g {total} {other} e q =
             let here-too : g u ≡ cond (leb low (sums .place)) (g (numberAt points (sums .place))) 0 = ap g here ∙ sym
             (ap (λ b. cond b (g (numberAt points (sums .place))) 0) (le-leb low (sums .place) (so .begins))) in
@@ -101,7 +103,8 @@ module _ {m : Model} {points : List ℕ} {high tick : ℕ} {before sums : Sums} 
         same = λ q a b.
             elim (decLt q (sums .place)) [
               | yes d ↦ so .same q a d
-              | no d ↦ let e : tickAt points q ≡ tickAt points (sums .place) = ap (tickAt points) (let f : q ≡ sums .place = omega arith in f) in omega arith
+              | no d ↦ let e : tickAt points q ≡ tickAt points (sums .place) = ap (tickAt points)
+                  (let f : q ≡ sums .place = omega arith in f) in omega arith
             ];
       }
 
@@ -138,7 +141,9 @@ pub record Sweeping (m : Model) (l : ℕ) (points : List ℕ) (low high : ℕ) (
   pub swept : (x : ℕ → ℕ) → UsesPlaced m x l points low high → Swept m x l points low high sums
 
 pub sweeping-start :
-    {m : Model} {l : ℕ} {points : List ℕ} {low high : ℕ} → Stretch points low high → Sweeping m l points low high (record { place = low; rises = 0; falls = 0 })
+    {m :
+    Model} {l : ℕ} {points : List ℕ} {low high : ℕ} → Stretch points low high
+    → Sweeping m l points low high (record { place = low; rises = 0; falls = 0 })
 sweeping-start stretch =
     record {
       stretch = stretch;
@@ -163,7 +168,9 @@ module _ (m : Model) (x : ℕ → ℕ) {l : ℕ} {points : List ℕ} {low high :
         let both = and-both (eqb (m .useLevel u) l) (ltb (useTick m x u) t) e in
         ((a, eqb-true (m .useLevel u) l (both .0)), ltb-true (useTick m x u) t (both .1)))
 
-    sums-before : {sums : Sums} → Summed m points low high sums → sums .place ≡ r → (sums .rises ≡ risesBefore m x l t) × (sums .falls ≡ fallsBefore m x l t)
+    sums-before :
+        {sums : Sums} → Summed m points low high sums → sums .place ≡ r → (sums .rises ≡ risesBefore m x l t)
+        × (sums .falls ≡ fallsBefore m x l t)
     unfolding risesBefore fallsBefore
     sums-before so e = (
       so .rising ∙ ap (λ k. sumFrom low (rise m) points k) e ∙ total (rise m),

@@ -25,7 +25,8 @@ any-next p k e q = ap₂ _||_ e q ∙ ap (λ n. any n p) (sym (add-one k))
 
 -- one more step, after i; a and b are the code's readings of the two starts
 pub overlap-next :
-    (start end : ℕ → ℕ) (i k : ℕ) {found : Bool} {a b : ℕ} → i < k → found ≡ any k (overlapLater start end i) → a ≡ start k → b ≡ start i
+    (start end : ℕ → ℕ) (i k : ℕ) {found : Bool} {a b : ℕ} → i < k → found ≡ any k (overlapLater start end i) → a ≡ start k
+    → b ≡ start i
     → (found || (ltb a (end i) && ltb b (end k))) ≡ any (k + 1) (overlapLater start end i)
 overlap-next start end i k l e p q =
     any-next (overlapLater start end i) k e

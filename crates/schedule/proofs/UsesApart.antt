@@ -95,7 +95,8 @@ module _ {m : Model} {x : ℕ → ℕ} {points begins : List ℕ} (known : Point
 
   pub apart-one-use :
       ((u : ℕ) → u < m .uses → m .useLevel u < m .levels) → LevelsApart (m .facts) (m .levels) points begins
-      → (u v : ℕ) → u < m .uses → v < m .uses → m .useStep u ≡ m .useStep v → m .useLevel u ≡ m .useLevel v → m .useAt u ≡ m .useAt v → u ≡ v
+      → (u v : ℕ) → u < m .uses → v < m .uses → m .useStep u ≡ m .useStep v → m .useLevel u ≡ m .useLevel v
+      → m .useAt u ≡ m .useAt v → u ≡ v
   apart-one-use listed so u v i j step level offset =
       let h = listed u i in
       let group = known .used (m .useLevel u) h in

@@ -27,7 +27,8 @@ Met m points begins fact q c =
     (p : ℕ) × (getD begins (wantedGroup m fact) 0 ≤ p) × (p < q) × (numberAt points p ≡ c)
 
 -- the walk has met the conditions up to place q, and is past the first tick of none from there up to the group's end
-pub record Walked (m : Model) (x : ℕ → ℕ) (points begins : List ℕ) (fact : ℕ) (setters : Setters) (end : ℕ) (walk : Walk) (best q : ℕ) : Type 0 where
+pub record Walked (m : Model) (x : ℕ → ℕ) (points begins : List ℕ) (fact : ℕ) (setters : Setters) (end : ℕ) (walk : Walk)
+    (best q : ℕ) : Type 0 where
   pub all : ConditionsKnown m x points begins
   pub counted : fact < m .facts
   pub ends : end ≡ getD begins (wantedGroup m fact + 1) 0

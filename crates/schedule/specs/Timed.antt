@@ -24,7 +24,8 @@ pub record Ordered (s : List ℕ) (job : Job) (starts points begins : List ℕ) 
 pub record Clear (m : Model) (x : ℕ → ℕ) : Type 0 where
   pub oneValue : OneValue m x
   pub oneUse :
-      (u v : ℕ) → u < m .uses → v < m .uses → m .useStep u ≡ m .useStep v → m .useLevel u ≡ m .useLevel v → m .useAt u ≡ m .useAt v → u ≡ v
+      (u v : ℕ) → u < m .uses → v < m .uses → m .useStep u ≡ m .useStep v → m .useLevel u ≡ m .useLevel v → m .useAt u ≡ m .useAt v
+      → u ≡ v
   pub keepsOwn :
       (e c : ℕ) → e < m .effects → c < m .conditions → m .effectStep e ≡ m .conditionStep c → m .effectFact e ≡ m .conditionFact c
       → m .conditionFrom c ≤ m .effectAt e

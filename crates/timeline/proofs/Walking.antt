@@ -25,7 +25,9 @@ module _ {points : List ℕ} {low place : ℕ} where
       }
 
   -- one of the same value goes on with it
-  pub run-grows : {run : ℕ} → low < place → valueAt points (place - 1) ≡ valueAt points place → Run points low place run → Run points low (place + 1) run
+  pub run-grows :
+      {run : ℕ} → low < place → valueAt points (place - 1) ≡ valueAt points place → Run points low place run
+      → Run points low (place + 1) run
   run-grows {run} h same so =
       let some : run < place = so .some h in
       record {

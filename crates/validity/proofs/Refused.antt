@@ -149,7 +149,8 @@ module _ (m : Model) (x : ℕ → ℕ) where
 
   -- one more rule
   next-checked :
-      WellFormed m → (rule : Rule) (n : ℕ) (v : Verdict) → suc n ≡ ruleNumber rule → CheckedTo m x n v → CheckedTo m x (suc n) (v then ruleCheck m x rule)
+      WellFormed m → (rule : Rule) (n : ℕ) (v : Verdict) → suc n ≡ ruleNumber rule → CheckedTo m x n v
+      → CheckedTo m x (suc n) (v then ruleCheck m x rule)
   next-checked w rule n v q a =
       then-checked n (suc n) v (ruleCheck m x rule) (omega arith) a (λ z. rule-checked w rule (suc n) q (λ r h. a .kept z r (omega arith)))
 

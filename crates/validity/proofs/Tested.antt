@@ -76,7 +76,8 @@ module _ (m : Model) (x : ℕ → ℕ) where
 
   -- refusal 11
   pub breaks-none :
-      (c e : ℕ) → e < m .effects → any (m .effects) (breaks m x c) ≡ false → (m .effectStep e ≡ m .conditionStep c → ⊥) → m .effectFact e ≡ m .conditionFact c
+      (c e : ℕ) → e < m .effects → any (m .effects) (breaks m x c) ≡ false → (m .effectStep e ≡ m .conditionStep c → ⊥)
+      → m .effectFact e ≡ m .conditionFact c
       → firstTick m x c ≤ effectTick m x e
       → effectTick m x e ≤ lastTick m x c
       → m .effectValue e ≡ m .conditionValue c
@@ -132,7 +133,8 @@ module _ (m : Model) (x : ℕ → ℕ) where
   low-everywhere l t i n =
       ⊎-elim
       (λ (z : (u : ℕ) → u < m .uses → m .useLevel u ≡ l → useTick m x u < suc t → ⊥). omega (arith, idle-falls l (suc t) z))
-      (λ (w : (u : ℕ) × (u < m .uses) × (m .useLevel u ≡ l) × (useTick m x u < suc t) × ((v : ℕ) → v < m .uses → m .useLevel v ≡ l → useTick m x
+      (λ (w : (u : ℕ) × (u < m .uses) × (m .useLevel u ≡ l) × (useTick m x u < suc t)
+      × ((v : ℕ) → v < m .uses → m .useLevel v ≡ l → useTick m x
       v < suc t → useTick m x v ≤ useTick m x u)).
       let b : m .levelLeast l + fallsBefore m x l (suc (useTick m x (w .0))) ≤ m .levelInitial l + risesBefore m x l (useTick m x (w .0)) = leb-true _
       _ (passes-none l (w .0) (w .1) n (w .2) .0) in
@@ -146,7 +148,8 @@ module _ (m : Model) (x : ℕ → ℕ) where
   high-everywhere l t i n =
       ⊎-elim
       (λ (z : (u : ℕ) → u < m .uses → m .useLevel u ≡ l → useTick m x u < suc t → ⊥). omega (arith, idle-rises l (suc t) z))
-      (λ (w : (u : ℕ) × (u < m .uses) × (m .useLevel u ≡ l) × (useTick m x u < suc t) × ((v : ℕ) → v < m .uses → m .useLevel v ≡ l → useTick m x
+      (λ (w : (u : ℕ) × (u < m .uses) × (m .useLevel u ≡ l) × (useTick m x u < suc t)
+      × ((v : ℕ) → v < m .uses → m .useLevel v ≡ l → useTick m x
       v < suc t → useTick m x v ≤ useTick m x u)).
       let b : m .levelInitial l + risesBefore m x l (suc (useTick m x (w .0))) ≤ m .levelMost l + fallsBefore m x l (useTick m x (w .0)) = leb-true _
       _ (passes-none l (w .0) (w .1) n (w .2) .1) in
@@ -167,7 +170,9 @@ module _ (m : Model) (x : ℕ → ℕ) where
       (not-true _ (b .1))))
 
   -- refusal 14
-  pub crowded-none : (i k : ℕ) → k < m .steps → crowded m x i ≡ false → m .serial ≡ 1 → (i ≡ k → ⊥) → (finish m x i ≤ x k) ⊎ (finish m x k ≤ x i)
+  pub crowded-none :
+      (i k : ℕ) → k < m .steps → crowded m x i ≡ false → m .serial ≡ 1 → (i ≡ k → ⊥)
+      → (finish m x i ≤ x k) ⊎ (finish m x k ≤ x i)
   unfolding crowded overlaps
   crowded-none i k h n s d =
       let o = any-false (overlaps m x i) (m .steps) (sym (ap (λ b. b && any (m .steps) (overlaps m x i)) (eq-eqb _ _ s)) ∙ n) k h in
@@ -234,7 +239,8 @@ module _ (m : Model) (x : ℕ → ℕ) (w : WellFormed m) where
 
   -- refusal 13
   pub goal-in-time :
-      (g t : ℕ) → g < m .goals → late m x g ≡ false → (m .goalDeadline g ≡ noDeadline → ⊥) → m .goalDeadline g < t → seen m x (m .goalFact g) t ≡ m .goalValue g
+      (g t : ℕ) → g < m .goals → late m x g ≡ false → (m .goalDeadline g ≡ noDeadline → ⊥) → m .goalDeadline g < t
+      → seen m x (m .goalFact g) t ≡ m .goalValue g
   unfolding late undoes
   goal-in-time g t h n d l =
       let b = or-both _ _
@@ -276,7 +282,8 @@ module _ (m : Model) (x : ℕ → ℕ) (w : WellFormed m) where
       omega (arith, z, y, r)
 
   none-undoes :
-      Kept m x Effects → (g : ℕ) → g < m .goals → GoalHolds m x g → (m .goalDeadline g ≡ noDeadline → ⊥) → any (m .effects) (undoes m x g) ≡ false
+      Kept m x Effects → (g : ℕ) → g < m .goals → GoalHolds m x g → (m .goalDeadline g ≡ noDeadline → ⊥)
+      → any (m .effects) (undoes m x g) ≡ false
   unfolding undoes
   none-undoes v g h q d =
       any-none (undoes m x g) (m .effects)

@@ -30,12 +30,14 @@ unfolding refuseIf
 refuse-no v e = rw e
 
 -- the search's answer k is the lowest, below the count or not
-pub lowest-refused : (n : ℕ) (p : ℕ → Bool) (refusal : ℕ → Verdict) {k : ℕ} → k ≡ lowest n p → k < n → refusal k ≡ refuseLowest n p refusal
+pub lowest-refused :
+    (n : ℕ) (p : ℕ → Bool) (refusal : ℕ → Verdict) {k : ℕ} → k ≡ lowest n p → k < n → refusal k ≡ refuseLowest n p refusal
 unfolding refuseLowest
 lowest-refused n p refusal {k} e h =
     ap refusal e ∙ refuse-yes (refusal (lowest n p)) (lt-ltb (lowest n p) n (rw e at h))
 
-pub lowest-passed : (n : ℕ) (p : ℕ → Bool) (refusal : ℕ → Verdict) {k : ℕ} → k ≡ lowest n p → n ≤ k → Accepted ≡ refuseLowest n p refusal
+pub lowest-passed :
+    (n : ℕ) (p : ℕ → Bool) (refusal : ℕ → Verdict) {k : ℕ} → k ≡ lowest n p → n ≤ k → Accepted ≡ refuseLowest n p refusal
 unfolding refuseLowest
 lowest-passed n p refusal e h = refuse-no (refusal (lowest n p)) (le-ltb (lowest n p) n (rw e at h))
 
@@ -66,7 +68,8 @@ refuse-says true v h = refl
 refuse-says false v h = absurd (h refl)
 
 pub lowest-zero :
-    (n : ℕ) (p : ℕ → Bool) (refusal : ℕ → Verdict) → ((k : ℕ) → number (refusal k) ≡ 0 → ⊥) → number (refuseLowest n p refusal) ≡ 0 → (k : ℕ) → k < n
+    (n : ℕ) (p : ℕ → Bool) (refusal : ℕ → Verdict) → ((k : ℕ) → number (refusal k) ≡ 0 → ⊥)
+    → number (refuseLowest n p refusal) ≡ 0 → (k : ℕ) → k < n
     → p k ≡ false
 unfolding refuseLowest
 lowest-zero n p refusal h e = any-false p n (any-lowest p n ∙ refuse-zero _ _ (h (lowest n p)) e)
@@ -78,7 +81,8 @@ zero-then v w h g = ap number (sym (then-accepted v w h)) ∙ g
 pub zero-refuse : (b : Bool) (v : Verdict) → b ≡ false → number (refuseIf b v) ≡ 0
 zero-refuse b v e = ap number (sym (refuse-no v e))
 
-pub zero-lowest : (n : ℕ) (p : ℕ → Bool) (refusal : ℕ → Verdict) → ((k : ℕ) → k < n → p k ≡ false) → number (refuseLowest n p refusal) ≡ 0
+pub zero-lowest :
+    (n : ℕ) (p : ℕ → Bool) (refusal : ℕ → Verdict) → ((k : ℕ) → k < n → p k ≡ false) → number (refuseLowest n p refusal) ≡ 0
 unfolding refuseLowest
 zero-lowest n p refusal h = zero-refuse _ (refusal (lowest n p)) (sym (any-lowest p n) ∙ any-none p n h)
 

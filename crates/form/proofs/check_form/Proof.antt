@@ -5,4 +5,5 @@ use Rattle.form.proofs.check_form.Statement.{statement}
 use Rattle.form.proofs.check_form.Tie as tie
 
 pub check-form-spec : {M : Type 1} → statement M
-check-form-spec = tie.close (tie.spec (λ c κs. search needs) (λ c. let f = c .read-form .ensures in (f .verdict, (f .wellFormed, form-refusal _ (f .verdict)))))
+check-form-spec =
+    tie.close (tie.spec (λ c κs. search needs) (λ c. let f = c .read-form .ensures in (f .verdict, (f .wellFormed, form-refusal _ (f .verdict)))))

@@ -23,7 +23,8 @@ check-settled-spec =
     let start = c .before .before .before .before .before .before .before .before .before in
     record { form = start .pre .form; known = (scheduleOf (now (start .args .starts)), start .pre .known) })
     (λ c κs. search needs)
-    (λ c κs. let p = c .before .before .before .before .before .before .before .before .before .before .before .before .pre in (p .form .stepCount, p .counted))
+    (λ c κs. let p = c .before .before .before .before .before .before .before .before .before .before .before .before .pre in
+    (p .form .stepCount, p .counted))
     (λ c κs. search needs)
     (λ c.
     let third = c .before .before .before in

@@ -13,7 +13,8 @@ use prog.Wp.{Heap, Calls, Loops, WpFn, Tables}
 use ghost.Atoms.{Atoms, sem}
 use contract.Monad.{Fun, fact}
 use contract.Running.{givenOf, tables, tablesOf}
-use types.Kit.{Given, ‵, raw, _⊛_, ⋆, some, later, _$_, _∵_, !, qed, by, move, use1, use2, split, join, pick, fsplit, fjoin, suffices, frame, await, done}
+use types.Kit.{Given, ‵, raw, _⊛_, ⋆, some, later, _$_, _∵_, !, qed, by}
+use types.Kit.{move, use1, use2, split, join, pick, fsplit, fjoin, suffices, frame, await, done}
 use types.Part.{agg}
 use types.Run.{look, init, forget, stop, from, load, and-then, no-more, assigns, land, returns, enter, alloc1, alloc0, params1, pass1, pass0, free1, free0}
 use sound.WpLaws.{FmC, fmOf, WpFn-mono}
@@ -99,7 +100,8 @@ module _ {M : Type 1} (𝓤 : URA M) (H : Heap 𝓤) (A : Atoms 𝓤) (W : Given
       move ! (1 ∷ []) $ fsplit ! $
       use1 W (‵ (OwnBytes κ s) ⊛ ‵ (OwnBytes κ s)) (shr-slice-copy 𝓤 H A W (named 0) κ u8 .twice s (slice s ∷ [])) $ split ! $
       move ! (2 ∷ []) $ fsplit ! $
-      use1 W (‵ (OwnJob 𝓤 H A W κ d) ⊛ ‵ (OwnJob 𝓤 H A W κ d)) (LL.copy J.the-type J′.the-copy 𝓤 H A W .twice j (J′.lowered j ∷ [])) $ split ! $
+      use1 W (‵ (OwnJob 𝓤 H A W κ d) ⊛ ‵ (OwnJob 𝓤 H A W κ d))
+      (LL.copy J.the-type J′.the-copy 𝓤 H A W .twice j (J′.lowered j ∷ [])) $ split ! $
       -- [what job owns, twice; true; what s owns, twice; the token]
       move ! (3 ∷ 0 ∷ []) $ use2 W (‵ (Own 𝓤 H A W κ d)) (joined 𝓤 H A W κ d) $ nothing ! $ move ! (1 ∷ 0 ∷ []) $ fjoin ! $
       move ! (4 ∷ 0 ∷ []) $ use2 W (raw (Check 𝓤 H A mem run .pre to)) asked $ frame ! $ fjoin ! $ move ! (1 ∷ 0 ∷ []) $ fjoin ! $ done !
@@ -108,7 +110,9 @@ module _ {M : Type 1} (𝓤 : URA M) (H : Heap 𝓤) (A : Atoms 𝓤) (W : Given
   said : (r : Verdict) → ent 𝓤 (ensured 𝓤 H A check-tables.ended (check-tables.clauses 𝓤 H A mem run) (κ, tt) (d, tt) tt r) (fact 𝓤 (Found r))
   said r = exE 𝓤 _ (λ ws. snd∗ 𝓤 (sem 𝓤 H A (lasts check-tables.ended (κ, tt) (d, tt) ws)) (fact 𝓤 (Found r)))
 
-  exits : (r : Verdict) (u : Val) → Found r → ent 𝓤 (⋆ 𝓤 H A (‵ (S.the-row .own r (u ∷ [])) ∷ (‵ (flft κ q) ⊛ ‵ ftrue) ∷ ‵ Params ∷ [])) (Post u)
+  exits :
+      (r : Verdict) (u : Val) → Found r → ent 𝓤
+      (⋆ 𝓤 H A (‵ (S.the-row .own r (u ∷ [])) ∷ (‵ (flft κ q) ⊛ ‵ ftrue) ∷ ‵ Params ∷ [])) (Post u)
   exits r u e =
       qed W (‵ (S.the-row .own r (u ∷ [])) ∷ (‵ (flft κ q) ⊛ ‵ ftrue) ∷ ‵ Params ∷ []) ∵
       suffices ! _
@@ -116,10 +120,12 @@ module _ {M : Type 1} (𝓤 : URA M) (H : Heap 𝓤) (A : Atoms 𝓤) (W : Given
       (tt, (tt, tt))) $
       says ! e $ move ! (1 ∷ 2 ∷ []) $ frame ! $ frame ! $ done !
 
-  module _ (C : Calls 𝓤 H) (Λ : Loops 𝓤 H) (fm : FmC 𝓤 H (W .laws) C) (known : Triple 𝓤 (C #form·tables·check-tables) (Check 𝓤 H A mem run)) where
+  module _ (C : Calls 𝓤 H) (Λ : Loops 𝓤 H) (fm : FmC 𝓤 H (W .laws) C)
+      (known : Triple 𝓤 (C #form·tables·check-tables) (Check 𝓤 H A mem run)) where
     walk :
         Is (ShrSlice (named 0) κ u8) s (slice s ∷ []) → Is J.the-row j (J′.lowered j ∷ [])
-        → ent 𝓤 (onEntry 𝓤 H A check-file.signature (κ, tt) (q, tt) (s, (j, tt)) at) (WpFn 𝓤 H C Λ code.function (slice s ∷ J′.lowered j ∷ []) Post)
+        → ent 𝓤 (onEntry 𝓤 H A check-file.signature (κ, tt) (q, tt) (s, (j, tt)) at)
+        (WpFn 𝓤 H C Λ code.function (slice s ∷ J′.lowered j ∷ []) Post)
     walk p p′ =
         let ws = shr-slice-lawful 𝓤 H A W (named 0) κ u8 .typed s (slice s ∷ []) p .0 in
         let wj = LL.lawful J.the-type J′.the-laws 𝓤 H A W .typed j _ p′ .0 in
@@ -143,7 +149,9 @@ module _ {M : Type 1} (𝓤 : URA M) (H : Heap 𝓤) (A : Atoms 𝓤) (W : Given
         move ! (9 ∷ 10 ∷ []) $ free1 ! $ move ! (7 ∷ 8 ∷ []) $ free1 ! $ move ! (5 ∷ 6 ∷ []) $ free1 ! $ move ! (3 ∷ 4 ∷ []) $ free1 ! $
         free0 ! $ by ! (exits r u e)))))))))
 
-meets : {M : Type 1} (𝓤 : URA M) (H : Heap 𝓤) (A : Atoms 𝓤) (W : Given 𝓤 H A) (mem : Memory → SProp 𝓤) (run : Routine → Fun 𝓤) (𝓣 : Tables 𝓤 H)
+meets :
+    {M : Type 1} (𝓤 : URA M) (H : Heap 𝓤) (A : Atoms 𝓤) (W : Given 𝓤 H A) (mem : Memory → SProp 𝓤) (run : Routine → Fun 𝓤)
+    (𝓣 : Tables 𝓤 H)
     → Triple 𝓤 (𝓣 .C #form·tables·check-tables) (Check 𝓤 H A mem run)
     → Meets 𝓤 H A check-file.signature (WpFn 𝓤 H (𝓣 .C) (𝓣 .Λ) code.function) (check-file.spec 𝓤 H A mem run)
 meets 𝓤 H A W mem run 𝓣 known =

@@ -30,6 +30,7 @@ fill-serial-spec =
     (λ c. omega arith)
     (λ c. omega arith)
     (λ c. (omega arith, raised-more _ _ _ _ _ _ (c .before .before .before .before .before .loop .inv .1) (c .before .before .raise-serial .ensures)))
-    (λ c. let d = c .before .before .before .before .before .before .before in omega (arith, c .before .loop .inv .1 .whole (d .pre .1) .size, d .pre .1 .size))
+    (λ c. let d = c .before .before .before .before .before .before .before in omega
+    (arith, c .before .loop .inv .1 .whole (d .pre .1) .size, d .pre .1 .size))
     (λ c. raised-is _ _ _ _ _ (raised-end _ _ _ _ _ _ (c .before .loop .inv .1) (c .before .loop .inv .0) (c .loop-test .left))
     (λ a b h l. all-pairs _ _ a b h l)))

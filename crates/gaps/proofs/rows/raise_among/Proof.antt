@@ -14,7 +14,7 @@ raise-among-spec =
     (d .pre .0, group-wide (d .pre .2) (d .pre .1), d .pre .3))
     (λ c κs.
     let d = c .before .before .before .before .before in
-    (d .pre .0, d .pre .1, d .pre .2, d .pre .3))
+    (d .pre .0, d .pre .1, d .pre .2, d .pre .2, d .pre .3))
     (λ c.
     let raised = c .before .before in
     let d = raised .before .before .before .before .before .before in
@@ -26,5 +26,5 @@ raise-among-spec =
     (λ c.
     let raised = c .before .before in
     let d = raised .before .before .before .before .before .before in
-    omega (arith, raised .row-among .ensures .whole (d .pre .0) .size, d .pre .0 .size))
-    (λ c. c .before .before .row-among .ensures))
+    omega (arith, raised .row-points .ensures .whole (d .pre .0) .size, d .pre .0 .size))
+    (λ c. c .before .before .row-points .ensures))

@@ -22,11 +22,12 @@ raise-conditions-spec =
     (λ c. search needs)
     (λ c κs.
     let d = c .before .before .before .before .before .before .before .before in
-    (d .pre .1, d .pre .0 .placed))
+    let w = d .pre .0 .placed in
+    (d .pre .1, w .few, w .setters, w .wanted, omega arith))
     (λ c κs.
     let raised = c .before .before .before in
     let d = raised .before .before .before .before .before .before .before .before .before in
-    (d .pre .0, raised .row-setters .ensures .whole (d .pre .1)))
+    (d .pre .0, raised .row-points .ensures .whole (d .pre .1)))
     (λ c.
     let second = c .before .before in
     let first = second .before .before .before .before in
@@ -42,8 +43,8 @@ raise-conditions-spec =
     let second = c .before .before in
     let first = second .before .before .before .before in
     let d = first .before .before .before .before .before .before .before .before .before in
-    omega (arith, second .row-conditions .ensures .whole (first .row-setters .ensures .whole (d .pre .1)) .size, d .pre .1 .size))
+    omega (arith, second .row-conditions .ensures .whole (first .row-points .ensures .whole (d .pre .1)) .size, d .pre .1 .size))
     (λ c.
     let second = c .before .before in
     let first = second .before .before .before .before in
-    reached-either _ _ _ _ _ _ (first .row-setters .ensures) (second .row-conditions .ensures)))
+    reached-either _ _ _ _ _ _ (first .row-points .ensures) (second .row-conditions .ensures)))

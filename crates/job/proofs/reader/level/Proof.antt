@@ -14,7 +14,8 @@ use prog.Wp.{Heap, Calls, Loops, WpFn, Tables}
 use ghost.Atoms.{Atoms, sem}
 use contract.Monad.{Fun, fact}
 use contract.Running.{givenOf, tables, tablesOf}
-use types.Kit.{Given, ‵, raw, _⊛_, ⋆, some, later, _$_, _∵_, !, qed, by, move, use1, use2, split, join, pick, fsplit, fjoin, suffices, frame, await, done}
+use types.Kit.{Given, ‵, raw, _⊛_, ⋆, some, later, _$_, _∵_, !, qed, by}
+use types.Kit.{move, use1, use2, split, join, pick, fsplit, fjoin, suffices, frame, await, done}
 use types.Part.{whole, sub, look-in}
 use types.Run.{look, init, forget, stop, fld, from, load, of-opd, and-then, no-more, assigns, land, returns, enter, alloc1, alloc0, params1, pass1}
 use types.Run.{pass0, free1, free0}
@@ -61,7 +62,8 @@ module _ {M : Type 1} (𝓤 : URA M) (H : Heap 𝓤) (A : Atoms 𝓤) (mem : Mem
   abbrev Of : Contract 𝓤
   Of = tripleOf 𝓤 H A work.signature (work.spec 𝓤 H A mem run)
 
-module _ {M : Type 1} (𝓤 : URA M) (H : Heap 𝓤) (A : Atoms 𝓤) (W : Given 𝓤 H A) (mem : Memory → SProp 𝓤) (run : Routine → Fun 𝓤) (κ : Lft) (q : Share)
+module _ {M : Type 1} (𝓤 : URA M) (H : Heap 𝓤) (A : Atoms 𝓤) (W : Given 𝓤 H A) (mem : Memory → SProp 𝓤) (run : Routine → Fun 𝓤)
+    (κ : Lft) (q : Share)
     (d : JobReader) (k : ℕ) (fits : k < 2 ^ 16) where
   abbrev mach : Val
   mach = T′.lowered d
@@ -70,7 +72,9 @@ module _ {M : Type 1} (𝓤 : URA M) (H : Heap 𝓤) (A : Atoms 𝓤) (W : Given
   found = levelOf (view (d .job) (now (d .bytes))) k
 
   abbrev Post : Val → SProp 𝓤
-  Post = walkOf 𝓤 H A level.ended stayed (level.clauses 𝓤 H A mem run) .post (((κ, tt), (q, tt), tt, (d, (k, tt)), (mach ∷ [], (vint w16 k ∷ [], tt))), tt)
+  Post =
+      walkOf 𝓤 H A level.ended stayed (level.clauses 𝓤 H A mem run) .post
+      (((κ, tt), (q, tt), tt, (d, (k, tt)), (mach ∷ [], (vint w16 k ∷ [], tt))), tt)
 
   -- what the callee is passed
   abbrev passed : Vals work.signature (κ, tt)
@@ -81,7 +85,8 @@ module _ {M : Type 1} (𝓤 : URA M) (H : Heap 𝓤) (A : Atoms 𝓤) (W : Given
 
   asked : ent 𝓤 (onEntry 𝓤 H A work.signature (κ, tt) (q, tt) (d .bytes, (d .job, (k, tt))) passed) (Of 𝓤 H A mem run .pre to)
   asked =
-      qed W ((‵ (flft κ q) ⊛ ‵ ftrue) ∷ ‵ (owns (ShrSlice (named 0) κ u8 ∷ J.the-row ∷ u16 ∷ []) (d .bytes, (d .job, (k, tt))) passed) ∷ []) ∵ join !
+      qed W ((‵ (flft κ q) ⊛ ‵ ftrue) ∷ ‵ (owns (ShrSlice (named 0) κ u8 ∷ J.the-row ∷ u16 ∷ [])
+      (d .bytes, (d .job, (k, tt))) passed) ∷ []) ∵ join !
       $ frame ! $ done !
 
   -- what the reader owns gives what the callee asks, and is kept
@@ -90,16 +95,22 @@ module _ {M : Type 1} (𝓤 : URA M) (H : Heap 𝓤) (A : Atoms 𝓤) (W : Given
       (sep 𝓤 (Of 𝓤 H A mem run .pre to) (sem 𝓤 H A (Own 𝓤 H A W κ d)))
   apart =
       qed W ((‵ (flft κ q) ⊛ ‵ ftrue) ∷ ‵ (owns (Row (κ, tt) ∷ u16 ∷ []) (d, (k, tt)) (mach ∷ [], (vint w16 k ∷ [], tt))) ∷ []) ∵
-      move ! (1 ∷ []) $ fsplit ! $ use1 W ((‵ (OwnBytes κ (d .bytes)) ⊛ ‵ (OwnJob 𝓤 H A W κ d)) ⊛ ‵ (Own 𝓤 H A W κ d)) (parted 𝓤 H A W κ d) $ split !
+      move ! (1 ∷ []) $ fsplit ! $ use1 W ((‵ (OwnBytes κ (d .bytes)) ⊛ ‵ (OwnJob 𝓤 H A W κ d)) ⊛ ‵ (Own 𝓤 H A W κ d))
+      (parted 𝓤 H A W κ d) $ split !
       $ split ! $
       -- [what bytes owns; what job owns; what the reader owns; what k owns, and true; the token]
-      move ! (1 ∷ 3 ∷ []) $ fjoin ! $ move ! (1 ∷ 0 ∷ []) $ fjoin ! $ move ! (2 ∷ 0 ∷ []) $ use2 W (raw (Of 𝓤 H A mem run .pre to)) asked $ frame ! $ done !
+      move ! (1 ∷ 3 ∷ []) $ fjoin ! $ move ! (1 ∷ 0 ∷ []) $ fjoin ! $ move ! (2 ∷ 0 ∷ []) $ use2 W
+      (raw (Of 𝓤 H A mem run .pre to)) asked $ frame ! $ done !
 
   -- of the callee's `ensured`, the clause alone: it has no `&mut`, so nothing is said of last values
-  said : (r : Level) → ent 𝓤 (ensured 𝓤 H A work.ended (work.clauses 𝓤 H A mem run) (κ, tt) (d .bytes, (d .job, (k, tt))) tt r) (fact 𝓤 (r ≡ found))
+  said :
+      (r : Level) → ent 𝓤 (ensured 𝓤 H A work.ended (work.clauses 𝓤 H A mem run) (κ, tt) (d .bytes, (d .job, (k, tt))) tt r)
+      (fact 𝓤 (r ≡ found))
   said r = exE 𝓤 _ (λ ws. snd∗ 𝓤 (sem 𝓤 H A (lasts work.ended (κ, tt) (d .bytes, (d .job, (k, tt))) ws)) (fact 𝓤 (r ≡ found)))
 
-  exits : (r : Level) (u : Val) → r ≡ found → ent 𝓤 (⋆ 𝓤 H A (‵ (S.the-row .own r (u ∷ [])) ∷ (‵ (flft κ q) ⊛ ‵ ftrue) ∷ ‵ (Own 𝓤 H A W κ d) ∷ [])) (Post u)
+  exits :
+      (r : Level) (u : Val) → r ≡ found → ent 𝓤
+      (⋆ 𝓤 H A (‵ (S.the-row .own r (u ∷ [])) ∷ (‵ (flft κ q) ⊛ ‵ ftrue) ∷ ‵ (Own 𝓤 H A W κ d) ∷ [])) (Post u)
   exits r u e =
       qed W (‵ (S.the-row .own r (u ∷ [])) ∷ (‵ (flft κ q) ⊛ ‵ ftrue) ∷ ‵ (Own 𝓤 H A W κ d) ∷ []) ∵
       suffices ! _ (ends-at 𝓤 H A level.ended stayed (level.clauses 𝓤 H A mem run) W
@@ -113,7 +124,8 @@ module _ {M : Type 1} (𝓤 : URA M) (H : Heap 𝓤) (A : Atoms 𝓤) (W : Given
         (onEntry 𝓤 H A level.signature (κ, tt) (q, tt) (d, (k, tt)) (mach ∷ [], (vint w16 k ∷ [], tt)))
         (WpFn 𝓤 H C Λ code.function (mach ∷ vint w16 k ∷ []) Post)
     walk wt =
-        qed W (raw (onEntry 𝓤 H A level.signature (κ, tt) (q, tt) (d, (k, tt)) (mach ∷ [], (vint w16 k ∷ [], tt))) ∷ []) ∵ enter ! C Λ code.function
+        qed W (raw (onEntry 𝓤 H A level.signature (κ, tt) (q, tt) (d, (k, tt)) (mach ∷ [], (vint w16 k ∷ [], tt)))
+        ∷ []) ∵ enter ! C Λ code.function
         (mach ∷ vint w16 k ∷ []) _ $
         alloc1 ! (λ l₀. alloc1 ! (λ l₁. alloc1 ! (λ l₂. alloc1 ! (λ l₃. alloc1 ! (λ l₄. alloc0 ! $ params1 ! $
         pass1 ! (init ! 6 refl wt) $ pass1 ! (init ! 4 refl (
@@ -137,18 +149,25 @@ module _ {M : Type 1} (𝓤 : URA M) (H : Heap 𝓤) (A : Atoms 𝓤) (W : Given
         peeks ! S.the-row (Is S.the-row) (shows 𝓤 H A S.the-row) r (u ∷ []) (λ is.
         land ! (from ! (stop !)) (init ! 11 refl (LL.lawful S.the-type S′.the-laws 𝓤 H A W .typed r _ is .0)) $
         returns ! (look ! 11 refl) $ forget ! 3 refl $ forget ! 5 refl $ forget ! 7 refl $ forget ! 9 refl $ forget ! 11 refl $
-        move ! (11 ∷ 12 ∷ []) $ free1 ! $ move ! (9 ∷ 10 ∷ []) $ free1 ! $ move ! (7 ∷ 8 ∷ []) $ free1 ! $ move ! (5 ∷ 6 ∷ []) $ free1 ! $ move !
+        move ! (11 ∷ 12 ∷ []) $ free1 ! $ move ! (9 ∷ 10 ∷ []) $ free1 ! $ move ! (7 ∷ 8 ∷ []) $ free1 ! $ move ! (5 ∷ 6 ∷ []) $
+        free1 ! $ move !
         (3 ∷ 4 ∷ []) $ free1 ! $ free0 ! $ by ! (exits r u e))))))))))
 
-meets : {M : Type 1} (𝓤 : URA M) (H : Heap 𝓤) (A : Atoms 𝓤) (W : Given 𝓤 H A) (mem : Memory → SProp 𝓤) (run : Routine → Fun 𝓤) (𝓣 : Tables 𝓤 H)
+meets :
+    {M : Type 1} (𝓤 : URA M) (H : Heap 𝓤) (A : Atoms 𝓤) (W : Given 𝓤 H A) (mem : Memory → SProp 𝓤) (run : Routine → Fun 𝓤)
+    (𝓣 : Tables 𝓤 H)
     → Triple 𝓤 (𝓣 .C #job·records·level-of) (Of 𝓤 H A mem run)
     → Meets 𝓤 H A level.signature (WpFn 𝓤 H (𝓣 .C) (𝓣 .Λ) code.function) (level.spec 𝓤 H A mem run)
 meets 𝓤 H A W mem run 𝓣 known =
-    walk-meets 𝓤 H A level.ended stayed W (goes-none 𝓤 H A W 1 Row yes (λ κs x f. refl), (goes-none 𝓤 H A W 1 (λ _. u16) yes (λ κs x f. refl), tt))
+    walk-meets 𝓤 H A level.ended stayed W (
+      goes-none 𝓤 H A W 1 Row yes (λ κs x f. refl),
+      (goes-none 𝓤 H A W 1 (λ _. u16) yes (λ κs x f. refl), tt),
+    )
     (level.clauses 𝓤 H A mem run) (WpFn 𝓤 H (𝓣 .C) (𝓣 .Λ) code.function) (WpFn-mono 𝓤 H (W .laws) 𝓣 code.function)
     (walked 𝓤 H A level.ended stayed (level.clauses 𝓤 H A mem run) (WpFn 𝓤 H (𝓣 .C) (𝓣 .Λ) code.function)
     (λ κs. (LL.vals (Shape κs) (laws κs), (uint-vals w16, tt))) (λ κs. (LL.tells (Shape κs) (laws κs), (uint-tells w16, tt)))
-    (λ κs qs bounds a g are. via 𝓤 _ (fst∗ 𝓤 _ (emp 𝓤)) (walk 𝓤 H A W mem run (κs .0) (qs .0) (a .0) (a .1 .0) (are .1 .0 .1) (𝓣 .C) (𝓣 .Λ)
+    (λ κs qs bounds a g are. via 𝓤 _ (fst∗ 𝓤 _ (emp 𝓤))
+    (walk 𝓤 H A W mem run (κs .0) (qs .0) (a .0) (a .1 .0) (are .1 .0 .1) (𝓣 .C) (𝓣 .Λ)
     (fmOf 𝓤 H (W .laws) 𝓣) known (LL.lawful (Shape κs) (laws κs) 𝓤 H A W .typed (a .0) _ (are .0) .0))))
 
 pub level-spec : {M : Type 1} → stated.statement M
@@ -157,4 +176,5 @@ level-spec 𝓤 H 𝓜 𝓖 𝓡 =
     entered 𝓤 H (tripleOf 𝓤 H (𝓖 .A) level.signature (level.spec 𝓤 H (𝓖 .A) (𝓜 .mem) (𝓡 .run)))
     (tables 𝓤 H 𝓜 𝓡 code.env .C) (tables 𝓤 H 𝓜 𝓡 code.env .Λ) #job·reader·level code.function (code.unfolded 𝓤 H 𝓜 𝓡)
     (meets 𝓤 H (𝓖 .A) (givenOf 𝓤 H 𝓜 𝓖) (𝓜 .mem) (𝓡 .run) (tablesOf 𝓤 H 𝓜 (tables 𝓤 H 𝓜 𝓡 code.env))
-    (cited 𝓤 H (Of 𝓤 H (𝓖 .A) (𝓜 .mem) (𝓡 .run)) 𝓜 𝓡 code.env #job·records·level-of work-def.routine code.calls-job·records·level-of (work-thm.met 𝓤 H 𝓜 𝓖 𝓡)))
+    (cited 𝓤 H (Of 𝓤 H (𝓖 .A) (𝓜 .mem) (𝓡 .run)) 𝓜 𝓡 code.env #job·records·level-of work-def.routine
+    code.calls-job·records·level-of (work-thm.met 𝓤 H 𝓜 𝓖 𝓡)))
