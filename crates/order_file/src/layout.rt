@@ -1,6 +1,7 @@
 // Where an order file holds what it says, and its fields read from there.
 ghost use mathlib.Core.Path.{_≡_};
 ghost use Prim.Native.Nat.{_<_};
+ghost use Rattle.order_file.specs.Contents.{gapSpan};
 ghost use Rattle.order_file.specs.Layout.{windowAt, orderAt, linkAt, gapRead, contentsOf};
 use little_endian::SIGN_BIAS;
 
@@ -115,7 +116,7 @@ pub fn earliest(file: &[u8], k: usize) -> usize
 // The gap plus 100000, of the i32 read without a sign.
 fn gap_read(biased: usize) -> usize
     requires { ⌜ biased < 4294967296 ⌝ }
-    ensures { λ r. ⌜ (r ≡ gapRead biased) × (r < 2147583648) ⌝ }
+    ensures { λ r. ⌜ (r ≡ gapRead biased) × (r < gapSpan) ⌝ }
 {
     if biased < SIGN_BIAS - GAP_BIAS {
         0
@@ -141,7 +142,7 @@ pub fn second(file: &[u8], k: usize) -> usize
 
 pub fn gap(file: &[u8], k: usize) -> usize
     requires { ⌜ k < 65536 ⌝ }
-    ensures { λ r. ⌜ (r ≡ contentsOf (now (file .entry)) .gap k) × (r < 2147583648) ⌝ }
+    ensures { λ r. ⌜ (r ≡ contentsOf (now (file .entry)) .gap k) × (r < gapSpan) ⌝ }
 {
     gap_read(little_endian::biased_at(file, order_at(steps(file), k) + 4))
 }

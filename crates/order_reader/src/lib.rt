@@ -7,7 +7,7 @@ use order_file::layout;
 ghost use mathlib.Core.Path.{_≡_};
 ghost use Prim.Native.Nat.{_<_};
 ghost use Rattle.order_file.specs.Layout.{contentsOf};
-ghost use Rattle.order_file.specs.Contents.{signedGap};
+ghost use Rattle.order_file.specs.Contents.{gapSpan, signedGap};
 ghost use Rattle.order_reader.specs.Answers.{recordCount, recordOf, HeaderPromise, RecordPromise, AlikePromise};
 
 // What reading the header finds.
@@ -88,7 +88,7 @@ fn record_count(file: &[u8], table: u32) -> usize
 
 // The paper's gap of a gap plus 100000.
 fn signed_gap(gap: usize) -> i32
-    requires { ⌜ gap < 2147583648 ⌝ }
+    requires { ⌜ gap < gapSpan ⌝ }
     ensures { λ r. ⌜ r ≡ signedGap gap ⌝ }
 {
     if gap < layout::GAP_BIAS {

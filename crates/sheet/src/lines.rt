@@ -1,6 +1,7 @@
 // The lines of the text, each put into a buffer from a position on.
 ghost use Prim.Native.Nat.{_+_, _≤_, _<_};
 ghost use Rattle.order_file.specs.Layout.{contentsOf};
+ghost use Rattle.order_file.specs.Contents.{gapSpan};
 ghost use Rattle.sheet.specs.Text.{latestText, gapText, headLine, windowLine, orderLine, headMost, windowMost, orderMost};
 ghost use Rattle.sheet.specs.Put.{Put};
 use crate::put::put_decimal;
@@ -22,7 +23,7 @@ fn put_latest(latest: usize, at: usize, out: &mut [u8]) -> usize
 
 // Puts the gap of an order, from the gap plus 100000.
 fn put_gap(gap: usize, at: usize, out: &mut [u8]) -> usize
-    requires { ⌜ (at < 1000000000) × (gap < 2147583648) ⌝ }
+    requires { ⌜ (at < 1000000000) × (gap < gapSpan) ⌝ }
     ensures { λ r. ⌜ Put (now (out .entry)) at (gapText gap) (now (out .exit)) r × (r ≤ at + 11) ⌝ }
 {
     if gap < layout::GAP_BIAS {
