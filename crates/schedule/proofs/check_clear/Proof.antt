@@ -7,7 +7,7 @@ use Rattle.verdict.specs.Verdict.{number}
 use Rattle.verdict.proofs.Chain.{stands, decides}
 use Rattle.validity.specs.Checks.{startsCheck}
 use Rattle.schedule.proofs.Chained.{starts-counted, others-decide}
-use Rattle.schedule.proofs.Conflicts.{one-value-lowest}
+use Rattle.values.proofs.Conflicts.{one-value-lowest}
 use borrow.Author.Needs.{needs}
 use Rattle.schedule.proofs.check_clear.Statement.{statement}
 use Rattle.schedule.proofs.check_clear.Tie as tie

@@ -1,7 +1,7 @@
 -- A conflict of effects is refused; without one, the other four rules decide.
 use Rattle.job.proofs.Ranged.{well-formed-ranged}
 use Rattle.schedule.proofs.Chained.{conflict-refused, others-decide, none-conflict}
-use Rattle.schedule.proofs.Contested.{contested-lowest}
+use Rattle.values.proofs.Contested.{contested-lowest}
 use borrow.Author.Needs.{needs}
 use Rattle.schedule.proofs.check_timing.Statement.{statement}
 use Rattle.schedule.proofs.check_timing.Tie as tie

@@ -2,9 +2,9 @@
 use mathlib.Core.Path.{refl, sym, _∙_}
 use borrow.Author.Tests.{eqb-true}
 use Rattle.laws.proofs.Search.{contrary}
-use Rattle.schedule.proofs.Conflicts.{facts-listed, unmixed-one}
+use Rattle.values.proofs.Conflicts.{facts-listed, unmixed-one}
 use Rattle.schedule.proofs.UsesApart.{levels-listed, apart-one-use}
-use Rattle.schedule.proofs.Contested.{contested-lowest, own-kept}
+use Rattle.values.proofs.Contested.{contested-lowest, own-kept}
 use Rattle.schedule.proofs.is_clear.Statement.{statement}
 use Rattle.schedule.proofs.is_clear.Tie as tie
 

@@ -1,0 +1,202 @@
+-- What conflicts with an effect stands among the setters of its fact, beside a neighbour of another value.
+use Prim.Native.Nat.{ℕ, zero, suc, _+_, _-_, _≤_, _<_}
+use mathlib.Core.Path.{_≡_, refl, sym, ap, ap₂, subst, _∙_}
+use mathlib.Core.Bool.{Bool, true, false, not, _&&_}
+use mathlib.Core.Logic.{⊎-elim}
+use mathlib.Core.List.{List}
+use native.Mathlib.Decide.{decLt, ℕ-discrete}
+use native.Mathlib.Omega.{arith}
+use borrow.Author.Tests.{eqb-true, eqb-false, not-true, eq-eqb, ne-eqb}
+use lib.Dec.{eqb}
+use lib.ListN.{length, getD}
+use Rattle.laws.specs.Search.{lowest}
+use Rattle.laws.proofs.Search.{either, contrary, by-order, and-both, any-none, lowest-is}
+use Rattle.job.specs.Model.{Model}
+use Rattle.timeline.specs.Words.{tickAt, valueAt}
+use Rattle.timeline.specs.Placed.{Parted}
+use Rattle.timeline.specs.Walking.{Walking}
+use Rattle.timeline.proofs.Walking.{run-none}
+use Rattle.validity.specs.Ticks.{effectTick}
+use Rattle.validity.specs.Checks.{meets, conflicts}
+use Rattle.points.specs.Points.{PointsKnown, OneValue}
+use Rattle.values.specs.Against.{FactsListed, Unmixed, FactsUnmixed, Rising, Scanned}
+use Rattle.values.proofs.Against.{Opposing, scan-any}
+
+-- whoever meets an effect opposes it at its tick, and the other way round
+module _ (m : Model) (x : ℕ → ℕ) (e k : ℕ) where
+  meets-out : meets m x e k ≡ true → Opposing m x (m .effectFact e) (m .effectValue e) (m .effectStep e) (effectTick m x e) (effectTick m x e) k
+  unfolding meets
+  meets-out t =
+      let b = and-both _ _ t in
+      let a = and-both _ _ (b .0) in
+      let o = and-both _ _ (a .1) in
+      let at : effectTick m x e ≡ effectTick m x k = eqb-true _ _ (b .1) in
+      record {
+        ofFact = sym (eqb-true _ _ (o .0));
+        differs = λ q. eqb-false _ _ (not-true _ (o .1)) (sym q);
+        another = λ q. eqb-false _ _ (not-true _ (a .0)) (sym q);
+        late = omega arith;
+        early = omega arith;
+      }
+
+  meets-in : Opposing m x (m .effectFact e) (m .effectValue e) (m .effectStep e) (effectTick m x e) (effectTick m x e) k → meets m x e k ≡ true
+  unfolding meets
+  meets-in o =
+      ap₂ _&&_
+      (ap₂ _&&_ (ap not (ne-eqb _ _ (λ q. o .another (sym q)))) (ap₂ _&&_ (eq-eqb _ _ (sym (o .ofFact))) (ap not (ne-eqb _ _ (λ q. o .differs
+      (sym q))))))
+      (eq-eqb (effectTick m x e) (effectTick m x k) (omega (arith, o .late, o .early)))
+
+-- The setters of an effect's fact.
+module _ {m : Model} {x : ℕ → ℕ} {points begins : List ℕ} (known : PointsKnown m x points begins) (e : ℕ) (h : m .effectFact e < m .facts) where
+  -- The scan from the first place at its tick finds whether one of them conflicts with it.
+  module _ {fact low high : ℕ} (on : fact ≡ m .effectFact e) (begin : low ≡ getD begins fact 0) (end : high ≡ getD begins (fact + 1) 0) where
+    lows : low ≡ getD begins (m .effectFact e) 0
+    lows = begin ∙ ap (λ f. getD begins f 0) on
+
+    highs : high ≡ getD begins (m .effectFact e + 1) 0
+    highs = end ∙ ap (λ f. getD begins (f + 1) 0) on
+
+    pub effect-walking : (tick : ℕ) → Walking points low high tick (record { place = low; run = low })
+    effect-walking tick =
+        let group = known .setters (m .effectFact e) h in
+        let a = lows in
+        let b = highs in
+        record {
+          ends = omega (arith, group .ends);
+          rises = λ p q l g k. group .rises p q (omega arith) g (omega arith);
+          from = omega arith;
+          to = omega (arith, group .begins);
+          before = λ p l g. absurd (omega arith);
+          run = run-none (omega arith) (omega arith) refl;
+        }
+
+    module _ {tick place : ℕ} (parts : Parted points low high tick place) where
+      pub scan-ready : (high ≤ length points) × Rising points place high
+      scan-ready = (effect-walking tick .ends, λ p q l g k. effect-walking tick .rises p q (omega (arith, parts .from)) g k)
+
+      pub conflict-is :
+          {value step : ℕ} {r : Bool} → tick ≡ effectTick m x e → value ≡ m .effectValue e → step ≡ m .effectStep e
+          → Scanned points place high tick value step r
+          → r ≡ conflicts m x e
+      unfolding conflicts
+      conflict-is {value} {step} {r} at of by scan =
+          scan-any known h lows highs (subst (λ t. Parted points low high t place) at parts) (omega arith) (λ p l g. absurd (omega arith))
+          (subst (λ s. Scanned points place high (effectTick m x e) (m .effectValue e) s r) by
+          (subst (λ v. Scanned points place high (effectTick m x e) v step r) of (subst (λ t. Scanned points place high t value step r) at scan)))
+          (meets m x e) (λ k _. meets-out m x e k) (meets-in m x e)
+
+-- where no neighbours at one tick differ, no two places at one tick do
+module _ (points : List ℕ) {low high : ℕ} (rises : (p q : ℕ) → low ≤ p → p < q → q < high → tickAt points p ≤ tickAt points q)
+    (so : Unmixed points low high) where
+  unmixed-far : (p d : ℕ) → low ≤ p → p + d < high → tickAt points p ≡ tickAt points (p + d) → valueAt points p ≡ valueAt points (p + d)
+  unmixed-far p zero l g e = ap (valueAt points) (let q : p ≡ p + 0 = omega arith in q)
+  unmixed-far p (suc d) l g e =
+      let last : p + suc d - 1 ≡ p + d = omega arith in
+      let up : tickAt points (p + d) ≤ tickAt points (p + suc d) = rises (p + d) (p + suc d) (omega arith) (omega arith) g in
+      let same : tickAt points (p + suc d - 1) ≡ tickAt points (p + d) = ap (tickAt points) last in
+      let from : tickAt points p ≤ tickAt points (p + d) =
+      elim (decLt 0 d) [
+        | yes k ↦ rises p (p + d) l (omega arith) (omega arith)
+        | no k ↦ let z : tickAt points p ≡ tickAt points (p + d) = ap (tickAt points) (let y : p ≡ p + d = omega arith in y) in omega arith
+      ]
+      in
+      unmixed-far p d l (omega arith) (omega arith)
+      ∙ sym (ap (valueAt points) last)
+      ∙ so (p + suc d) (omega arith) g (omega arith)
+
+  pub unmixed-all : (p q : ℕ) → low ≤ p → p < q → q < high → tickAt points p ≡ tickAt points q → valueAt points p ≡ valueAt points q
+  unmixed-all p q l g k e =
+      let far : p + (q - p) ≡ q = omega arith in
+      unmixed-far p (q - p) l (omega arith) (e ∙ sym (ap (tickAt points) far)) ∙ ap (valueAt points) far
+
+-- the neighbours among a fact's setters before a place do not differ at one tick
+pub record Neighbours (points begins : List ℕ) (fact end place : ℕ) : Type 0 where
+  pub ends : end ≡ getD begins (fact + 1) 0
+  pub listed : end ≤ length points
+  pub past : getD begins fact 0 < place
+  pub alike : Unmixed points (getD begins fact 0) place
+
+module _ {points begins : List ℕ} {fact end : ℕ} where
+  pub neighbours-start :
+      {low : ℕ} → getD begins (fact + 1) 0 ≤ length points → end ≡ getD begins (fact + 1) 0 → low ≡ getD begins fact 0
+      → Neighbours points begins fact end (low + 1)
+  neighbours-start h e b = record { ends = e; listed = omega arith; past = omega arith; alike = λ p l g. absurd (omega arith) }
+
+  module _ {place : ℕ} (so : Neighbours points begins fact end place) where
+    -- one more pair; r is what the code's test gave
+    pub neighbours-more :
+        {r : Bool} → r ≡ (eqb (tickAt points (place - 1)) (tickAt points place) && not (eqb (valueAt points (place - 1)) (valueAt points place)))
+        → r ≡ false
+        → Neighbours points begins fact end (place + 1)
+    neighbours-more e n =
+        record {
+          ends = so .ends;
+          listed = so .listed;
+          past = omega (arith, so .past);
+          alike = λ p l g same.
+              elim (decLt p place) [
+                | yes i ↦ so .alike p l i same
+                | no i ↦
+                    let q : p ≡ place = omega arith in
+                    elim (ℕ-discrete (valueAt points (p - 1)) (valueAt points p)) [
+                      | yes v ↦ v
+                      | no v ↦
+                          contrary (ap₂ _&&_ (eq-eqb _ _ same) (ap not (ne-eqb _ _ v)))
+                          (ap (λ k. eqb (tickAt points (k - 1)) (tickAt points k) && not (eqb (valueAt points (k - 1)) (valueAt points k))) q ∙ sym e
+                          ∙ n)
+                    ]
+              ];
+        }
+
+    pub neighbours-end : end ≤ place → Unmixed points (getD begins fact 0) (getD begins (fact + 1) 0)
+    neighbours-end past p l g = so .alike p l (omega (arith, g, so .ends))
+
+pub facts-more :
+    (points begins : List ℕ) {fact : ℕ} → FactsUnmixed fact points begins → Unmixed points (getD begins fact 0) (getD begins (fact + 1) 0)
+    → FactsUnmixed (fact + 1) points begins
+facts-more points begins {fact} so more f l =
+    elim (decLt f fact) [
+      | yes i ↦ so f i
+      | no i ↦ subst (λ k. Unmixed points (getD begins k 0) (getD begins (k + 1) 0)) (let e : fact ≡ f = omega arith in e) more
+    ]
+
+module _ {m : Model} {x : ℕ → ℕ} {points begins : List ℕ} (known : PointsKnown m x points begins) where
+  pub facts-listed : FactsListed (m .facts) points begins
+  facts-listed = (omega (arith, known .room), λ f h. known .setters f h .ends)
+
+  -- where no fact is mixed, no two effects give one fact different values at one tick
+  pub unmixed-one : ((e : ℕ) → e < m .effects → m .effectFact e < m .facts) → FactsUnmixed (m .facts) points begins → OneValue m x
+  unmixed-one listed so e k l g same at =
+      let h = listed e l in
+      let group = known .setters (m .effectFact e) h in
+      let a = group .found e (l, refl) in
+      let b = group .found k (g, sym same) in
+      let p : ℕ = a .0 in
+      let q : ℕ = b .0 in
+      let first = group .values p (a .1) (a .2) ∙ ap (m .effectValue) (a .3) in
+      let second = group .values q (b .1) (b .2) ∙ ap (m .effectValue) (b .3) in
+      let tick : tickAt points p ≡ tickAt points q =
+      group .ticks p (a .1) (a .2) ∙ ap (effectTick m x) (a .3) ∙ at ∙ sym (group .ticks q (b .1) (b .2) ∙ ap (effectTick m x) (b .3))
+      in
+      let all = unmixed-all points (group .rises) (so (m .effectFact e) h) in
+      sym first
+      ∙ by-order p q (λ i. all p q (a .1) i (b .2) tick) (λ i. sym (all q p (b .1) i (a .2) (sym tick))) (λ i. ap (valueAt points) i)
+      ∙ second
+
+-- then no two conflict
+pub one-value-lowest : (m : Model) (x : ℕ → ℕ) → OneValue m x → m .effects ≡ lowest (m .effects) (conflicts m x)
+unfolding conflicts
+one-value-lowest m x one =
+    sym
+    (lowest-is (conflicts m x) (m .effects) (m .effects) (omega arith)
+    (λ e l.
+    any-none (meets m x e) (m .effects)
+    (λ k g.
+    ⊎-elim
+    (λ (t : meets m x e k ≡ true).
+    let o = meets-out m x e k t in
+    absurd (o .differs (sym (one e k l g (sym (o .ofFact)) (let at : effectTick m x e ≡ effectTick m x k = omega (arith, o .late, o .early) in at)))))
+    (λ (n : meets m x e k ≡ false). n)
+    (either (meets m x e k))))
+    (λ l. absurd (let z : m .effects < m .effects = l in omega arith)))

@@ -1,0 +1,8 @@
+-- What a walk along the setters of a fact finds of its effects, conditions and goals is what all effects say of them.
+mod GoalRuns
+mod Against
+mod Breaks
+pub mod Contested
+pub mod Conflicts
+mod Noted
+mod Walked
