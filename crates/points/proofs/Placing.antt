@@ -10,7 +10,8 @@ use Rattle.job.specs.WellFormed.{Ranged}
 use Rattle.points.specs.Points.{Setter, Wanting, Using, wantedGroup, usedGroup, groupCount, PointsKnown}
 use Rattle.points.specs.Words.{pointCount, conditionWord, effectWord, useWord, WordsListed}
 use Rattle.timeline.proofs.Words.{step-back, value-back, number-back, tick-back, group-back}
-use Rattle.timeline.specs.Placed.{Placed, Distinct, Rearranged, Grouped}
+use Rattle.timeline.specs.Placed.{Placed}
+use Rattle.sort.specs.Sorted.{Distinct, Rearranged, Grouped}
 use Rattle.timeline.specs.Words.{wordOf, wordStep, wordValue, wordNumber, wordTick, wordGroup, numberAt, tickAt, groupAt}
 use Rattle.timeline.specs.Words.{stepSpan, valueSpan, numberSpan, tickSpan, groupSpan}
 use Rattle.validity.specs.Ticks.{effectTick, firstTick, useTick}

@@ -16,7 +16,7 @@ use job::layout::Job;
 use job::records::condition_of;
 use job::records::effect_of;
 use job::records::use_of;
-use timeline::sort::sort_points;
+use sort::sort_points;
 use timeline::word::word_of;
 
 // How many points and groups a job has at most.

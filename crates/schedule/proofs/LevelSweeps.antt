@@ -16,14 +16,13 @@ use Rattle.laws.proofs.Search.{and-both, and-l, either, any-found, any-none}
 use Rattle.laws.proofs.Fold.{sum-zero}
 use Rattle.job.specs.Model.{Model}
 use Rattle.timeline.specs.Words.{numberAt, tickAt}
-use Rattle.timeline.specs.Placed.{Parted}
+use Rattle.timeline.specs.Placed.{Parted, placeLimit}
 use Rattle.timeline.proofs.PlacedSums.{sum-placed}
 use Rattle.validity.specs.Ticks.{useTick}
 use Rattle.validity.specs.Levels.{rise, fall, usedBy, risesBefore, fallsBefore, aboveLeast, belowMost}
 use Rattle.validity.specs.Checks.{passes, levelFails}
 use Rattle.points.specs.Points.{usedGroup, PointsKnown}
 use Rattle.schedule.specs.declared.levels.Sums.{Sums}
-use Rattle.timeline.specs.Sortable.{placeLimit}
 use Rattle.schedule.specs.LevelSums.{sumLimit, sumFrom, inBounds, UsesPlaced, Stretch, Summed, Added, SummedTick}
 
 module _ {m : Model} {points : List ℕ} {low high : ℕ} where

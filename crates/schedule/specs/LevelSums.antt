@@ -9,8 +9,7 @@ use Rattle.laws.specs.Fold.{sum}
 use Rattle.little_endian.specs.Bytes.{signBias}
 use Rattle.job.specs.Model.{Model}
 use Rattle.timeline.specs.Words.{numberAt, tickAt}
-use Rattle.timeline.specs.Placed.{Placed}
-use Rattle.timeline.specs.Sortable.{placeLimit}
+use Rattle.timeline.specs.Placed.{Placed, placeLimit}
 use Rattle.validity.specs.Ticks.{useTick}
 use Rattle.validity.specs.Levels.{rise, fall}
 use Rattle.points.specs.Points.{Using}

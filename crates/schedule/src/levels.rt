@@ -5,7 +5,7 @@ ghost use Rattle.laws.specs.Search.{lowest};
 ghost use Rattle.job.specs.Model.{view};
 ghost use Rattle.validity.specs.Checks.{levelFails};
 ghost use Rattle.points.specs.Points.{PointsKnown};
-ghost use Rattle.timeline.specs.Sortable.{placeLimit};
+ghost use Rattle.timeline.specs.Placed.{placeLimit};
 ghost use Rattle.schedule.specs.LevelSums.{sumLimit, inBounds, UsesPlaced, Stretch, Summed, Added, SummedTick};
 use job::layout::Job;
 use job::records::*;

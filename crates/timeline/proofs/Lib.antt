@@ -1,10 +1,5 @@
--- What a word is made of, how words are counted, dealt and sorted, walks and sums along them; how an index grows.
+-- What a word is made of, walks and sums along words; how an index grows.
 pub mod Indexing
-pub mod Counting
 pub mod Words
 pub mod Walking
-pub mod Ranks
-pub mod Rearranging
-pub mod Arranging
-pub mod Dealing
 pub mod PlacedSums
