@@ -14,7 +14,7 @@ use Rattle.verdict.proofs.Chain.{then-zero, refuse-zero}
 use Rattle.job.specs.declared.layout.Job.{Job}
 use Rattle.job.specs.declared.layout.Positions.{Positions}
 use Rattle.job.specs.Layout.{tableAt, countsOf, positionsOf, jobOf}
-use Rattle.job.specs.Laid.{Laid}
+use Rattle.job_reader.specs.Laid.{Laid}
 use Rattle.job.specs.Model.{modelOf}
 use Rattle.form.specs.declared.Form.{Form}
 use Rattle.form.specs.Header.{headerCheck, layoutAgrees}

@@ -1,11 +1,11 @@
 // Refusal 6 through one reader of the caller's bytes.
 ghost use mathlib.Core.Path.{_≡_};
-ghost use Rattle.job.specs.Laid.{Laid};
+ghost use Rattle.job_reader.specs.Laid.{Laid};
 ghost use Rattle.job.specs.Model.{view};
 ghost use Rattle.form.specs.Refusals.{recordCheck};
 use crate::ranges::check_records;
 use job::layout::Job;
-use job::reader::JobReader;
+use job_reader::reader::JobReader;
 use verdict::Verdict;
 
 pub fn check_tables<'a>(r: JobReader<'a>) -> Verdict

@@ -1,3 +1,2 @@
--- What a well-formed job's points rely on; what the proofs over the job reader share.
+-- What a well-formed job's points rely on.
 pub mod Ranged
-pub mod Held

@@ -1,5 +1,4 @@
 -- What a job file holds: its layout, the job in it, and when that is well formed.
 pub mod Layout
-pub mod Laid
 pub mod Model
 pub mod WellFormed

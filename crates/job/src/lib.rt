@@ -1,4 +1,3 @@
-// The job file: its layout, and the readers of its records.
+// The job file: its layout, and the readers of its fields.
 pub mod layout;
-pub mod reader;
 pub mod records;

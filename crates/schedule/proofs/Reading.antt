@@ -6,7 +6,7 @@ use native.Mathlib.Omega.{arith}
 use Rattle.verdict.specs.declared.Verdict.{Verdict}
 use Rattle.verdict.specs.Verdict.{number, _then_}
 use Rattle.job.specs.declared.layout.Job.{Job}
-use Rattle.job.specs.Laid.{Laid}
+use Rattle.job_reader.specs.Laid.{Laid}
 use Rattle.job.specs.Model.{Model, view}
 use Rattle.job.specs.WellFormed.{WellFormed, Ranged}
 use Rattle.form.specs.Refusals.{stepCheck, formCheck}

@@ -35,16 +35,16 @@ use denote.Triple.Table.{entered, cited}
 use denote.Triple.Walked.{says, Stays, stay-none, stay-none-slice, walkOf, goes-none, goes-none-slice, ends-at, walked, walk-meets}
 use denote.Exit.{yes}
 use denote.Triple.Clauses.{ensured, lasts}
-use Rattle.job.specs.Laid.{Laid}
+use Rattle.job_reader.specs.Laid.{Laid}
 use Rattle.job.specs.Model.{view}
 use Rattle.job.specs.declared.layout.Job.{Job}
-use Rattle.job.specs.declared.reader.JobReader.{JobReader}
+use Rattle.job_reader.specs.declared.reader.JobReader.{JobReader}
 use Rattle.verdict.specs.declared.Verdict.{Verdict}
 use Rattle.form.specs.Refusals.{recordCheck}
-use Rattle.job.proofs.Held.{Row, slice, OwnBytes, OwnJob, Own, joined}
+use Rattle.job_reader.proofs.Held.{Row, slice, OwnBytes, OwnJob, Own, joined}
 use Rattle.job.proofs.layout.Job as J
 use Rattle.job.proofs.layout.Job.Laws as J′
-use Rattle.job.proofs.reader.JobReader.Laws as T′
+use Rattle.job_reader.proofs.reader.JobReader.Laws as T′
 use Rattle.verdict.proofs.Verdict as S
 use Rattle.verdict.proofs.Verdict.Laws as S′
 use Rattle.form.proofs.tables.check_tables as check-tables

@@ -1,7 +1,7 @@
 -- The fields are the record's, which lies within the bytes.
 use borrow.Author.Needs.{needs}
-use Rattle.job.proofs.records.use_of.Statement.{statement}
-use Rattle.job.proofs.records.use_of.Tie as tie
+use Rattle.job_reader.proofs.laid.use_of.Statement.{statement}
+use Rattle.job_reader.proofs.laid.use_of.Tie as tie
 
 pub use-of-spec : {M : Type 1} → statement M
 use-of-spec =

@@ -6,8 +6,8 @@ use lib.Dec.{leb}
 use Rattle.laws.proofs.Search.{and-both}
 use borrow.Author.Tests.{leb-true, le-leb}
 use borrow.Author.Needs.{needs}
-use Rattle.job.proofs.records.is_laid.Statement.{statement}
-use Rattle.job.proofs.records.is_laid.Tie as tie
+use Rattle.job_reader.proofs.laid.is_laid.Statement.{statement}
+use Rattle.job_reader.proofs.laid.is_laid.Tie as tie
 
 parts : (a b c d n : ℕ) → (leb a n && leb b n && leb c n && leb d n) ≡ true → (a ≤ n) × (b ≤ n) × (c ≤ n) × (d ≤ n)
 parts a b c d n e =

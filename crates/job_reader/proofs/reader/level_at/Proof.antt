@@ -35,24 +35,24 @@ use denote.Triple.Table.{entered, cited}
 use denote.Triple.Walked.{says, Stays, stay-none, stay-none-slice, walkOf, goes-none, goes-none-slice, ends-at, walked, walk-meets}
 use denote.Exit.{yes}
 use denote.Triple.Clauses.{ensured, lasts}
 use Rattle.job.specs.Model.{view, levelOf}
 use Rattle.job.specs.declared.layout.Job.{Job}
-use Rattle.job.specs.declared.reader.JobReader.{JobReader}
+use Rattle.job_reader.specs.declared.reader.JobReader.{JobReader}
 use Rattle.job.specs.declared.records.Level.{Level}
-use Rattle.job.proofs.Held.{Row, slice, OwnBytes, OwnJob, Own, joined}
+use Rattle.job_reader.proofs.Held.{Row, slice, OwnBytes, OwnJob, Own, joined}
 use Rattle.job.proofs.layout.Job as J
 use Rattle.job.proofs.layout.Job.Laws as J′
-use Rattle.job.proofs.reader.JobReader.Laws as T′
+use Rattle.job_reader.proofs.reader.JobReader.Laws as T′
 use Rattle.job.proofs.records.Level as S
 use Rattle.job.proofs.records.Level.Laws as S′
-use Rattle.job.proofs.reader.level as level
-use Rattle.job.proofs.reader.level.Symbol as level-def
-use Rattle.job.proofs.reader.level.Symbol.{name as #job·reader·level}
-use Rattle.job.proofs.reader.level.Met as level-thm
-use Rattle.job.proofs.reader.level_at.Key.{name as #job·reader·level-at}
-use Rattle.job.proofs.reader.level_at as level-at
-use Rattle.job.proofs.reader.level_at.Statement as stated
-use Rattle.job.proofs.reader.level_at.Code as code
+use Rattle.job_reader.proofs.reader.level as level
+use Rattle.job_reader.proofs.reader.level.Symbol as level-def
+use Rattle.job_reader.proofs.reader.level.Symbol.{name as #level}
+use Rattle.job_reader.proofs.reader.level.Met as level-thm
+use Rattle.job_reader.proofs.reader.level_at.Key.{name as #level-at}
+use Rattle.job_reader.proofs.reader.level_at as level-at
+use Rattle.job_reader.proofs.reader.level_at.Statement as stated
+use Rattle.job_reader.proofs.reader.level_at.Code as code
 
 abbrev stayed : Stays (level-at.ended .signature .params) (level-at.ended .kept)
 stayed = (stay-none-slice (0 ∷ []) tt (plain (λ _. u8)) yes, (stay-none (λ _. J.the-row) yes, (stay-none (λ _. u16) yes, tt)))
@@ -117,7 +117,7 @@ module _ {M : Type 1} (𝓤 : URA M) (H : Heap 𝓤) (A : Atoms 𝓤) (W : Given
       (tt, (tt, (tt, tt))) (tt, (tt, (tt, tt)))) $ says ! e $
       move ! (1 ∷ 2 ∷ []) $ frame ! $ frame ! $ done !
 
-  module _ (C : Calls 𝓤 H) (Λ : Loops 𝓤 H) (fm : FmC 𝓤 H (W .laws) C) (known : Triple 𝓤 (C #job·reader·level) (Read 𝓤 H A mem run)) where
+  module _ (C : Calls 𝓤 H) (Λ : Loops 𝓤 H) (fm : FmC 𝓤 H (W .laws) C) (known : Triple 𝓤 (C #level) (Read 𝓤 H A mem run)) where
     walk :
         Is (ShrSlice (named 0) κ u8) s (slice s ∷ []) → Is J.the-row j (J′.lowered j ∷ []) → ent 𝓤
         (onEntry 𝓤 H A level-at.signature (κ, tt) (q, tt) (s, (j, (k, tt))) at)
@@ -154,7 +154,7 @@ module _ {M : Type 1} (𝓤 : URA M) (H : Heap 𝓤) (A : Atoms 𝓤) (W : Given
 meets :
     {M : Type 1} (𝓤 : URA M) (H : Heap 𝓤) (A : Atoms 𝓤) (W : Given 𝓤 H A) (mem : Memory → SProp 𝓤) (run : Routine → Fun 𝓤)
     (𝓣 : Tables 𝓤 H)
-    → Triple 𝓤 (𝓣 .C #job·reader·level) (Read 𝓤 H A mem run)
+    → Triple 𝓤 (𝓣 .C #level) (Read 𝓤 H A mem run)
     → Meets 𝓤 H A level-at.signature (WpFn 𝓤 H (𝓣 .C) (𝓣 .Λ) code.function) (level-at.spec 𝓤 H A mem run)
 meets 𝓤 H A W mem run 𝓣 known =
     walk-meets 𝓤 H A level-at.ended stayed W (
@@ -173,7 +173,7 @@ pub level-at-spec : {M : Type 1} → stated.statement M
 unfolding code.routine tablesOf
 level-at-spec 𝓤 H 𝓜 𝓖 𝓡 =
     entered 𝓤 H (tripleOf 𝓤 H (𝓖 .A) level-at.signature (level-at.spec 𝓤 H (𝓖 .A) (𝓜 .mem) (𝓡 .run)))
-    (tables 𝓤 H 𝓜 𝓡 code.env .C) (tables 𝓤 H 𝓜 𝓡 code.env .Λ) #job·reader·level-at code.function (code.unfolded 𝓤 H 𝓜 𝓡)
+    (tables 𝓤 H 𝓜 𝓡 code.env .C) (tables 𝓤 H 𝓜 𝓡 code.env .Λ) #level-at code.function (code.unfolded 𝓤 H 𝓜 𝓡)
     (meets 𝓤 H (𝓖 .A) (givenOf 𝓤 H 𝓜 𝓖) (𝓜 .mem) (𝓡 .run) (tablesOf 𝓤 H 𝓜 (tables 𝓤 H 𝓜 𝓡 code.env))
-    (cited 𝓤 H (Read 𝓤 H (𝓖 .A) (𝓜 .mem) (𝓡 .run)) 𝓜 𝓡 code.env #job·reader·level level-def.routine
-    code.calls-job·reader·level (level-thm.met 𝓤 H 𝓜 𝓖 𝓡)))
+    (cited 𝓤 H (Read 𝓤 H (𝓖 .A) (𝓜 .mem) (𝓡 .run)) 𝓜 𝓡 code.env #level level-def.routine
+    code.calls-job-reader·reader·level (level-thm.met 𝓤 H 𝓜 𝓖 𝓡)))

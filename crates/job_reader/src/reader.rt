@@ -2,14 +2,29 @@
 // covers no function over a struct that holds a reference, so each takes it apart and calls a covered one on the slice and the
 // numbers; and whoever has a plain slice calls a function of plain parameters above them, as `level_at`.
 ghost use mathlib.Core.Path.{_≡_};
 ghost use Rattle.job.specs.Model.{view, levelOf};
-use crate::layout::Job;
-use crate::records::Level;
-use crate::records::level_of;
+use job::layout::Job;
+use job::records::Level;
+use job::records::level_initial;
+use job::records::level_least;
+use job::records::level_most;
 
 pub struct JobReader<'a> {
     pub bytes: &'a [u8],
     pub job: Job,
+}
+
+fn level_of(s: &[u8], job: Job, k: u16) -> Level
+    ensures { λ r. ⌜ r ≡ levelOf (view job (now (s .entry))) k ⌝ }
+{
+    let initial = level_initial(s, job, k);
+    let least = level_least(s, job, k);
+    let most = level_most(s, job, k);
+    Level {
+        initial,
+        least,
+        most,
+    }
 }
 
 pub fn level<'a>(r: JobReader<'a>, k: u16) -> Level

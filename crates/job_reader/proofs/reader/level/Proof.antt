@@ -36,23 +36,23 @@ use denote.Triple.Table.{entered, cited}
 use denote.Triple.Walked.{says, Stays, stay-none, walkOf, goes-none, ends-at, walked, walk-meets}
 use denote.Exit.{yes}
 use denote.Triple.Clauses.{ensured, lasts}
 use Rattle.job.specs.Model.{view, levelOf}
-use Rattle.job.specs.declared.reader.JobReader.{JobReader}
+use Rattle.job_reader.specs.declared.reader.JobReader.{JobReader}
 use Rattle.job.specs.declared.records.Level.{Level}
-use Rattle.job.proofs.Held.{Row, Shape, laws, slice, OwnBytes, OwnJob, Own, parted}
+use Rattle.job_reader.proofs.Held.{Row, Shape, laws, slice, OwnBytes, OwnJob, Own, parted}
 use Rattle.job.proofs.layout.Job as J
 use Rattle.job.proofs.layout.Job.Laws as J′
-use Rattle.job.proofs.reader.JobReader.Laws as T′
+use Rattle.job_reader.proofs.reader.JobReader.Laws as T′
 use Rattle.job.proofs.records.Level as S
 use Rattle.job.proofs.records.Level.Laws as S′
-use Rattle.job.proofs.records.level_of as work
-use Rattle.job.proofs.records.level_of.Symbol as work-def
-use Rattle.job.proofs.records.level_of.Symbol.{name as #job·records·level-of}
-use Rattle.job.proofs.records.level_of.Met as work-thm
-use Rattle.job.proofs.reader.level.Key.{name as #job·reader·level}
-use Rattle.job.proofs.reader.level as level
-use Rattle.job.proofs.reader.level.Statement as stated
-use Rattle.job.proofs.reader.level.Code as code
+use Rattle.job_reader.proofs.reader.level_of as work
+use Rattle.job_reader.proofs.reader.level_of.Symbol as work-def
+use Rattle.job_reader.proofs.reader.level_of.Symbol.{name as #level-of}
+use Rattle.job_reader.proofs.reader.level_of.Met as work-thm
+use Rattle.job_reader.proofs.reader.level.Key.{name as #level}
+use Rattle.job_reader.proofs.reader.level as level
+use Rattle.job_reader.proofs.reader.level.Statement as stated
+use Rattle.job_reader.proofs.reader.level.Code as code
 
 abbrev stayed : Stays (level.ended .signature .params) (level.ended .kept)
 stayed = (stay-none Row yes, (stay-none (λ _. u16) yes, tt))
@@ -118,7 +118,7 @@ module _ {M : Type 1} (𝓤 : URA M) (H : Heap 𝓤) (A : Atoms 𝓤) (W : Given
       move ! (1 ∷ []) $ frame ! $ nothing ! $ owned ! u16 (Is u16) (uint-makes 𝓤 H A W w16) k _ (refl, fits) $ fjoin ! $ move ! (2 ∷ 0 ∷ []) $ fjoin !
       $ frame ! $ done !
 
-  module _ (C : Calls 𝓤 H) (Λ : Loops 𝓤 H) (fm : FmC 𝓤 H (W .laws) C) (known : Triple 𝓤 (C #job·records·level-of) (Of 𝓤 H A mem run)) where
+  module _ (C : Calls 𝓤 H) (Λ : Loops 𝓤 H) (fm : FmC 𝓤 H (W .laws) C) (known : Triple 𝓤 (C #level-of) (Of 𝓤 H A mem run)) where
     walk :
         Holds (hasTy (T′.mir (named 0)) mach) × WT mach → ent 𝓤
         (onEntry 𝓤 H A level.signature (κ, tt) (q, tt) (d, (k, tt)) (mach ∷ [], (vint w16 k ∷ [], tt)))
@@ -156,7 +156,7 @@ module _ {M : Type 1} (𝓤 : URA M) (H : Heap 𝓤) (A : Atoms 𝓤) (W : Given
 meets :
     {M : Type 1} (𝓤 : URA M) (H : Heap 𝓤) (A : Atoms 𝓤) (W : Given 𝓤 H A) (mem : Memory → SProp 𝓤) (run : Routine → Fun 𝓤)
     (𝓣 : Tables 𝓤 H)
-    → Triple 𝓤 (𝓣 .C #job·records·level-of) (Of 𝓤 H A mem run)
+    → Triple 𝓤 (𝓣 .C #level-of) (Of 𝓤 H A mem run)
     → Meets 𝓤 H A level.signature (WpFn 𝓤 H (𝓣 .C) (𝓣 .Λ) code.function) (level.spec 𝓤 H A mem run)
 meets 𝓤 H A W mem run 𝓣 known =
     walk-meets 𝓤 H A level.ended stayed W (
@@ -174,7 +174,7 @@ pub level-spec : {M : Type 1} → stated.statement M
 unfolding code.routine tablesOf
 level-spec 𝓤 H 𝓜 𝓖 𝓡 =
     entered 𝓤 H (tripleOf 𝓤 H (𝓖 .A) level.signature (level.spec 𝓤 H (𝓖 .A) (𝓜 .mem) (𝓡 .run)))
-    (tables 𝓤 H 𝓜 𝓡 code.env .C) (tables 𝓤 H 𝓜 𝓡 code.env .Λ) #job·reader·level code.function (code.unfolded 𝓤 H 𝓜 𝓡)
+    (tables 𝓤 H 𝓜 𝓡 code.env .C) (tables 𝓤 H 𝓜 𝓡 code.env .Λ) #level code.function (code.unfolded 𝓤 H 𝓜 𝓡)
     (meets 𝓤 H (𝓖 .A) (givenOf 𝓤 H 𝓜 𝓖) (𝓜 .mem) (𝓡 .run) (tablesOf 𝓤 H 𝓜 (tables 𝓤 H 𝓜 𝓡 code.env))
-    (cited 𝓤 H (Of 𝓤 H (𝓖 .A) (𝓜 .mem) (𝓡 .run)) 𝓜 𝓡 code.env #job·records·level-of work-def.routine
-    code.calls-job·records·level-of (work-thm.met 𝓤 H 𝓜 𝓖 𝓡)))
+    (cited 𝓤 H (Of 𝓤 H (𝓖 .A) (𝓜 .mem) (𝓡 .run)) 𝓜 𝓡 code.env #level-of work-def.routine
+    code.calls-job-reader·reader·level-of (work-thm.met 𝓤 H 𝓜 𝓖 𝓡)))

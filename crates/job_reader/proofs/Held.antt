@@ -23,11 +23,11 @@ use denote.Struct.Declared.{Declared}
 use denote.Struct.Laws as LL
 use denote.Struct.Rest.{all-own, own-open, own-shut}
 use denote.Struct.Values.{Values}
-use Rattle.job.specs.declared.reader.JobReader.{JobReader}
+use Rattle.job_reader.specs.declared.reader.JobReader.{JobReader}
 use Rattle.job.proofs.layout.Job as J
 use Rattle.job.proofs.layout.Job.Laws as J′
-use Rattle.job.proofs.reader.JobReader as T
-use Rattle.job.proofs.reader.JobReader.Laws as T′
+use Rattle.job_reader.proofs.reader.JobReader as T
+use Rattle.job_reader.proofs.reader.JobReader.Laws as T′
 
 -- the struct's type over a signature's one lifetime, and its parts
 abbrev pub Row : Lfts 1 → RattleType

@@ -1,0 +1,2 @@
+-- What the proofs over the job reader share.
+pub mod Held

@@ -1,0 +1,2 @@
+-- Which records lie within the bytes.
+pub mod Laid
