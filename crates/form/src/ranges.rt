@@ -17,9 +17,12 @@ use job::layout::LONGEST;
 use job::layout::LOWEST_AMOUNT;
 use job::layout::LOWEST_LEVEL;
 use job::layout::Table;
-use job::records::*;
+use job::records::NO_DEADLINE;
 use job_reader::laid::*;
+use job_reader::reader::fact_at;
+use job_reader::reader::goal_at;
 use job_reader::reader::level_at;
+use job_reader::reader::step_at;
 use little_endian::SIGN_BIAS;
 use verdict::Verdict;
 use verdict::number;
@@ -27,7 +30,7 @@ use verdict::number;
 fn fact_ok(s: &[u8], job: Job, k: u16) -> bool
     ensures { λ r. ⌜ r ≡ factOk (view job (now (s .entry))) k ⌝ }
 {
-    fact_initial(s, job, k) <= 1
+    fact_at(s, job, k) <= 1
 }
 
 fn level_in_range(n: usize) -> bool
@@ -50,9 +53,8 @@ fn level_ok(s: &[u8], job: Job, k: u16) -> bool
 fn step_ok(s: &[u8], job: Job, k: u16) -> bool
     ensures { λ r. ⌜ r ≡ stepOk (view job (now (s .entry))) k ⌝ }
 {
-    (step_start(s, job, k) <= LAST_START)
-        & (step_length(s, job, k) <= LONGEST)
-        & (step_fixed(s, job, k) <= 1)
+    let step = step_at(s, job, k);
+    (step.start <= LAST_START) & (step.length <= LONGEST) & (step.fixed <= 1)
 }
 
 fn condition_ok(s: &[u8], job: Job, k: u16) -> bool
@@ -98,10 +100,10 @@ fn use_ok(s: &[u8], job: Job, k: u16) -> bool
 fn goal_ok(s: &[u8], job: Job, k: u16) -> bool
     ensures { λ r. ⌜ r ≡ goalOk (view job (now (s .entry))) k ⌝ }
 {
-    let deadline = goal_deadline(s, job, k);
-    (goal_fact(s, job, k) < job.count.facts)
-        & (goal_value(s, job, k) <= 1)
-        & ((deadline <= LAST_DEADLINE) | (deadline == NO_DEADLINE))
+    let goal = goal_at(s, job, k);
+    (goal.fact < job.count.facts)
+        & (goal.value <= 1)
+        & ((goal.deadline <= LAST_DEADLINE) | (goal.deadline == NO_DEADLINE))
 }
 
 fn record_ok(s: &[u8], job: Job, table: Table, k: u16) -> bool

@@ -4,6 +4,8 @@ use mathlib.Core.List.{List}
 use Rattle.little_endian.specs.Bytes.{signBias, byteAt, u16At, u32At, biasedAt}
 use Rattle.job.specs.declared.layout.Job.{Job}
 use Rattle.job.specs.declared.records.Level.{Level}
+use Rattle.job.specs.declared.records.Step.{Step}
+use Rattle.job.specs.declared.records.Goal.{Goal}
 use Rattle.job.specs.declared.records.Condition.{Condition}
 use Rattle.job.specs.declared.records.Effect.{Effect}
 use Rattle.job.specs.declared.records.Use.{Use}
@@ -116,9 +118,15 @@ view j s = record {
 abbrev pub modelOf : List ℕ → Model
 modelOf s = view (jobOf s) s
 
--- a level's record
+-- a level's record, a step's and a goal's
 abbrev pub levelOf : Model → ℕ → Level
 levelOf m k = record { initial = m .levelInitial k; least = m .levelLeast k; most = m .levelMost k }
+
+abbrev pub stepOf : Model → ℕ → Step
+stepOf m k = record { start = m .start k; length = m .stepLength k; fixed = m .fixed k }
+
+abbrev pub goalOf : Model → ℕ → Goal
+goalOf m k = record { fact = m .goalFact k; value = m .goalValue k; deadline = m .goalDeadline k }
 
 -- a condition's, an effect's and a use's
 abbrev pub conditionOf : Model → ℕ → Condition

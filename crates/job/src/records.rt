@@ -176,7 +176,21 @@ pub fn goal_deadline(s: &[u8], job: Job, k: u16) -> usize
     little_endian::u32_at(s, job.at.goals as usize + WIDTHS[GOAL] * k as usize + 4)
 }
 
-// A whole record of a condition, an effect and a use.
+// A step's record.
+pub struct Step {
+    pub start: usize,
+    pub length: usize,
+    pub fixed: u16,
+}
+
+// A goal's.
+pub struct Goal {
+    pub fact: u16,
+    pub value: u16,
+    pub deadline: usize,
+}
+
+// A condition's, an effect's and a use's.
 pub struct Condition {
     pub step: u16,
     pub fact: u16,

@@ -5,6 +5,7 @@ ghost use Prim.Native.Nat.{_+_, _*_, _<_};
 ghost use Rattle.job.specs.Layout.{stepWidth, conditionWidth, effectWidth, useWidth};
 ghost use Rattle.job.specs.Model.{view, conditionOf, effectOf, useOf};
 ghost use Rattle.job_reader.specs.Laid.{Laid};
+use crate::reader::JobReader;
 use job::layout::CONDITION;
 use job::layout::EFFECT;
 use job::layout::Job;
@@ -57,7 +58,7 @@ pub fn length_within(s: &[u8], job: Job, k: u16) -> usize
     little_endian::u32_within(s, job.at.steps as usize + WIDTHS[STEP] * k as usize + 4)
 }
 
-pub fn condition_of(s: &[u8], job: Job, k: u16) -> Condition
+fn condition_within(s: &[u8], job: Job, k: u16) -> Condition
     requires { ⌜ Laid job (now s) × (k < job .count .conditions) ⌝ }
     ensures { λ r. ⌜ r ≡ conditionOf (view job (now (s .entry))) k ⌝ }
 {
@@ -71,7 +72,7 @@ pub fn condition_of(s: &[u8], job: Job, k: u16) -> Condition
     }
 }
 
-pub fn effect_of(s: &[u8], job: Job, k: u16) -> Effect
+fn effect_within(s: &[u8], job: Job, k: u16) -> Effect
     requires { ⌜ Laid job (now s) × (k < job .count .effects) ⌝ }
     ensures { λ r. ⌜ r ≡ effectOf (view job (now (s .entry))) k ⌝ }
 {
@@ -84,7 +85,7 @@ pub fn effect_of(s: &[u8], job: Job, k: u16) -> Effect
     }
 }
 
-pub fn use_of(s: &[u8], job: Job, k: u16) -> Use
+fn use_within(s: &[u8], job: Job, k: u16) -> Use
     requires { ⌜ Laid job (now s) × (k < job .count .uses) ⌝ }
     ensures { λ r. ⌜ r ≡ useOf (view job (now (s .entry))) k ⌝ }
 {
@@ -95,4 +96,48 @@ pub fn use_of(s: &[u8], job: Job, k: u16) -> Use
         at: little_endian::u32_within(s, at + 4),
         amount: little_endian::biased_within(s, at + 8),
     }
+}
+
+// The same through the reader, and of a slice of which it is made.
+pub fn condition<'a>(r: JobReader<'a>, k: u16) -> Condition
+    requires { ⌜ Laid (r .job) (now (r .bytes)) × (k < r .job .count .conditions) ⌝ }
+    ensures { λ x. ⌜ x ≡ conditionOf (view (r .entry .job) (now (r .entry .bytes))) k ⌝ }
+{
+    condition_within(r.bytes, r.job, k)
+}
+
+pub fn condition_of(s: &[u8], job: Job, k: u16) -> Condition
+    requires { ⌜ Laid job (now s) × (k < job .count .conditions) ⌝ }
+    ensures { λ r. ⌜ r ≡ conditionOf (view job (now (s .entry))) k ⌝ }
+{
+    condition(JobReader { bytes: s, job }, k)
+}
+
+pub fn effect<'a>(r: JobReader<'a>, k: u16) -> Effect
+    requires { ⌜ Laid (r .job) (now (r .bytes)) × (k < r .job .count .effects) ⌝ }
+    ensures { λ x. ⌜ x ≡ effectOf (view (r .entry .job) (now (r .entry .bytes))) k ⌝ }
+{
+    effect_within(r.bytes, r.job, k)
+}
+
+pub fn effect_of(s: &[u8], job: Job, k: u16) -> Effect
+    requires { ⌜ Laid job (now s) × (k < job .count .effects) ⌝ }
+    ensures { λ r. ⌜ r ≡ effectOf (view job (now (s .entry))) k ⌝ }
+{
+    effect(JobReader { bytes: s, job }, k)
+}
+
+// `use` is a word of the language.
+pub fn use_in<'a>(r: JobReader<'a>, k: u16) -> Use
+    requires { ⌜ Laid (r .job) (now (r .bytes)) × (k < r .job .count .uses) ⌝ }
+    ensures { λ x. ⌜ x ≡ useOf (view (r .entry .job) (now (r .entry .bytes))) k ⌝ }
+{
+    use_within(r.bytes, r.job, k)
+}
+
+pub fn use_of(s: &[u8], job: Job, k: u16) -> Use
+    requires { ⌜ Laid job (now s) × (k < job .count .uses) ⌝ }
+    ensures { λ r. ⌜ r ≡ useOf (view job (now (s .entry))) k ⌝ }
+{
+    use_in(JobReader { bytes: s, job }, k)
 }

@@ -1,4 +1,4 @@
-// Whole records of a job: levels through the reader that holds the caller's bytes; steps, conditions, effects and uses that lie within
-// the bytes, without a test for room.
+// Whole records of a job, through the reader that holds the caller's bytes: facts, levels, steps and goals of any bytes; conditions,
+// effects and uses that lie within the bytes, without a test for room.
 pub mod laid;
 pub mod reader;

@@ -1,4 +1,4 @@
--- The fields that are read are those that `factOk` tests.
+-- The value that is read is the one that `factOk` tests.
 use Rattle.form.specs.Ranges.{factOk}
 use borrow.Author.Needs.{needs}
 use Rattle.form.proofs.ranges.fact_ok.Statement.{statement}

@@ -1,4 +1,4 @@
--- The fields that are read are those that `goalOk` tests.
+-- The record that is read is the one that `goalOk` tests.
 use Rattle.form.specs.Ranges.{goalOk}
 use borrow.Author.Needs.{needs}
 use Rattle.form.proofs.ranges.goal_ok.Statement.{statement}
@@ -9,5 +9,5 @@ unfolding goalOk
 goal-ok-spec =
     tie.close
     (tie.spec
-    (λ c κs. search needs) (λ c κs. search needs) (λ c κs. search needs)
-    (λ c. rw (c .goal-value .ensures, c .before .before .goal-fact .ensures, c .before .before .before .goal-deadline .ensures .0)))
+    (λ c κs. search needs)
+    (λ c. rw (c .before .before .before .before .before .goal-at .ensures)))

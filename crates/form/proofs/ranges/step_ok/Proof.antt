@@ -1,4 +1,4 @@
--- The fields that are read are those that `stepOk` tests.
+-- The record that is read is the one that `stepOk` tests.
 use Rattle.form.specs.Ranges.{stepOk}
 use borrow.Author.Needs.{needs}
 use Rattle.form.proofs.ranges.step_ok.Statement.{statement}
@@ -9,5 +9,5 @@ unfolding stepOk
 step-ok-spec =
     tie.close
     (tie.spec
-    (λ c κs. search needs) (λ c κs. search needs) (λ c κs. search needs)
-    (λ c. cc))
+    (λ c κs. search needs)
+    (λ c. rw (c .before .before .before .step-at .ensures)))

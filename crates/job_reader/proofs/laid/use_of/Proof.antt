@@ -1,12 +1,14 @@
--- The fields are the record's, which lies within the bytes.
-use borrow.Author.Needs.{needs}
-use Rattle.job_reader.proofs.laid.use_of.Statement.{statement}
-use Rattle.job_reader.proofs.laid.use_of.Tie as tie
+-- A reader is made, and `use_in` is called.
+use Rattle.job_reader.proofs.Readings.{uses}
+use Rattle.job_reader.proofs.PutTogether.{put-together}
+use Rattle.job_reader.proofs.laid.use_in.Symbol as work
+use Rattle.job_reader.proofs.laid.use_in.Met as work-thm
+use Rattle.job_reader.proofs.laid.use_of.Key as key
+use Rattle.job_reader.proofs.laid.use_of.Statement as stated
+use Rattle.job_reader.proofs.laid.use_of.Code as code
 
-pub use-of-spec : {M : Type 1} → statement M
-use-of-spec =
-    tie.close
-    (tie.spec
-    (λ c. search needs) (λ c. search needs) (λ c. search needs) (λ c. search needs) (λ c. search needs) (λ c. search needs)
-    (λ c. search needs) (λ c. search needs) (λ c. search needs) (λ c. search needs) (λ c. search needs) (λ c. search needs) (λ c. search needs)
-    (λ c. cc))
+pub use-of-spec : {M : Type 1} → stated.statement M
+unfolding code.routine
+use-of-spec 𝓤 H 𝓜 𝓖 𝓡 =
+    put-together uses work.name 𝓤 H 𝓜 𝓖 𝓡 code.env key.name (code.unfolded 𝓤 H 𝓜 𝓡) work.routine
+    code.calls-job-reader·laid·use-in (work-thm.met 𝓤 H 𝓜 𝓖 𝓡)
