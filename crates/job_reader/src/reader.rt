@@ -89,9 +89,9 @@ pub fn step_at(s: &[u8], job: Job, k: u16) -> Step
 fn goal_record(s: &[u8], job: Job, k: u16) -> Goal
     ensures { λ r. ⌜ r ≡ goalOf (view job (now (s .entry))) k ⌝ }
 {
+    let deadline = goal_deadline(s, job, k);
     let fact = goal_fact(s, job, k);
     let value = goal_value(s, job, k);
-    let deadline = goal_deadline(s, job, k);
     Goal {
         fact,
         value,
