@@ -106,7 +106,7 @@ pub fn put_byte(at: usize, b: u8, s: &mut [u8])
 }
 
 // Puts the two bytes of a u16 within the bytes.
-fn put_u16_within(at: usize, n: usize, s: &mut [u8])
+pub fn put_u16_within(at: usize, n: usize, s: &mut [u8])
     requires { ⌜ at + 2 ≤ length (now s) ⌝ }
     ensures { λ _. ⌜ now (s .exit) ≡ sets (now (s .entry)) at (u16Bytes n) ⌝ }
 {
@@ -126,7 +126,7 @@ pub fn put_u16(at: usize, n: usize, s: &mut [u8])
 }
 
 // Puts the four bytes of a u32 within the bytes.
-fn put_u32_within(at: usize, n: usize, s: &mut [u8])
+pub fn put_u32_within(at: usize, n: usize, s: &mut [u8])
     requires { ⌜ at + 4 ≤ length (now s) ⌝ }
     ensures { λ _. ⌜ now (s .exit) ≡ sets (now (s .entry)) at (u32Bytes n) ⌝ }
 {

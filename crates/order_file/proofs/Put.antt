@@ -7,12 +7,12 @@ use native.Mathlib.Decide.{decLe}
 use native.Mathlib.Omega.{arith}
 use borrow.Author.Tests.{eq-eqb, ne-eqb}
 use lib.ListN.{length, getD, length-append}
-use lib.Seq.{sets}
+use lib.Seq.{sets, length-sets}
 use Rattle.laws.specs.Listed.{concatenate}
 use Rattle.little_endian.specs.Bytes.{values, u16Bytes, u32Bytes}
 use Rattle.laws.specs.Nth.{count}
 use Rattle.laws.proofs.Listed.{concatenate-more}
-use Rattle.laws.proofs.Nth.{count-more, count-same, nth-is}
+use Rattle.laws.proofs.Nth.{count-more, count-same, count-below, nth-is}
 use Rattle.little_endian.proofs.Sets.{sets-behind}
 use Rattle.order_file.specs.Contents.{gapBias}
 use Rattle.order_file.specs.Encode.{headerWith, windowWith, gapBits}
@@ -52,7 +52,8 @@ module _ (f : ℕ → List ℕ) (before : List ℕ) (from : ℕ) where
   unfolding concatenate
   put-start = refl
 
-  pub put-end : (n i : ℕ) {now : List ℕ} → now ≡ sets before from (concatenate i f) → i ≤ n → n ≤ i → now ≡ sets before from (concatenate n f)
+  pub put-end :
+      (n i : ℕ) {now : List ℕ} → now ≡ sets before from (concatenate i f) → i ≤ n → n ≤ i → now ≡ sets before from (concatenate n f)
   put-end n i e h g = let q : i ≡ n = omega arith in e ∙ ap (λ k. sets before from (concatenate k f)) q
 
 -- one more record, each as wide as the others
@@ -140,7 +141,6 @@ entered-rest gaps n q z h m = count-rest (entered gaps) q tableSize m (λ j l. a
 -- A loop over the table of gaps has put the orders among the first q entries, and puts the next one at a place.
 pub record OrdersPut (gaps before : List ℕ) (from q at : ℕ) (bytes : List ℕ) : Type 0 where
   pub entries : q ≤ tableSize
-  pub fewer : count q (entered gaps) ≤ q
   pub place : at ≡ from + 8 * count q (entered gaps)
   pub put : bytes ≡ sets before from (concatenate (count q (entered gaps)) (orderIn gaps))
 
@@ -148,7 +148,11 @@ module _ (gaps before : List ℕ) (from : ℕ) where
   pub orders-start : OrdersPut gaps before from 0 from before
   unfolding count
   orders-start =
-      record { entries = omega arith; fewer = omega arith; place = omega arith; put = put-start (orderIn gaps) before from }
+      record { entries = omega arith; place = omega arith; put = put-start (orderIn gaps) before from }
+
+  -- orders are put over what stood there
+  pub orders-size : (q at : ℕ) (bytes : List ℕ) → OrdersPut gaps before from q at bytes → length bytes ≡ length before
+  orders-size q at bytes w = ap length (w .put) ∙ simp length-sets
 
   -- an entry's order has the number of those before it
   order-of : (q : ℕ) → q < tableSize → entered gaps q ≡ true → orderIn gaps (count q (entered gaps)) ≡ entryBytes q (getD gaps q 0)
@@ -156,6 +160,10 @@ module _ (gaps before : List ℕ) (from : ℕ) where
   order-of q h t = ap (λ k. entryBytes k (getD gaps k 0)) (nth-is (entered gaps) tableSize q h t)
 
   module _ (q at : ℕ) (bytes : List ℕ) (w : OrdersPut gaps before from q at bytes) (h : q < tableSize) where
+    -- where there is room for all orders, there is room for one that is found
+    pub order-fits : from + 8 * count tableSize (entered gaps) ≤ length before → tableBias < getD gaps q 0 → at + 8 ≤ length before
+    order-fits r n = omega (arith, w .place, count-below (entered gaps) tableSize q h (entered-above gaps q n))
+
     pub orders-more :
         {place : ℕ} {next : List ℕ} → tableBias < getD gaps q 0 → place ≡ at + 8 → next ≡ sets bytes at (entryBytes q (getD gaps q 0))
         → OrdersPut gaps before from (q + 1) place next
@@ -164,7 +172,6 @@ module _ (gaps before : List ℕ) (from : ℕ) where
         let m : count q (entered gaps) + 1 ≡ count (q + 1) (entered gaps) = count-more (entered gaps) q refl refl t in
         record {
           entries = omega arith;
-          fewer = omega (arith, w .fewer);
           place = omega (arith, w .place);
           put =
               put-more (orderIn gaps) 8 (length-order gaps) before from (count q (entered gaps)) at (w .put) (w .place)
@@ -172,12 +179,12 @@ module _ (gaps before : List ℕ) (from : ℕ) where
               ∙ ap (λ o. sets before from (concatenate o (orderIn gaps))) m;
         }
 
-    pub orders-same : {place : ℕ} {next : List ℕ} → getD gaps q 0 ≤ tableBias → place ≡ at → next ≡ bytes → OrdersPut gaps before from (q + 1) place next
+    pub orders-same :
+        {place : ℕ} {next : List ℕ} → getD gaps q 0 ≤ tableBias → place ≡ at → next ≡ bytes → OrdersPut gaps before from (q + 1) place next
     orders-same z a e =
         let m : count q (entered gaps) ≡ count (q + 1) (entered gaps) = count-same (entered gaps) q refl refl (entered-below gaps q z) in
         record {
           entries = omega arith;
-          fewer = omega (arith, w .fewer);
           place = omega (arith, w .place);
           put = e ∙ w .put ∙ ap (λ o. sets before from (concatenate o (orderIn gaps))) m;
         }

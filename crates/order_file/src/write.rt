@@ -1,6 +1,6 @@
 // Writing an order file into a caller's bytes: header, windows, orders, links.
 ghost use mathlib.Core.Path.{_≡_};
-ghost use Prim.Native.Nat.{_≤_, _<_};
+ghost use Prim.Native.Nat.{_+_, _*_, _≤_, _<_};
 ghost use lib.ListN.{length};
 ghost use lib.Seq.{sets};
 ghost use Rattle.laws.specs.Listed.{concatenate};
@@ -19,7 +19,9 @@ use crate::table::TABLE_BIAS;
 use crate::table::WIDTH;
 use little_endian::VALUES;
 use little_endian::put_u16;
+use little_endian::put_u16_within;
 use little_endian::put_u32;
+use little_endian::put_u32_within;
 
 // What takes the bias off an entry of the table, counted round below 0.
 const UNBIASED: usize = VALUES - ENTRY_BIAS as usize;
@@ -97,17 +99,18 @@ fn write_windows(steps: usize, limits: &[u32], latest: &[u32], earliest: &[u32],
 
 // Puts the order at an entry of the table of gaps: its steps, and the gap's bits.
 fn write_order(at: usize, q: usize, entry: usize, out: &mut [u8])
-    requires { ⌜ (at < 2000000) × (tableBias < entry) × (entry < 4294967296) ⌝ }
+    requires { ⌜ (at + 8 ≤ length (now out)) × (tableBias < entry) × (entry < 4294967296) ⌝ }
     ensures { λ _. ⌜ now (out .exit) ≡ sets (now (out .entry)) at (entryBytes q entry) ⌝ }
 {
-    put_u16(at, q / WIDTH, out);
-    put_u16(at + 2, q % WIDTH, out);
-    put_u32(at + 4, (entry + UNBIASED) % VALUES, out);
+    put_u16_within(at, q / WIDTH, out);
+    put_u16_within(at + 2, q % WIDTH, out);
+    put_u32_within(at + 4, (entry + UNBIASED) % VALUES, out);
 }
 
-// Puts every order that the table of the first steps holds, ascending.
+// Puts every order that the table of the first steps holds, ascending; there is room for all.
 fn write_orders(from: usize, gaps: &[u32], steps: usize, out: &mut [u8])
-    requires { ⌜ (from < 1000000) × (length (now gaps) ≡ tableSize) × (steps ≤ stepLimit) × NoneFrom steps (now gaps) ⌝ }
+    requires { ⌜ (from + 8 * count tableSize (entered (now gaps)) ≤ length (now out)) × (length (now gaps) ≡ tableSize) × (steps ≤ stepLimit)
+        × NoneFrom steps (now gaps) ⌝ }
     ensures { λ _. ⌜ now (out .exit)
         ≡ sets (now (out .entry)) from (concatenate (count tableSize (entered (now (gaps .entry)))) (orderIn (now (gaps .entry)))) ⌝ }
 {

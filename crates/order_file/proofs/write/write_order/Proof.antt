@@ -14,4 +14,5 @@ write-order-spec =
     let third = c .before .before in
     let second = third .before .before .before .before in
     let first = second .before .before .before .before in
-    put-order _ _ _ _ (first .before .before .before .pre .1) (first .put-u16 .ensures) (second .put-u162 .ensures) (third .put-u32 .ensures)))
+    put-order _ _ _ _ (first .before .before .before .pre .1) (first .put-u16-within .ensures) (second .put-u16-within2 .ensures)
+    (third .put-u32-within .ensures)))
