@@ -52,6 +52,10 @@ module _ (f : ℕ → List ℕ) (before : List ℕ) (from : ℕ) where
   unfolding concatenate
   put-start = refl
 
+  -- they are put over what stood there
+  pub put-size : (i : ℕ) {now : List ℕ} → now ≡ sets before from (concatenate i f) → length now ≡ length before
+  put-size i e = ap length e ∙ simp length-sets
+
   pub put-end :
       (n i : ℕ) {now : List ℕ} → now ≡ sets before from (concatenate i f) → i ≤ n → n ≤ i → now ≡ sets before from (concatenate n f)
   put-end n i e h g = let q : i ≡ n = omega arith in e ∙ ap (λ k. sets before from (concatenate k f)) q
@@ -149,10 +153,6 @@ module _ (gaps before : List ℕ) (from : ℕ) where
   unfolding count
   orders-start =
       record { entries = omega arith; place = omega arith; put = put-start (orderIn gaps) before from }
-
-  -- orders are put over what stood there
-  pub orders-size : (q at : ℕ) (bytes : List ℕ) → OrdersPut gaps before from q at bytes → length bytes ≡ length before
-  orders-size q at bytes w = ap length (w .put) ∙ simp length-sets
 
   -- an entry's order has the number of those before it
   order-of : (q : ℕ) → q < tableSize → entered gaps q ≡ true → orderIn gaps (count q (entered gaps)) ≡ entryBytes q (getD gaps q 0)

@@ -5,7 +5,7 @@ ghost use lib.ListN.{length};
 ghost use lib.Seq.{sets};
 ghost use Rattle.laws.specs.Listed.{concatenate};
 ghost use Rattle.laws.specs.Nth.{count};
-ghost use Rattle.order_file.specs.Contents.{stepLimit, linkLimit};
+ghost use Rattle.order_file.specs.Contents.{stepLimit};
 ghost use Rattle.order_file.specs.Layout.{windowsAt};
 ghost use Rattle.order_file.specs.Table.{tableSize, tableBias};
 ghost use Rattle.order_file.specs.Encode.{headerWith, windowWith, encode};
@@ -126,14 +126,14 @@ fn write_orders(from: usize, gaps: &[u32], steps: usize, out: &mut [u8])
     }
 }
 
-// Puts the first links.
+// Puts the first links; there is room for them.
 fn write_links(from: usize, links: usize, linked: &[u16], out: &mut [u8])
-    requires { ⌜ (from < 2000000) × (links ≤ linkLimit) × (links ≤ length (now linked)) ⌝ }
+    requires { ⌜ (from + 2 * links ≤ length (now out)) × (links ≤ length (now linked)) ⌝ }
     ensures { λ _. ⌜ now (out .exit) ≡ sets (now (out .entry)) from (concatenate links (linkIn (now (linked .entry)))) ⌝ }
 {
     let mut j = 0;
     while j < links {
-        put_u16(from + FILE_WIDTHS[LINK] * j, linked[j] as usize, out);
+        put_u16_within(from + FILE_WIDTHS[LINK] * j, linked[j] as usize, out);
         j += 1;
     }
 }

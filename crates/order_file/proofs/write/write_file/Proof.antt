@@ -18,7 +18,7 @@ write-file-spec =
     (λ c κs.
     let start = c .before .before .before .before .before .before .before .before .before .before .before .before .before .before .before in
     let roomy = start .before .before .before .before .before .before .pre in
-    (omega arith, roomy .linkCount, roomy .linkedCount))
+    (omega (arith, roomy .fileFits), roomy .linkedCount))
     (λ c. search needs)
     (λ c.
     let links = c .before .before in

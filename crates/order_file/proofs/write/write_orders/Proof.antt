@@ -4,7 +4,7 @@ use mathlib.Core.Logic.{⊎-elim}
 use mathlib.Core.Path.{_∙_}
 use native.Mathlib.Omega.{arith}
 use Rattle.order_file.specs.Table.{tableSize}
-use Rattle.order_file.proofs.Put.{OrdersPut, orders-start, orders-size, order-fits, orders-more, orders-same, orders-end}
+use Rattle.order_file.proofs.Put.{put-size, OrdersPut, orders-start, order-fits, orders-more, orders-same, orders-end}
 use Rattle.order_file.proofs.write.write_orders.Statement.{statement}
 use Rattle.order_file.proofs.write.write_orders.Tie as tie
 
@@ -26,7 +26,7 @@ write-orders-spec =
     let at-loop = found .before .before .before in
     let room = at-loop .before .before .before .pre .0 in
     let fits = order-fits _ _ _ _ _ _ (at-loop .loop .inv) (omega (arith, found .before .before .loop-test .taken)) room (found .if1 .taken) in
-    let size = orders-size _ _ _ _ _ _ (at-loop .loop .inv) in
+    let size = put-size _ _ _ _ (at-loop .loop .inv .put) in
     (omega arith, found .if1 .taken, omega (arith, c .before .shared-slice-known3 .given (at-loop .loop .q))))
     (λ c. omega arith)
     (λ c.
@@ -44,5 +44,5 @@ write-orders-spec =
     (λ w. orders-more _ _ _ _ _ _ v l (w .0 .taken) (w .7) (w .6 ∙ w .3 .ensures))
     (λ w. orders-same _ _ _ _ _ _ v l (w .0 .left) (w .2) (w .1))
     (c .if1 .came))
-    (λ c. orders-size _ _ _ _ _ _ (c .before .loop .inv))
+    (λ c. put-size _ _ _ _ (c .before .loop .inv .put))
     (λ c. orders-end _ _ _ _ _ _ _ (c .before .loop .inv) (c .before .before .before .before .pre .3) (c .loop-test .left)))
