@@ -6,7 +6,7 @@ ghost use lib.Seq.{sets};
 ghost use Rattle.laws.specs.Listed.{concatenate};
 ghost use Rattle.laws.specs.Nth.{count};
 ghost use Rattle.order_file.specs.Contents.{stepLimit};
-ghost use Rattle.order_file.specs.Layout.{windowsAt};
+ghost use Rattle.order_file.specs.Layout.{windowsAt, windowAt};
 ghost use Rattle.order_file.specs.Table.{tableSize, tableBias};
 ghost use Rattle.order_file.specs.Encode.{headerWith, windowWith, encode};
 ghost use Rattle.order_file.specs.Held.{entered, heldIn, windowIn, entryBytes, orderIn, linkIn, over, NoneFrom, Roomy};
@@ -70,17 +70,18 @@ fn write_header(header: Header, out: &mut [u8])
 
 // Puts three numbers, one behind the other.
 fn write_window(at: usize, limit: usize, latest: usize, earliest: usize, out: &mut [u8])
-    requires { ⌜ at < 1000000 ⌝ }
+    requires { ⌜ at + 12 ≤ length (now out) ⌝ }
     ensures { λ _. ⌜ now (out .exit) ≡ sets (now (out .entry)) at (windowWith limit latest earliest) ⌝ }
 {
-    put_u32(at, limit, out);
-    put_u32(at + 4, latest, out);
-    put_u32(at + 8, earliest, out);
+    put_u32_within(at, limit, out);
+    put_u32_within(at + 4, latest, out);
+    put_u32_within(at + 8, earliest, out);
 }
 
-// Puts the windows of the first steps.
+// Puts the windows of the first steps; there is room for them.
 fn write_windows(steps: usize, limits: &[u32], latest: &[u32], earliest: &[u32], out: &mut [u8])
-    requires { ⌜ (steps ≤ stepLimit) × (steps ≤ length (now limits)) × (steps ≤ length (now latest)) × (steps ≤ length (now earliest)) ⌝ }
+    requires { ⌜ (windowAt steps ≤ length (now out)) × (steps ≤ stepLimit) × (steps ≤ length (now limits)) × (steps ≤ length (now latest))
+        × (steps ≤ length (now earliest)) ⌝ }
     ensures { λ _. ⌜ now (out .exit)
         ≡ sets (now (out .entry)) windowsAt (concatenate steps (windowIn (now (limits .entry)) (now (latest .entry)) (now (earliest .entry)))) ⌝ }
 {

@@ -1,13 +1,12 @@
 -- One more window is put behind the others.
 use Prim.Native.Nat.{_≤_, _-_}
-use mathlib.Core.Path.{_≡_, ap, _∙_}
+use mathlib.Core.Path.{_≡_}
 use native.Mathlib.Omega.{arith}
-use lib.ListN.{length}
-use lib.Seq.{sets, length-sets}
+use lib.Seq.{sets}
 use Rattle.laws.specs.Listed.{concatenate}
 use Rattle.order_file.specs.Layout.{windowsAt}
 use Rattle.order_file.specs.Held.{windowIn}
-use Rattle.order_file.proofs.Put.{put-start, windows-more, put-end}
+use Rattle.order_file.proofs.Put.{put-start, put-size, windows-more, put-end}
 use Rattle.order_file.proofs.write.write_windows.Statement.{statement}
 use Rattle.order_file.proofs.write.write_windows.Tie as tie
 
@@ -28,12 +27,15 @@ write-windows-spec =
     (λ c. omega arith)
     (λ c. omega arith)
     (λ c. omega (arith, c .shared-slice-known6 .given (c .before .before .before .before .before .loop .k)))
-    (λ c κs. omega arith)
+    (λ c κs.
+    let placed = c .before .before .before .before in
+    let size = put-size _ _ _ _ (placed .before .before .loop .inv .1) in
+    omega (arith, placed .window-at .ensures .0))
     (λ c. omega arith)
     (λ c. omega arith)
     (λ c.
     let put = c .before .before in
     let placed = put .before .before .before .before .before in
     (omega arith, windows-more _ _ _ _ _ _ _ (placed .before .before .loop .inv .1) (placed .window-at .ensures .0) (put .write-window .ensures)))
-    (λ c. ap length (c .before .loop .inv .1) ∙ simp length-sets)
+    (λ c. put-size _ _ _ _ (c .before .loop .inv .1))
     (λ c. put-end _ _ _ _ _ (c .before .loop .inv .1) (c .before .loop .inv .0) (c .loop-test .left)))
