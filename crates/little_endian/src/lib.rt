@@ -4,7 +4,7 @@ ghost use Prim.Native.Nat.{_+_, _≤_, _<_};
 ghost use lib.Dec.{leb};
 ghost use lib.ListN.{length, set};
 ghost use lib.Seq.{sets};
-ghost use Rattle.little_endian.specs.Bytes.{byteAt, u16At, u32At, biasedAt, u16Bytes, u32Bytes};
+ghost use Rattle.little_endian.specs.Bytes.{u16Values, values, byteAt, u16At, u32At, biasedAt, u16Bytes, u32Bytes};
 
 fn wide(b: u8) -> usize
     ensures { λ r. ⌜ (r ≡ b) × (r < 256) ⌝ }
@@ -39,14 +39,14 @@ pub fn has_room(s: &[u8], at: usize, n: u16) -> bool
 // The u16 at a position within the bytes.
 pub fn u16_within(s: &[u8], at: usize) -> usize
     requires { ⌜ at + 2 ≤ length (now s) ⌝ }
-    ensures { λ r. ⌜ (r ≡ u16At (now (s .entry)) at) × (r < 65536) ⌝ }
+    ensures { λ r. ⌜ (r ≡ u16At (now (s .entry)) at) × (r < u16Values) ⌝ }
 {
     wide(s[at]) + 256 * wide(s[at + 1])
 }
 
 // The u16 that starts at a position; its bytes past the end count as 0.
 pub fn u16_at(s: &[u8], at: usize) -> usize
-    ensures { λ r. ⌜ (r ≡ u16At (now (s .entry)) at) × (r < 65536) ⌝ }
+    ensures { λ r. ⌜ (r ≡ u16At (now (s .entry)) at) × (r < u16Values) ⌝ }
 {
     if has_room(s, at, 2) {
         return u16_within(s, at);
@@ -57,14 +57,14 @@ pub fn u16_at(s: &[u8], at: usize) -> usize
 // The u32 at a position within the bytes.
 pub fn u32_within(s: &[u8], at: usize) -> usize
     requires { ⌜ at + 4 ≤ length (now s) ⌝ }
-    ensures { λ r. ⌜ (r ≡ u32At (now (s .entry)) at) × (r < 4294967296) ⌝ }
+    ensures { λ r. ⌜ (r ≡ u32At (now (s .entry)) at) × (r < values) ⌝ }
 {
     u16_within(s, at) + 65536 * u16_within(s, at + 2)
 }
 
 // The u32 that starts at a position; its bytes past the end count as 0.
 pub fn u32_at(s: &[u8], at: usize) -> usize
-    ensures { λ r. ⌜ (r ≡ u32At (now (s .entry)) at) × (r < 4294967296) ⌝ }
+    ensures { λ r. ⌜ (r ≡ u32At (now (s .entry)) at) × (r < values) ⌝ }
 {
     if has_room(s, at, 4) {
         return u32_within(s, at);
@@ -84,14 +84,14 @@ pub const VALUES: usize = 2 * SIGN_BIAS;
 // The i32 at a position within the bytes, plus the bias.
 pub fn biased_within(s: &[u8], at: usize) -> usize
     requires { ⌜ at + 4 ≤ length (now s) ⌝ }
-    ensures { λ r. ⌜ (r ≡ biasedAt (now (s .entry)) at) × (r < 4294967296) ⌝ }
+    ensures { λ r. ⌜ (r ≡ biasedAt (now (s .entry)) at) × (r < values) ⌝ }
 {
     (u32_within(s, at) + SIGN_BIAS) % VALUES
 }
 
 // The i32 that starts at a position, plus the bias.
 pub fn biased_at(s: &[u8], at: usize) -> usize
-    ensures { λ r. ⌜ (r ≡ biasedAt (now (s .entry)) at) × (r < 4294967296) ⌝ }
+    ensures { λ r. ⌜ (r ≡ biasedAt (now (s .entry)) at) × (r < values) ⌝ }
 {
     (u32_at(s, at) + SIGN_BIAS) % VALUES
 }

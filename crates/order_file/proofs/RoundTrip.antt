@@ -7,7 +7,7 @@ use native.Mathlib.Nat.{zero-add, add-zero}
 use native.Mathlib.Omega.{arith}
 use lib.ListN.{length, getD}
 use Rattle.laws.specs.Listed.{concatenate}
-use Rattle.little_endian.specs.Bytes.{u16At, u32At, biasedAt, u16Bytes, u32Bytes}
+use Rattle.little_endian.specs.Bytes.{u16Values, values, u16At, u32At, biasedAt, u16Bytes, u32Bytes}
 use Rattle.order_file.specs.Contents.{Contents, initialState}
 use Rattle.order_file.specs.Layout.{windowsAt, windowAt, ordersAt, orderAt, linksAt, linkAt, gapRead, contentsOf}
 use Rattle.order_file.specs.Encode.{headerBytes, windowBytes, orderBytes, linkBytes, gapBits, upToWindow, upToOrder, upToLink, encode}
@@ -17,16 +17,17 @@ use Rattle.order_file.proofs.Stands.{Stands, stands-behind, stands-long
 use Rattle.order_file.proofs.Encode.{length-header, length-window, length-order, length-link, length-up-to-window, length-up-to-order}
 
 -- the bytes of a number give the number
-u16-back : (n : ℕ) → n < 65536 → n % 256 + 256 * (n / 256 % 256) ≡ n
+u16-back : (n : ℕ) → n < u16Values → n % 256 + 256 * (n / 256 % 256) ≡ n
 u16-back n h = omega arith
 
-u32-back : (n : ℕ) → n < 4294967296 → n % 256 + 256 * (n / 256 % 256) + 65536 * (n / 65536 % 256 + 256 * (n / 65536 / 256 % 256)) ≡ n
+u32-back : (n : ℕ) → n < values → n % 256 + 256 * (n / 256 % 256) + 65536 * (n / 65536 % 256 + 256 * (n / 65536 / 256 % 256)) ≡ n
 u32-back n h = omega arith
 
 module _ (c : Contents) where
   -- what stands before the links, or before the orders, stands in the file
   before-links :
-      (part : List ℕ) (at : ℕ) → Stands (upToOrder c (c .orders)) at part → at + length part ≤ orderAt (c .steps) (c .orders) → Stands (encode c) at part
+      (part : List ℕ) (at : ℕ) → Stands (upToOrder c (c .orders)) at part → at + length part ≤ orderAt (c .steps) (c .orders)
+      → Stands (encode c) at part
   unfolding upToLink
   before-links part at p h =
       stands-longer (upToOrder c (c .orders)) (concatenate (c .links) (linkBytes c)) part at p
@@ -99,23 +100,23 @@ module _ (c : Contents) where
   link-u16 k h = stands-u16 (encode c) (linkAt (c .steps) (c .orders) k) (linkBytes c k) (link-stands k h) 0 (omega (arith, length-link c k))
 
   -- each number's own bytes
-  limit-bytes : (k : ℕ) → c .limit k < 4294967296 → u32At (windowBytes c k) 0 ≡ c .limit k
+  limit-bytes : (k : ℕ) → c .limit k < values → u32At (windowBytes c k) 0 ≡ c .limit k
   unfolding windowBytes u32Bytes u16Bytes u32At u16At
   limit-bytes k h = u32-back (c .limit k) h
 
-  latest-bytes : (k : ℕ) → c .latest k < 4294967296 → u32At (windowBytes c k) 4 ≡ c .latest k
+  latest-bytes : (k : ℕ) → c .latest k < values → u32At (windowBytes c k) 4 ≡ c .latest k
   unfolding windowBytes u32Bytes u16Bytes u32At u16At
   latest-bytes k h = u32-back (c .latest k) h
 
-  earliest-bytes : (k : ℕ) → c .earliest k < 4294967296 → u32At (windowBytes c k) 8 ≡ c .earliest k
+  earliest-bytes : (k : ℕ) → c .earliest k < values → u32At (windowBytes c k) 8 ≡ c .earliest k
   unfolding windowBytes u32Bytes u16Bytes u32At u16At
   earliest-bytes k h = u32-back (c .earliest k) h
 
-  first-bytes : (k : ℕ) → c .first k < 65536 → u16At (orderBytes c k) 0 ≡ c .first k
+  first-bytes : (k : ℕ) → c .first k < u16Values → u16At (orderBytes c k) 0 ≡ c .first k
   unfolding orderBytes u16Bytes u16At
   first-bytes k h = u16-back (c .first k) h
 
-  second-bytes : (k : ℕ) → c .second k < 65536 → u16At (orderBytes c k) 2 ≡ c .second k
+  second-bytes : (k : ℕ) → c .second k < u16Values → u16At (orderBytes c k) 2 ≡ c .second k
   unfolding orderBytes u16Bytes u16At
   second-bytes k h = u16-back (c .second k) h
 
@@ -123,7 +124,7 @@ module _ (c : Contents) where
   unfolding orderBytes u32Bytes u16Bytes u32At u16At
   gap-bytes k = u32-back (gapBits (c .gap k)) (omega arith)
 
-  link-bytes : (k : ℕ) → c .link k < 65536 → u16At (linkBytes c k) 0 ≡ c .link k
+  link-bytes : (k : ℕ) → c .link k < u16Values → u16At (linkBytes c k) 0 ≡ c .link k
   unfolding linkBytes u16Bytes u16At
   link-bytes k h = u16-back (c .link k) h
 

@@ -1,6 +1,7 @@
 // Where an order file holds what it says, and its fields read from there.
 ghost use mathlib.Core.Path.{_≡_};
 ghost use Prim.Native.Nat.{_<_};
+ghost use Rattle.little_endian.specs.Bytes.{u16Values, values};
 ghost use Rattle.order_file.specs.Contents.{gapSpan};
 ghost use Rattle.order_file.specs.Layout.{windowAt, orderAt, linkAt, gapRead, contentsOf};
 use little_endian::SIGN_BIAS;
@@ -44,7 +45,7 @@ pub const INITIAL_STATE: u16 = 65535;
 
 // Where a window begins; that of the number past the last is where the orders begin.
 pub fn window_at(k: usize) -> usize
-    requires { ⌜ k < 65536 ⌝ }
+    requires { ⌜ k < u16Values ⌝ }
     ensures { λ r. ⌜ (r ≡ windowAt k) × (r < 1000000) ⌝ }
 {
     WINDOWS_AT + FILE_WIDTHS[WINDOW] * k
@@ -52,7 +53,7 @@ pub fn window_at(k: usize) -> usize
 
 // Where an order begins; that of the number past the last is where the links begin.
 pub fn order_at(steps: usize, k: usize) -> usize
-    requires { ⌜ (steps < 65536) × (k < 65536) ⌝ }
+    requires { ⌜ (steps < u16Values) × (k < u16Values) ⌝ }
     ensures { λ r. ⌜ (r ≡ orderAt steps k) × (r < 2000000) ⌝ }
 {
     window_at(steps) + FILE_WIDTHS[ORDER] * k
@@ -60,7 +61,7 @@ pub fn order_at(steps: usize, k: usize) -> usize
 
 // Where a link begins; that of the number past the last is where the file ends.
 pub fn link_at(steps: usize, orders: usize, k: usize) -> usize
-    requires { ⌜ (steps < 65536) × (orders < 65536) × (k < 65536) ⌝ }
+    requires { ⌜ (steps < u16Values) × (orders < u16Values) × (k < u16Values) ⌝ }
     ensures { λ r. ⌜ (r ≡ linkAt steps orders k) × (r < 3000000) ⌝ }
 {
     order_at(steps, orders) + FILE_WIDTHS[LINK] * k
@@ -68,54 +69,54 @@ pub fn link_at(steps: usize, orders: usize, k: usize) -> usize
 
 // How many steps, orders and links the file counts.
 pub fn steps(file: &[u8]) -> usize
-    ensures { λ r. ⌜ (r ≡ contentsOf (now (file .entry)) .steps) × (r < 65536) ⌝ }
+    ensures { λ r. ⌜ (r ≡ contentsOf (now (file .entry)) .steps) × (r < u16Values) ⌝ }
 {
     little_endian::u16_at(file, 2)
 }
 
 pub fn orders(file: &[u8]) -> usize
-    ensures { λ r. ⌜ (r ≡ contentsOf (now (file .entry)) .orders) × (r < 65536) ⌝ }
+    ensures { λ r. ⌜ (r ≡ contentsOf (now (file .entry)) .orders) × (r < u16Values) ⌝ }
 {
     little_endian::u16_at(file, 4)
 }
 
 pub fn links(file: &[u8]) -> usize
-    ensures { λ r. ⌜ (r ≡ contentsOf (now (file .entry)) .links) × (r < 65536) ⌝ }
+    ensures { λ r. ⌜ (r ≡ contentsOf (now (file .entry)) .links) × (r < u16Values) ⌝ }
 {
     little_endian::u16_at(file, 6)
 }
 
 pub fn rounds(file: &[u8]) -> usize
-    ensures { λ r. ⌜ (r ≡ contentsOf (now (file .entry)) .rounds) × (r < 4294967296) ⌝ }
+    ensures { λ r. ⌜ (r ≡ contentsOf (now (file .entry)) .rounds) × (r < values) ⌝ }
 {
     little_endian::u32_at(file, 8)
 }
 
 // The fields of a step's window.
 pub fn limit(file: &[u8], k: usize) -> usize
-    requires { ⌜ k < 65536 ⌝ }
-    ensures { λ r. ⌜ (r ≡ contentsOf (now (file .entry)) .limit k) × (r < 4294967296) ⌝ }
+    requires { ⌜ k < u16Values ⌝ }
+    ensures { λ r. ⌜ (r ≡ contentsOf (now (file .entry)) .limit k) × (r < values) ⌝ }
 {
     little_endian::u32_at(file, window_at(k))
 }
 
 pub fn latest(file: &[u8], k: usize) -> usize
-    requires { ⌜ k < 65536 ⌝ }
-    ensures { λ r. ⌜ (r ≡ contentsOf (now (file .entry)) .latest k) × (r < 4294967296) ⌝ }
+    requires { ⌜ k < u16Values ⌝ }
+    ensures { λ r. ⌜ (r ≡ contentsOf (now (file .entry)) .latest k) × (r < values) ⌝ }
 {
     little_endian::u32_at(file, window_at(k) + 4)
 }
 
 pub fn earliest(file: &[u8], k: usize) -> usize
-    requires { ⌜ k < 65536 ⌝ }
-    ensures { λ r. ⌜ (r ≡ contentsOf (now (file .entry)) .earliest k) × (r < 4294967296) ⌝ }
+    requires { ⌜ k < u16Values ⌝ }
+    ensures { λ r. ⌜ (r ≡ contentsOf (now (file .entry)) .earliest k) × (r < values) ⌝ }
 {
     little_endian::u32_at(file, window_at(k) + 8)
 }
 
 // The gap plus 100000, of the i32 read without a sign.
 fn gap_read(biased: usize) -> usize
-    requires { ⌜ biased < 4294967296 ⌝ }
+    requires { ⌜ biased < values ⌝ }
     ensures { λ r. ⌜ (r ≡ gapRead biased) × (r < gapSpan) ⌝ }
 {
     if biased < SIGN_BIAS - GAP_BIAS {
@@ -127,21 +128,21 @@ fn gap_read(biased: usize) -> usize
 
 // The fields of an order; its gap plus 100000.
 pub fn first(file: &[u8], k: usize) -> usize
-    requires { ⌜ k < 65536 ⌝ }
-    ensures { λ r. ⌜ (r ≡ contentsOf (now (file .entry)) .first k) × (r < 65536) ⌝ }
+    requires { ⌜ k < u16Values ⌝ }
+    ensures { λ r. ⌜ (r ≡ contentsOf (now (file .entry)) .first k) × (r < u16Values) ⌝ }
 {
     little_endian::u16_at(file, order_at(steps(file), k))
 }
 
 pub fn second(file: &[u8], k: usize) -> usize
-    requires { ⌜ k < 65536 ⌝ }
-    ensures { λ r. ⌜ (r ≡ contentsOf (now (file .entry)) .second k) × (r < 65536) ⌝ }
+    requires { ⌜ k < u16Values ⌝ }
+    ensures { λ r. ⌜ (r ≡ contentsOf (now (file .entry)) .second k) × (r < u16Values) ⌝ }
 {
     little_endian::u16_at(file, order_at(steps(file), k) + 2)
 }
 
 pub fn gap(file: &[u8], k: usize) -> usize
-    requires { ⌜ k < 65536 ⌝ }
+    requires { ⌜ k < u16Values ⌝ }
     ensures { λ r. ⌜ (r ≡ contentsOf (now (file .entry)) .gap k) × (r < gapSpan) ⌝ }
 {
     gap_read(little_endian::biased_at(file, order_at(steps(file), k) + 4))
@@ -149,8 +150,8 @@ pub fn gap(file: &[u8], k: usize) -> usize
 
 // A link.
 pub fn link(file: &[u8], k: usize) -> usize
-    requires { ⌜ k < 65536 ⌝ }
-    ensures { λ r. ⌜ (r ≡ contentsOf (now (file .entry)) .link k) × (r < 65536) ⌝ }
+    requires { ⌜ k < u16Values ⌝ }
+    ensures { λ r. ⌜ (r ≡ contentsOf (now (file .entry)) .link k) × (r < u16Values) ⌝ }
 {
     little_endian::u16_at(file, link_at(steps(file), orders(file), k))
 }

@@ -5,6 +5,7 @@ ghost use lib.ListN.{length};
 ghost use lib.Seq.{sets};
 ghost use Rattle.laws.specs.Listed.{concatenate};
 ghost use Rattle.laws.specs.Nth.{count};
+ghost use Rattle.little_endian.specs.Bytes.{values};
 ghost use Rattle.order_file.specs.Contents.{stepLimit};
 ghost use Rattle.order_file.specs.Layout.{windowsAt, windowAt};
 ghost use Rattle.order_file.specs.Table.{tableSize, tableBias};
@@ -100,7 +101,7 @@ fn write_windows(steps: usize, limits: &[u32], latest: &[u32], earliest: &[u32],
 
 // Puts the order at an entry of the table of gaps: its steps, and the gap's bits.
 fn write_order(at: usize, q: usize, entry: usize, out: &mut [u8])
-    requires { ⌜ (at + 8 ≤ length (now out)) × (tableBias < entry) × (entry < 4294967296) ⌝ }
+    requires { ⌜ (at + 8 ≤ length (now out)) × (tableBias < entry) × (entry < values) ⌝ }
     ensures { λ _. ⌜ now (out .exit) ≡ sets (now (out .entry)) at (entryBytes q entry) ⌝ }
 {
     put_u16_within(at, q / WIDTH, out);
