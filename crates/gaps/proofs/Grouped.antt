@@ -21,9 +21,9 @@ use Rattle.gaps.specs.declared.rows.Origin.{Origin}
 use Rattle.gaps.specs.Table.{single}
 use Rattle.gaps.specs.Raised.{Raised}
 use Rattle.gaps.specs.Points.{offsetOf, offsetAt, pointOrigin, lastOrigin, OriginKnown, Group, Notable, Apart, Reached, Onto, After}
-use Rattle.gaps.specs.Points.{leadPlace, leadsWith, Leads, LeadKnown, Noting, NotedBack, Ahead, Rowing}
-use Rattle.gaps.proofs.Reached.{reached-none, reached-is, reached-one, within-down, within-empty}
-use Rattle.gaps.proofs.Row.{Rowed, rowed-each}
+use Rattle.gaps.specs.Points.{leadPlace, leadsWith, Leads, LeadKnown, LeadsKnown, Noting, NotedBack, dueAt, Rowed, Ahead, Rowing}
+use Rattle.gaps.proofs.Reached.{reached-none, reached-is, reached-one, reached-narrow, within-down, within-empty}
+use Rattle.gaps.proofs.Row.{rowed-each}
 
 -- a word's value is one of two
 value-low : (word : ℕ) → wordValue word < valueSpan
@@ -345,8 +345,16 @@ module _ {n : ℕ} {x : ℕ → ℕ} {points : List ℕ} {origin : ℕ → Origi
         }
 
     module _ {now : List ℕ} {next : ℕ} (back : NotedBack x points low high (o .tick) next now) where
-      pub rowing-known : (k : ℕ) → LeadKnown (getD now k 0)
-      rowing-known = leads-known x points n low next high now group (back .parts .from) (back .ahead)
+      pub rowing-known : LeadsKnown n now
+      rowing-known =
+          record {
+            each = leads-known x points n low next high now group (back .parts .from) (back .ahead);
+            below =
+                λ value step small l.
+                let f = back .ahead .found (leadPlace value step) l in
+                let inside : stepAt points (f .0) < n = group .step (f .0) (omega (arith, back .parts .from, f .1)) (f .2) in
+                omega (arith, f .3);
+          }
 
       pub rowing-more :
           {raised : List ℕ} → ((r s : ℕ) → begin ≤ r → r < s → s < end → origin (getD points r 0) .tick ≤ origin (getD points s 0) .tick)
@@ -371,19 +379,17 @@ module _ (origin : Origin) (leads before : List ℕ) where
   abbrev row : ℕ → ℕ
   row j = rowWidth * origin .step + j
 
-  abbrev pub due : ℕ → ℕ
-  due j = getD leads (leadPlace (origin .value) j) 0 + origin .at
+  abbrev due : ℕ → ℕ
+  due = dueAt (rowWidth * origin .value) (origin .at) leads
 
   -- the step's own entry put back, the row is raised to the orders of the leads
-  pub rowed-reached :
-      (n k : ℕ) (now : List ℕ) {own : ℕ} → n ≤ stepLimit → OriginKnown n origin → ((j : ℕ) → LeadKnown (getD leads j 0))
+  rowed-reached :
+      (n : ℕ) (now : List ℕ) {own : ℕ} → n ≤ stepLimit → OriginKnown n origin → ((j : ℕ) → LeadKnown (getD leads j 0))
       → length before ≡ tableSize
       → own ≡ getD before (rowWidth * origin .step + origin .step) 0
-      → k ≤ n
-      → n ≤ k
-      → Rowed (rowWidth * origin .step) due before now k
+      → Rowed (rowWidth * origin .step) due before now n
       → Reached n (Ahead origin leads) before (set now (rowWidth * origin .step + origin .step) own)
-  rowed-reached n k now {own} few known led whole e under over w =
+  rowed-reached n now {own} few known led whole e w =
       record {
         whole = λ g. record {
           size = length-set now (row step) own ∙ w .size ∙ whole;
@@ -450,3 +456,14 @@ module _ (origin : Origin) (leads before : List ℕ) where
                 ]
             | no s ↦ omega (arith, off i j (omega (arith, a .1)) (λ t _. s t))
           ]
+
+  -- a longer row is raised no further, if the leads are those of n steps
+  pub row-reached :
+      (n m : ℕ) (now : List ℕ) {own : ℕ} → n ≤ m → m ≤ stepLimit → OriginKnown n origin → LeadsKnown n leads → length before ≡ tableSize
+      → own ≡ getD before (rowWidth * origin .step + origin .step) 0
+      → Rowed (rowWidth * origin .step) due before now m
+      → Reached n (Ahead origin leads) before (set now (rowWidth * origin .step + origin .step) own)
+  row-reached n m now few wide known led whole e w =
+      reached-narrow n m (Ahead origin leads) before _ few
+      (rowed-reached m now wide (record { step = omega (arith, known .step); near = known .near; value = known .value }) (led .each) whole e w)
+      (λ i k gap a o. (omega (arith, o .0, known .step), led .below (origin .value) k (omega (arith, a .1)) (o .1)))

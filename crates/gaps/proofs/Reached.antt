@@ -41,6 +41,41 @@ reached-is n P Q before after w to from =
       least = λ i k bound a h all. w .least i k bound a h (λ gap o. ⊎-elim (λ (z : gap ≡ 0). omega arith) (λ (q : Q i k gap). all gap q) (to i k gap a o));
     }
 
+-- orders between steps below n alone
+pub reached-narrow :
+    (n wide : ℕ) (Order : ℕ → ℕ → ℕ → Type 0) (before after : List ℕ) → n ≤ wide → Reached wide Order before after
+    → ((i k gap : ℕ) → Apart wide i k → Order i k gap → (i < n) × (k < n))
+    → Reached n Order before after
+reached-narrow n wide Order before after few w inside =
+    record {
+      whole = w .whole;
+      rest = λ i k h d.
+          elim (decLt i wide) [
+            | yes l ↦
+                elim (decLt k wide) [
+                  | yes r ↦
+                      elim (ℕ-discrete i k) [
+                        | yes q ↦ w .rest i k h (λ a. a .2 q)
+                        | no q ↦ still i k (l, r, q) d
+                      ]
+                  | no r ↦ w .rest i k h (λ a. r (a .1))
+                ]
+            | no l ↦ w .rest i k h (λ a. l (a .0))
+          ];
+      rises = λ i k a. w .rises i k (wider i k a);
+      reaches = λ i k gap a o. w .reaches i k gap (wider i k a) o;
+      least = λ i k bound a h all. w .least i k bound (wider i k a) h all;
+    }
+  where
+    wider : (i k : ℕ) → Apart n i k → Apart wide i k
+    wider i k a = (omega (arith, a .0), omega (arith, a .1), a .2)
+
+    still : (i k : ℕ) → Apart wide i k → (Apart n i k → ⊥) → gapIn after i k ≡ gapIn before i k
+    still i k a d =
+        let none = w .least i k (gapIn before i k) a (omega arith)
+        (λ gap o. let b = inside i k gap a o in absurd (d (b .0, b .1, a .2)))
+        in omega (arith, w .rises i k a, none)
+
 -- first the orders P, then the orders Q
 reached-then :
     (n : ℕ) (P Q R : ℕ → ℕ → ℕ → Type 0) (before mid after : List ℕ) → Reached n P before mid → Reached n Q mid after

@@ -1,17 +1,15 @@
 -- A row of the table, raised entry by entry to what is due there.
-use Prim.Native.Nat.{ℕ, _+_, _-_, _<_, max}
+use Prim.Native.Nat.{ℕ, _+_, _-_, _≤_, _<_, max}
 use mathlib.Core.Path.{_≡_, refl, sym, ap, subst, _∙_}
 use mathlib.Core.List.{List}
 use native.Mathlib.Decide.{ℕ-discrete, decLt, decLe}
 use native.Mathlib.Omega.{arith}
 use lib.ListN.{length, getD, set, length-set}
 use lib.Seq.{getD-set-same, getD-set-other}
-
--- its first k entries are raised, and nothing else changes
-pub record Rowed (row : ℕ) (due : ℕ → ℕ) (before now : List ℕ) (k : ℕ) : Type 0 where
-  pub size : length now ≡ length before
-  pub raised : (j : ℕ) → j < k → getD now (row + j) 0 ≡ max (getD before (row + j) 0) (due j)
-  pub rest : (p : ℕ) → ((j : ℕ) → j < k → p ≡ row + j → ⊥) → getD now p 0 ≡ getD before p 0
+use Rattle.job.specs.Model.{longest}
+use Rattle.order_file.specs.Table.{tableBias, entryBias}
+use Rattle.order_file.specs.Contents.{mostGap}
+use Rattle.gaps.specs.Points.{RowKnown, dueAt, Rowed}
 
 -- what holds of two numbers holds of the larger
 of-larger : (P : ℕ → Type 0) (a b : ℕ) → P a → P b → P (max a b)
@@ -45,6 +43,20 @@ module _ (row : ℕ) (due : ℕ → ℕ) (before : List ℕ) where
                 ∙ ap (λ u. max u (due k)) (w .rest (row + k) (λ i l r. absurd (omega arith))))
             | no q ↦ getD-set-other now (row + k) (row + j) v 0 (λ r. q (omega arith)) ∙ w .raised j (omega arith)
           ]
+
+-- all entries that were to be raised
+pub rowed-all :
+    {row k n : ℕ} {due : ℕ → ℕ} {before now : List ℕ} → Rowed row due before now k → k ≡ n → Rowed row due before now n
+rowed-all {row} {k} {n} {due} {before} {now} w e = subst (λ j. Rowed row due before now j) e w
+
+-- the next entry and what is due there, which the code compares with a sign
+pub row-low :
+    {row ahead at k : ℕ} {leads before now : List ℕ} → RowKnown row ahead at leads before → Rowed row (dueAt ahead at leads) before now k
+    → (getD now (row + k) 0 ≤ mostGap + tableBias) × (getD leads (ahead + k) 0 + at ≤ entryBias + 1 + longest)
+row-low {row} {ahead} {at} {k} known w = (
+  omega (arith, w .rest (row + k) (λ j h e. absurd (omega arith)), known .whole .most (row + k)),
+  omega (arith, known .near, known .each (ahead + k) .most),
+)
 
 -- what holds of the entries before and of what is due holds of all entries
 pub rowed-each :

@@ -18,8 +18,9 @@ use Rattle.order_file.specs.Table.{gapIn, gapOfEntry, rowWidth, tableSize, tabl
 use Rattle.order_file.specs.Contents.{stepLimit, mostGap, gapBias}
 use Rattle.gaps.specs.Table.{single}
 use Rattle.gaps.specs.Raised.{EntryKnown, Raised, serialRow, entryFrom, laterGap}
+use Rattle.gaps.specs.Points.{Rowed}
 use Rattle.gaps.proofs.Raised.{keeps, single-is, single-off, single-le}
-use Rattle.gaps.proofs.Row.{Rowed, rowed-each}
+use Rattle.gaps.proofs.Row.{rowed-each}
 
 -- a test decides between an entry and none
 either-entry : (P : ℕ → Type 0) (t : Bool) (entry : ℕ) → P entry → P 0 → P (cond t entry 0)

@@ -11,7 +11,7 @@ use Rattle.orders.specs.Gaps.{strictly}
 use Rattle.gaps.specs.declared.rows.Fact.{Fact}
 use Rattle.gaps.specs.declared.rows.Origin.{Origin}
 use Rattle.gaps.specs.declared.rows.Span.{Span}
-use Rattle.order_file.specs.Table.{gapIn, gapOfEntry, Gaps, rowWidth, entryBias, tableBias}
+use Rattle.order_file.specs.Table.{gapIn, gapOfEntry, Gaps, rowWidth, tableSize, entryBias, tableBias}
 use Rattle.order_file.specs.Contents.{stepLimit}
 
 -- how far into its step a point lies
@@ -167,6 +167,29 @@ pub record NotedBack (x : ℕ → ℕ) (points : List ℕ) (low high t noted : �
 pub record LeadKnown (lead : ℕ) : Type 0 where
   pub most : lead ≤ entryBias + 1
   pub some : 0 < lead → tableBias < lead
+
+-- leads to some of n steps
+pub record LeadsKnown (n : ℕ) (leads : List ℕ) : Type 0 where
+  pub each : (k : ℕ) → LeadKnown (getD leads k 0)
+  pub below : (value step : ℕ) → step < rowWidth → 0 < getD leads (leadPlace value step) 0 → step < n
+
+-- a row of the table, from place `row` on, and leads for it, from place `ahead` on, each of them `at` further
+pub record RowKnown (row ahead at : ℕ) (leads gaps : List ℕ) : Type 0 where
+  pub whole : Gaps gaps
+  pub within : row + rowWidth ≤ tableSize
+  pub led : ahead + rowWidth ≤ valueSpan * rowWidth
+  pub near : at ≤ longest
+  pub each : (k : ℕ) → LeadKnown (getD leads k 0)
+
+-- what is due at an entry of the row
+abbrev pub dueAt : ℕ → ℕ → List ℕ → ℕ → ℕ
+dueAt ahead at leads j = getD leads (ahead + j) 0 + at
+
+-- its first k entries are raised to what is due, and nothing else changes
+pub record Rowed (row : ℕ) (due : ℕ → ℕ) (before now : List ℕ) (k : ℕ) : Type 0 where
+  pub size : length now ≡ length before
+  pub raised : (j : ℕ) → j < k → getD now (row + j) 0 ≡ max (getD before (row + j) 0) (due j)
+  pub rest : (p : ℕ) → ((j : ℕ) → j < k → p ≡ row + j → ⊥) → getD now p 0 ≡ getD before p 0
 
 -- the order by the lead of a step
 abbrev pub Ahead : Origin → List ℕ → ℕ → ℕ → ℕ → Type 0

@@ -12,7 +12,7 @@ ghost use Rattle.gaps.specs.Table.{single};
 ghost use Rattle.gaps.specs.Raised.{EntryKnown, Raised};
 ghost use Rattle.gaps.specs.Points.{offsetOf, pointOrigin, lastOrigin, OriginKnown, Group, FactPlaced, FactKnown, Reached, Onto, After};
 ghost use Rattle.gaps.specs.Points.{FromTo, FromSetters, FromConditions, FactOrder, FromPoints};
-ghost use Rattle.gaps.specs.Points.{Notable, Noting, NotedBack, leadsWith, LeadKnown, Ahead};
+ghost use Rattle.gaps.specs.Points.{Notable, Noting, NotedBack, leadsWith, LeadKnown, LeadsKnown, RowKnown, Rowed, dueAt, Ahead};
 ghost use Rattle.order_file.specs.Contents.{stepLimit};
 use job::layout::Job;
 use job::records::condition_to;
@@ -42,6 +42,9 @@ pub const SAME: u16 = 0;
 
 // From how many points on a row is cheaper than the pairs.
 const MANY: usize = 8;
+
+// Of more steps than this rows are raised whole: a loop whose length the compiler knows costs less than the entries past the last step.
+const MANY_STEPS: usize = WIDTH / 2;
 
 // The places of a fact: its setters from `low` up to `high`, its conditions from `after` up to `until`.
 pub struct Fact {
@@ -230,9 +233,33 @@ fn note_from(
     p
 }
 
+// Raises the first n entries of a row by leads, each `at` further.
+fn raise_part(n: usize, row: usize, ahead: usize, at: u32, leads: &[u32; LEADS], gaps: &mut [u32])
+    requires { ⌜ (n ≤ rowWidth) × RowKnown row ahead at (now leads) (now gaps) ⌝ }
+    ensures { λ _. ⌜ Rowed row (dueAt ahead at (now (leads .entry))) (now (gaps .entry)) (now (gaps .exit)) n ⌝ }
+{
+    let mut k = 0;
+    while k < n {
+        gaps[row + k] = higher(gaps[row + k], leads[ahead + k] + at);
+        k += 1;
+    }
+}
+
+// The same of a whole row.
+fn raise_whole(row: usize, ahead: usize, at: u32, leads: &[u32; LEADS], gaps: &mut [u32])
+    requires { ⌜ RowKnown row ahead at (now leads) (now gaps) ⌝ }
+    ensures { λ _. ⌜ Rowed row (dueAt ahead at (now (leads .entry))) (now (gaps .entry)) (now (gaps .exit)) rowWidth ⌝ }
+{
+    let mut k = 0;
+    while k < WIDTH {
+        gaps[row + k] = higher(gaps[row + k], leads[ahead + k] + at);
+        k += 1;
+    }
+}
+
 // Raises the row of an origin's step by the leads of its value; the step's own entry stays.
 fn raise_row(n: usize, origin: Origin, leads: &[u32; LEADS], gaps: &mut [u32])
-    requires { ⌜ Gaps (now gaps) × (n ≤ stepLimit) × OriginKnown n origin × ((k : ℕ) → LeadKnown (getD (now leads) k 0)) ⌝ }
+    requires { ⌜ Gaps (now gaps) × (n ≤ stepLimit) × OriginKnown n origin × LeadsKnown n (now leads) ⌝ }
     ensures { λ _. ⌜ Reached n (Ahead origin (now (leads .entry))) (now (gaps .entry)) (now (gaps .exit)) ⌝ }
 {
     let step = origin.step as usize;
@@ -240,10 +267,10 @@ fn raise_row(n: usize, origin: Origin, leads: &[u32; LEADS], gaps: &mut [u32])
     let ahead = WIDTH * origin.value as usize;
     let row = WIDTH * step;
     let own = gaps[row + step];
-    let mut k = 0;
-    while k < n {
-        gaps[row + k] = higher(gaps[row + k], leads[ahead + k] + at);
-        k += 1;
+    if MANY_STEPS < n {
+        raise_whole(row, ahead, at, leads, gaps);
+    } else {
+        raise_part(n, row, ahead, at, leads, gaps);
     }
     gaps[row + step] = own;
 }
