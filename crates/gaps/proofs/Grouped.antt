@@ -26,7 +26,7 @@ use Rattle.gaps.proofs.Reached.{reached-none, reached-is, reached-one, 
 use Rattle.gaps.proofs.Row.{rowed-each}
 
 -- a word's value is one of two
-value-low : (word : ℕ) → wordValue word < valueSpan
+pub value-low : (word : ℕ) → wordValue word < valueSpan
 unfolding wordValue
 value-low word = omega arith
 

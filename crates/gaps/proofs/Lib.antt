@@ -3,6 +3,7 @@ pub mod Raised
 pub mod Reached
 pub mod Row
 pub mod Grouped
+pub mod Beside
 pub mod Pairs
 pub mod Rules
 pub mod Supported

@@ -17,6 +17,7 @@ use Rattle.orders.proofs.Near.{counted-le}
 use Rattle.order_file.specs.Table.{gapIn, gapOfEntry, Gaps, rowWidth, tableSize, tableBias, emptyLimit}
 use Rattle.gaps.specs.Table.{single, TableOf}
 use Rattle.gaps.specs.Raised.{EntryKnown, Raised}
+use Rattle.gaps.proofs.Row.{of-larger}
 use Rattle.laws.proofs.Chosen.{eqb-same}
 use Rattle.order_file.specs.Contents.{stepLimit, mostGap}
 
@@ -61,61 +62,65 @@ raised-still n f gaps high =
 pub raised-none : (n : ℕ) (f : ℕ → ℕ → ℕ) (gaps : List ℕ) → ((i k : ℕ) → f i k ≡ 0) → Raised n f gaps gaps
 raised-none n f gaps z = raised-still n f gaps (λ i k d. omega (arith, z i k))
 
--- An order into a table: of one step with itself, no larger than what is there, or larger.
-module _ (gaps : List ℕ) (i k entry : ℕ) where
+-- An order into a table: the larger of it and what is there, except for a step's own entry.
+module _ (gaps : List ℕ) (i k entry v : ℕ) where
   abbrev gap : ℕ
   gap = gapOfEntry entry
 
-  pub raised-own : i ≡ k → Raised rowWidth (single i k gap) gaps gaps
-  raised-own e = raised-still rowWidth (single i k gap) gaps (λ a b d. omega (arith, single-off i k gap a b (λ s t. d (sym s ∙ e ∙ t))))
+  abbrev old : ℕ
+  old = getD gaps (rowWidth * i + k) 0
 
-  pub raised-less : entry ≤ getD gaps (rowWidth * i + k) 0 → Raised rowWidth (single i k gap) gaps gaps
-  raised-less h =
-      raised-still rowWidth (single i k gap) gaps
-      (λ a b d.
-      elim (ℕ-discrete (rowWidth * a + b) (rowWidth * i + k)) [
-        | yes q ↦ rw q (omega (arith, counted-le (eqb i a && eqb k b) gap))
-        | no q ↦ omega (arith, single-off i k gap a b (λ s t. q (omega arith)))
-      ])
-
-  pub raised-set :
-      i < rowWidth → k < rowWidth → (i ≡ k → ⊥) → getD gaps (rowWidth * i + k) 0 < entry → EntryKnown entry → length gaps ≡ tableSize
-      → Raised rowWidth (single i k gap) gaps (set gaps (rowWidth * i + k) entry)
-  raised-set h small d l known n =
+  pub raised-put :
+      i < rowWidth → k < rowWidth → (i ≡ k → v ≡ old) → ((i ≡ k → ⊥) → v ≡ max old entry) → EntryKnown entry
+      → length gaps ≡ tableSize
+      → Raised rowWidth (single i k gap) gaps (set gaps (rowWidth * i + k) v)
+  raised-put h small own other known n =
       record {
         whole = λ g. record {
-          size = length-set gaps (rowWidth * i + k) entry ∙ n;
-          most = λ p. either p (λ v. v ≤ mostGap + tableBias) (known .most) (g .most p);
-          low = λ p. either p (λ v. v ≤ tableBias → v ≤ emptyLimit) (known .low) (g .low p);
+          size = length-set gaps (rowWidth * i + k) v ∙ n;
+          most = λ p. either p (λ u. u ≤ mostGap + tableBias) (known .most) (g .most);
+          low = λ p. either p (λ u. u ≤ tableBias → u ≤ emptyLimit) (known .low) (g .low);
         };
         below = below;
         rest =
             λ a b r w.
-            ap gapOfEntry (getD-set-other gaps (rowWidth * i + k) (rowWidth * a + b) entry 0 (λ q. w (omega arith) (omega arith)));
+            ap gapOfEntry (getD-set-other gaps (rowWidth * i + k) (rowWidth * a + b) v 0 (λ q. w (omega arith) (omega arith)));
       }
     where
-      here : getD (set gaps (rowWidth * i + k) entry) (rowWidth * i + k) 0 ≡ entry
-      here = getD-set-same gaps (rowWidth * i + k) entry 0 (omega arith)
+      here : getD (set gaps (rowWidth * i + k) v) (rowWidth * i + k) 0 ≡ v
+      here = getD-set-same gaps (rowWidth * i + k) v 0 (omega arith)
 
       -- what holds of the entry and of what was there holds
-      either : (p : ℕ) (P : ℕ → Type 0) → P entry → P (getD gaps p 0) → P (getD (set gaps (rowWidth * i + k) entry) p 0)
+      either : (p : ℕ) (P : ℕ → Type 0) → P entry → ((q : ℕ) → P (getD gaps q 0)) → P (getD (set gaps (rowWidth * i + k) v) p 0)
       either p P e o =
           elim (ℕ-discrete p (rowWidth * i + k)) [
-            | yes q ↦ subst P (sym (ap (λ j. getD (set gaps (rowWidth * i + k) entry) j 0) q ∙ here)) e
-            | no q ↦ subst P (sym (getD-set-other gaps (rowWidth * i + k) p entry 0 q)) o
+            | yes q ↦
+                subst P (sym (ap (λ j. getD (set gaps (rowWidth * i + k) v) j 0) q ∙ here))
+                (elim (ℕ-discrete i k) [
+                  | yes s ↦ subst P (sym (own s)) (o (rowWidth * i + k))
+                  | no s ↦ subst P (sym (other s)) (of-larger P old entry (o (rowWidth * i + k)) e)
+                ])
+            | no q ↦ subst P (sym (getD-set-other gaps (rowWidth * i + k) p v 0 q)) (o p)
+          ]
+
+      at : gapIn (set gaps (rowWidth * i + k) v) i k ≡ max (gapIn gaps i k) (cond (eqb i k) 0 gap)
+      at =
+          elim (ℕ-discrete i k) [
+            | yes s ↦ rw (eq-eqb i k s) (omega (arith, here, own s))
+            | no s ↦ rw (ne-eqb i k s) (omega (arith, here, other s))
           ]
 
       below :
           (a b : ℕ) → a < rowWidth → b < rowWidth
-          → gapIn (set gaps (rowWidth * i + k) entry) a b ≡ max (gapIn gaps a b) (cond (eqb a b) 0 (single i k gap a b))
+          → gapIn (set gaps (rowWidth * i + k) v) a b ≡ max (gapIn gaps a b) (cond (eqb a b) 0 (single i k gap a b))
       below a b r s =
           elim (ℕ-discrete (rowWidth * a + b) (rowWidth * i + k)) [
             | yes q ↦
                 let u : a ≡ i = omega arith in
                 let v : b ≡ k = omega arith in
-                rw (u, v, ne-eqb i k d, single-at i k gap) (omega (arith, here))
+                rw (u, v, single-at i k gap) at
             | no q ↦
-                ap gapOfEntry (getD-set-other gaps (rowWidth * i + k) (rowWidth * a + b) entry 0 q)
+                ap gapOfEntry (getD-set-other gaps (rowWidth * i + k) (rowWidth * a + b) v 0 q)
                 ∙ keeps _ _ (eqb a b) (omega (arith, single-off i k gap a b (λ s t. q (omega arith))))
           ]
 

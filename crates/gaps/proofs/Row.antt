@@ -12,7 +12,7 @@ use Rattle.order_file.specs.Contents.{mostGap}
 use Rattle.gaps.specs.Points.{RowKnown, dueAt, Rowed}
 
 -- what holds of two numbers holds of the larger
-of-larger : (P : ℕ → Type 0) (a b : ℕ) → P a → P b → P (max a b)
+pub of-larger : (P : ℕ → Type 0) (a b : ℕ) → P a → P b → P (max a b)
 of-larger P a b u v =
     elim (decLe a b) [
       | yes l ↦ let same : b ≡ max a b = omega arith in subst P same v

@@ -99,6 +99,23 @@ FromConditions m x points fact = Among (fact .after) (fact .until) (ConditionOrd
 abbrev pub FactOrder : Model → (ℕ → ℕ) → List ℕ → Fact → ℕ → ℕ → ℕ → Type 0
 FactOrder m x points fact i k gap = FromSetters x points fact i k gap ⊎ FromConditions m x points fact i k gap
 
+-- the order from a setter of the origin's value to its condition, which begins `from` into its step
+abbrev pub Toward : (ℕ → ℕ) → Origin → ℕ → ℕ → ℕ → ℕ → ℕ → Type 0
+Toward x origin from word i k gap =
+    (wordValue word ≡ origin .value) × (wordTick word < origin .tick) × (wordStep word ≡ i) × (origin .step ≡ k)
+    × (gap ≡ strictly (offsetOf x word) from)
+
+-- the orders between the two, and between the condition and the setters of the places from low to high
+abbrev pub Beside : (ℕ → ℕ) → Origin → ℕ → ℕ → ℕ → ℕ → ℕ → Type 0
+Beside x origin from word i k gap = Toward x origin from word i k gap ⊎ Onto x origin word i k gap
+
+abbrev pub Around : (ℕ → ℕ) → List ℕ → ℕ → ℕ → Origin → ℕ → ℕ → ℕ → ℕ → Type 0
+Around x points low high origin from = Among low high (λ q. Beside x origin from (getD points q 0))
+
+-- those of the condition at place p of a fact
+abbrev pub AroundCondition : Model → (ℕ → ℕ) → List ℕ → Fact → ℕ → ℕ → ℕ → ℕ → Type 0
+AroundCondition m x points fact p = Around x points (fact .low) (fact .high) (lastOrigin m (getD points p 0)) (offsetAt x points p)
+
 -- the orders from the point at place p of a group to later ones of the group, and from all its points
 abbrev pub PointOrder : (ℕ → ℕ) → List ℕ → ℕ → ℕ → ℕ → ℕ → ℕ → ℕ → ℕ → Type 0
 PointOrder x points low high turn p = After x points low high (pointOrigin x turn (getD points p 0))

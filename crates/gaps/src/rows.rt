@@ -1,6 +1,7 @@
 // Orders between groups of points, into the table of gaps: pair by pair, or a whole row of the table for each point. Going back in time, what
 // lies far enough ahead only grows, and of a step only its largest lead matters.
 ghost use mathlib.Core.Path.{_≡_};
+ghost use mathlib.Core.Bool.{cond};
 ghost use Prim.Native.Nat.{ℕ, _+_, _≤_, _<_};
 ghost use lib.ListN.{getD};
 ghost use Rattle.job.specs.Model.{view, longest};
@@ -10,8 +11,8 @@ ghost use Rattle.orders.specs.Gaps as spec;
 ghost use Rattle.order_file.specs.Table.{gapOfEntry, Gaps, rowWidth};
 ghost use Rattle.gaps.specs.Table.{single};
 ghost use Rattle.gaps.specs.Raised.{EntryKnown, Raised};
-ghost use Rattle.gaps.specs.Points.{offsetOf, pointOrigin, lastOrigin, OriginKnown, Group, FactPlaced, FactKnown, Reached, Onto, After};
-ghost use Rattle.gaps.specs.Points.{FromTo, FromSetters, FromConditions, FactOrder, FromPoints};
+ghost use Rattle.gaps.specs.Points.{offsetOf, pointOrigin, lastOrigin, OriginKnown, Group, FactKnown, Reached, Onto, After};
+ghost use Rattle.gaps.specs.Points.{FromTo, FromConditions, Beside, Around, FactOrder, FromPoints};
 ghost use Rattle.gaps.specs.Points.{Notable, Noting, NotedBack, leadsWith, LeadKnown, LeadsKnown, RowKnown, Rowed, dueAt, Ahead};
 ghost use Rattle.order_file.specs.Contents.{stepLimit};
 use job::layout::Job;
@@ -115,13 +116,10 @@ pub fn raise(i: u16, k: u16, entry: u32, gaps: &mut [u32])
     requires { ⌜ Gaps (now gaps) × (i < rowWidth) × (k < rowWidth) × EntryKnown entry ⌝ }
     ensures { λ _. ⌜ Raised rowWidth (single i k (gapOfEntry entry)) (now (gaps .entry)) (now (gaps .exit)) ⌝ }
 {
-    if i == k {
-        return;
-    }
     let at = WIDTH * i as usize + k as usize;
-    if gaps[at] < entry {
-        gaps[at] = entry;
-    }
+    let old = gaps[at];
+    let raised = higher(old, entry);
+    gaps[at] = if i == k { old } else { raised };
 }
 
 // Orders a point after the origin, if it has the value and is not before the tick.
@@ -156,31 +154,71 @@ fn raise_after(
     }
 }
 
-// Each setter before the later conditions of the other value.
-fn pair_setters(starts: &[u32], points: &[u64], fact: Fact, gaps: &mut [u32])
-    requires { ⌜ Gaps (now gaps) × FactPlaced rowWidth (scheduleOf (now starts)) (now points) fact ⌝ }
-    ensures { λ _. ⌜ ((n : ℕ) → FactPlaced n (scheduleOf (now (starts .entry))) (now (points .entry)) fact
-        → Reached n (FromSetters (scheduleOf (now (starts .entry))) (now (points .entry)) fact) (now (gaps .entry)) (now (gaps .exit))) ⌝ }
+// One of two steps, and of two offsets. Which of a pair comes first is as good as random, so the pairs choose and do not branch.
+fn step_if(first: bool, a: u16, b: u16) -> u16
+    ensures { λ r. ⌜ r ≡ cond first a b ⌝ }
 {
-    let mut p = fact.low;
-    while p < fact.high {
-        let origin = point_origin(starts, points[p], OTHER);
-        raise_after(starts, points, origin, fact.after, fact.until, gaps);
-        p += 1;
+    if first { a } else { b }
+}
+
+fn offset_if(first: bool, a: usize, b: usize) -> usize
+    ensures { λ r. ⌜ r ≡ cond first a b ⌝ }
+{
+    if first { a } else { b }
+}
+
+// Orders a setter of the value before the origin's condition, which begins `from` into its step, or after it.
+fn raise_beside(starts: &[u32], origin: Origin, from: usize, word: u64, gaps: &mut [u32])
+    requires { ⌜ Gaps (now gaps) × OriginKnown rowWidth origin × (from ≤ longest) × Notable (scheduleOf (now starts)) word ⌝ }
+    ensures { λ _. ⌜ Reached rowWidth (Beside (scheduleOf (now (starts .entry))) origin from word) (now (gaps .entry)) (now (gaps .exit)) ⌝ }
+{
+    if value_of(word) == origin.value {
+        let step = step_of(word);
+        let at = offset_of(starts, word);
+        let before = tick_of(word) < origin.tick;
+        let i = step_if(before, step, origin.step);
+        let k = step_if(before, origin.step, step);
+        let p = offset_if(before, at, origin.at);
+        let q = offset_if(before, from, at);
+        raise(i, k, strictly(p, q), gaps);
     }
 }
 
-// Each condition before the later setters of the other value.
+// The same for the setters from place `low` up to `high`.
+fn raise_around(
+    starts: &[u32],
+    points: &[u64],
+    origin: Origin,
+    from: usize,
+    low: usize,
+    high: usize,
+    gaps: &mut [u32],
+)
+    requires { ⌜ Gaps (now gaps) × OriginKnown rowWidth origin × (from ≤ longest)
+        × Group rowWidth (scheduleOf (now starts)) (now points) low high ⌝ }
+    ensures { λ _. ⌜ Reached rowWidth (Around (scheduleOf (now (starts .entry))) (now (points .entry)) low high origin from)
+        (now (gaps .entry)) (now (gaps .exit)) ⌝ }
+{
+    let mut q = low;
+    while q < high {
+        raise_beside(starts, origin, from, points[q], gaps);
+        q += 1;
+    }
+}
+
+// Each condition after or before each setter of the other value.
 fn pair_conditions(s: &[u8], job: Job, starts: &[u32], points: &[u64], fact: Fact, gaps: &mut [u32])
     requires { ⌜ FactKnown (view job (now s)) (scheduleOf (now starts)) (now points) fact × Gaps (now gaps) ⌝ }
     ensures { λ _. ⌜ Reached (job .count .steps)
-        (FromConditions (view job (now (s .entry))) (scheduleOf (now (starts .entry))) (now (points .entry)) fact)
+        (FactOrder (view job (now (s .entry))) (scheduleOf (now (starts .entry))) (now (points .entry)) fact)
         (now (gaps .entry)) (now (gaps .exit)) ⌝ }
 {
     let mut p = fact.after;
     while p < fact.until {
-        let origin = last_origin(s, job, points[p]);
-        raise_after(starts, points, origin, fact.low, fact.high, gaps);
+        let word = points[p];
+        let origin = last_origin(s, job, word);
+        let from = offset_of(starts, word);
+        raise_around(starts, points, origin, from, fact.low, fact.high, gaps);
         p += 1;
     }
 }
@@ -303,7 +341,7 @@ fn row_points(
     }
 }
 
-// The same as `pair_conditions`, the latest condition first, by a row.
+// Each condition before the later setters of the other value: the latest condition first, by a row.
 fn row_conditions(s: &[u8], job: Job, starts: &[u32], points: &[u64], fact: Fact, gaps: &mut [u32])
     requires { ⌜ FactKnown (view job (now s)) (scheduleOf (now starts)) (now points) fact × Gaps (now gaps) ⌝ }
     ensures { λ _. ⌜ Reached (job .count .steps)
@@ -358,7 +396,6 @@ pub fn raise_conditions(
         (now (gaps .entry)) (now (gaps .exit)) ⌝ }
 {
     if fact.high - fact.low < MANY {
-        pair_setters(starts, points, fact, gaps);
         pair_conditions(s, job, starts, points, fact, gaps);
     } else {
         let n = job.count.steps as usize;

@@ -1,6 +1,11 @@
--- Nothing, or a larger gap, goes into the table.
-use Rattle.gaps.proofs.Raised.{raised-own, raised-less, raised-set}
+-- The larger of two, except for a step's own entry.
+use Prim.Native.Nat.{_+_, _*_}
+use mathlib.Core.Path.{_∙_}
+use mathlib.Core.Logic.{⊎-elim}
+use native.Mathlib.Omega.{arith}
 use borrow.Author.Needs.{needs}
+use Rattle.order_file.specs.Table.{rowWidth}
+use Rattle.gaps.proofs.Raised.{raised-put}
 use Rattle.gaps.proofs.rows.raise.Statement.{statement}
 use Rattle.gaps.proofs.rows.raise.Tie as tie
 
@@ -8,10 +13,13 @@ pub raise-spec : {M : Type 1} → statement M
 raise-spec =
     tie.close
     (tie.spec
-    (λ c. raised-own _ _ _ _ (c .if1 .taken))
     (λ c. search needs) (λ c. search needs) (λ c. search needs) (λ c. search needs) (λ c. search needs) (λ c. search needs)
-    (λ c. search needs)
+    (λ c κs.
+    let d = c .before .before in
+    (omega (arith, d .pre .0 .most (rowWidth * d .args .i + d .args .k)), omega (arith, d .pre .3 .most)))
+    (λ c. search needs) (λ c. search needs) (λ c. search needs)
     (λ c.
-    let d = c .before .before .before in
-    raised-set _ _ _ _ (d .pre .1) (d .pre .2) (c .before .before .if1 .left) (c .if2 .taken) (d .pre .3) (d .pre .0 .size))
-    (λ c. raised-less _ _ _ _ (c .if2 .left)))
+    let d = c .before .before .before .before in
+    raised-put _ _ _ _ _ (d .pre .1) (d .pre .2)
+    (⊎-elim (λ w s. w .1) (λ w s. absurd (w .0 .left s)) (c .if1 .came))
+    (⊎-elim (λ w s. absurd (s (w .0 .taken))) (λ w s. w .1 ∙ c .before .higher .ensures) (c .if1 .came)) (d .pre .3) (d .pre .0 .size)))

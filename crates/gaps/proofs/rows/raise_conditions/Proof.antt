@@ -2,7 +2,6 @@
 use native.Mathlib.Omega.{arith}
 use borrow.Author.Needs.{needs}
 use Rattle.gaps.proofs.Reached.{reached-either}
-use Rattle.gaps.proofs.Grouped.{group-wide}
 use Rattle.gaps.proofs.rows.raise_conditions.Statement.{statement}
 use Rattle.gaps.proofs.rows.raise_conditions.Tie as tie
 
@@ -11,14 +10,7 @@ raise-conditions-spec =
     tie.close
     (tie.spec
     (λ c. c .before .before .before .before .before .pre .0 .placed .setters .begins)
-    (λ c κs.
-    let d = c .before .before .before .before .before .before .before in
-    let w = d .pre .0 .placed in
-    (d .pre .1, record { setters = group-wide (w .setters) (w .few); wanted = group-wide (w .wanted) (w .few); few = omega arith }))
-    (λ c κs.
-    let raised = c .before .before .before in
-    let d = raised .before .before .before .before .before .before .before .before in
-    (d .pre .0, raised .pair-setters .ensures _ (d .pre .0 .placed) .whole (d .pre .1)))
+    (λ c κs. c .before .before .before .before .before .before .before .pre)
     (λ c. search needs)
     (λ c κs.
     let d = c .before .before .before .before .before .before .before .before in
@@ -29,16 +21,10 @@ raise-conditions-spec =
     let d = raised .before .before .before .before .before .before .before .before .before in
     (d .pre .0, raised .row-points .ensures .whole (d .pre .1)))
     (λ c.
-    let second = c .before .before in
-    let first = second .before .before .before .before in
-    let d = first .before .before .before .before .before .before .before .before in
-    let mid = first .pair-setters .ensures _ (d .pre .0 .placed) .whole (d .pre .1) in
-    omega (arith, second .pair-conditions .ensures .whole mid .size, d .pre .1 .size))
-    (λ c.
-    let second = c .before .before in
-    let first = second .before .before .before .before in
-    let d = first .before .before .before .before .before .before .before .before in
-    reached-either _ _ _ _ _ _ (first .pair-setters .ensures _ (d .pre .0 .placed)) (second .pair-conditions .ensures))
+    let raised = c .before .before in
+    let d = raised .before .before .before .before .before .before .before .before in
+    omega (arith, raised .pair-conditions .ensures .whole (d .pre .1) .size, d .pre .1 .size))
+    (λ c. c .before .before .pair-conditions .ensures)
     (λ c.
     let second = c .before .before in
     let first = second .before .before .before .before in

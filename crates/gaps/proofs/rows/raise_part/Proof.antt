@@ -1,5 +1,5 @@
 -- Entry by entry.
-use Prim.Native.Nat.{_+_, _-_, _≤_}
+use Prim.Native.Nat.{_-_, _≤_}
 use native.Mathlib.Omega.{arith}
 use Rattle.gaps.specs.Points.{dueAt, Rowed}
 use Rattle.gaps.proofs.Row.{rowed-start, rowed-more, rowed-all, row-low}

@@ -1,5 +1,5 @@
 -- The same, of known length.
-use Prim.Native.Nat.{_+_, _-_, _≤_}
+use Prim.Native.Nat.{_-_, _≤_}
 use native.Mathlib.Omega.{arith}
 use Rattle.order_file.specs.Table.{rowWidth}
 use Rattle.gaps.specs.Points.{dueAt, Rowed}
