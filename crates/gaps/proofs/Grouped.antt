@@ -15,13 +15,13 @@ use Rattle.job.specs.Model.{Model, longest}
 use Rattle.timeline.specs.Words.{wordStep, wordValue, wordNumber, wordTick, stepAt, valueAt, tickAt, valueSpan}
 use Rattle.timeline.specs.Placed.{Parted}
 use Rattle.orders.specs.Gaps.{strictly}
-use Rattle.order_file.specs.Table.{gapIn, gapOfEntry, rowWidth, tableSize, entryBias, tableBias, emptyLimit}
+use Rattle.order_file.specs.Table.{gapIn, gapOfEntry, Gaps, rowWidth, tableSize, entryBias, tableBias, emptyLimit}
 use Rattle.order_file.specs.Contents.{stepLimit, mostGap}
 use Rattle.gaps.specs.declared.rows.Origin.{Origin}
 use Rattle.gaps.specs.Table.{single}
 use Rattle.gaps.specs.Raised.{Raised}
 use Rattle.gaps.specs.Points.{offsetOf, offsetAt, pointOrigin, lastOrigin, OriginKnown, Group, Notable, Apart, Reached, Onto, After}
-use Rattle.gaps.specs.Points.{leadPlace, leadsWith, Leads, LeadKnown, LeadsKnown, Noting, NotedBack, dueAt, Rowed, Ahead, Rowing}
+use Rattle.gaps.specs.Points.{leadPlace, leadsWith, Leads, LeadKnown, LeadsKnown, Noting, NotedBack, RowKnown, dueAt, Rowed, Ahead, Rowing}
 use Rattle.gaps.proofs.Reached.{reached-none, reached-is, reached-one, reached-narrow, within-down, within-empty}
 use Rattle.gaps.proofs.Row.{rowed-each}
 
@@ -375,6 +375,19 @@ module _ {n : ℕ} {x : ℕ → ℕ} {points : List ℕ} {origin : ℕ → Origi
                 (ahead-after x points n low high next o now gaps raised group few (back .parts) (back .ahead) r));
           }
 
+-- the row of an origin's step, and the leads of its value
+pub row-known :
+    {n : ℕ} {origin : Origin} {leads gaps : List ℕ} → n ≤ stepLimit → Gaps gaps → OriginKnown n origin → LeadsKnown n leads
+    → RowKnown (rowWidth * origin .step) (rowWidth * origin .value) (origin .at) leads gaps
+row-known few whole known led =
+    record {
+      whole = whole;
+      within = omega (arith, known .step);
+      led = omega (arith, known .value);
+      near = known .near;
+      each = led .each;
+    }
+
 module _ (origin : Origin) (leads before : List ℕ) where
   abbrev row : ℕ → ℕ
   row j = rowWidth * origin .step + j
@@ -382,24 +395,24 @@ module _ (origin : Origin) (leads before : List ℕ) where
   abbrev due : ℕ → ℕ
   due = dueAt (rowWidth * origin .value) (origin .at) leads
 
-  -- the step's own entry put back, the row is raised to the orders of the leads
+  -- the row is raised to the orders of the leads
   rowed-reached :
-      (n : ℕ) (now : List ℕ) {own : ℕ} → n ≤ stepLimit → OriginKnown n origin → ((j : ℕ) → LeadKnown (getD leads j 0))
-      → length before ≡ tableSize
-      → own ≡ getD before (rowWidth * origin .step + origin .step) 0
+      (n : ℕ) (now : List ℕ) → n ≤ stepLimit → OriginKnown n origin → ((j : ℕ) → LeadKnown (getD leads j 0)) → length before ≡ tableSize
       → Rowed (rowWidth * origin .step) due before now n
-      → Reached n (Ahead origin leads) before (set now (rowWidth * origin .step + origin .step) own)
-  rowed-reached n now {own} few known led whole e w =
+      → Reached n (Ahead origin leads) before now
+  rowed-reached n now few known led whole w =
       record {
         whole = λ g. record {
-          size = length-set now (row step) own ∙ w .size ∙ whole;
-          most = λ p. each p (λ v. v ≤ mostGap + tableBias) (g .most) (λ j. omega (arith, led (leadPlace (origin .value) j) .most, known .near));
-          low = λ p. each p (λ v. v ≤ tableBias → v ≤ emptyLimit) (g .low) due-low;
+          size = w .size ∙ whole;
+          most =
+              rowed-each w (λ v. v ≤ mostGap + tableBias) (g .most)
+              (λ j. omega (arith, led (leadPlace (origin .value) j) .most, known .near));
+          low = rowed-each w (λ v. v ≤ tableBias → v ≤ emptyLimit) (g .low) due-low;
         };
-        rest = λ i j h d. ap gapOfEntry (off i j h (λ s a. d a));
+        rest = λ i j h q d. ap gapOfEntry (off i j h q (λ s a. d a));
         rises = λ i j a. elim (ℕ-discrete step i) [
           | yes s ↦ omega (arith, on i j s a)
-          | no s ↦ omega (arith, off i j (omega (arith, a .1)) (λ t _. s t))
+          | no s ↦ omega (arith, off i j (omega (arith, a .1)) (a .2) (λ t _. s t))
         ];
         reaches = λ i j gap a o. omega (arith, on i j (o .0) a, o .2);
         least = least;
@@ -408,25 +421,17 @@ module _ (origin : Origin) (leads before : List ℕ) where
       step : ℕ
       step = origin .step
 
-      after : List ℕ
-      after = set now (rowWidth * origin .step + origin .step) own
-
       inside : origin .step < n
       inside = known .step
 
-      on : (i j : ℕ) → step ≡ i → Apart n i j → getD after (rowWidth * i + j) 0 ≡ max (getD before (rowWidth * i + j) 0) (due j)
+      on : (i j : ℕ) → step ≡ i → Apart n i j → getD now (rowWidth * i + j) 0 ≡ max (getD before (rowWidth * i + j) 0) (due j)
       on i j s a =
-          subst (λ r. getD after (rowWidth * r + j) 0 ≡ max (getD before (rowWidth * r + j) 0) (due j)) s
-          (getD-set-other now (row step) (row j) own 0 (λ q. a .2 (omega arith)) ∙ w .raised j (omega (arith, a .1)))
+          subst (λ r. getD now (rowWidth * r + j) 0 ≡ max (getD before (rowWidth * r + j) 0) (due j)) s (w .raised j (a .1))
 
-      off : (i j : ℕ) → j < rowWidth → (step ≡ i → Apart n i j → ⊥) → getD after (rowWidth * i + j) 0 ≡ getD before (rowWidth * i + j) 0
-      off i j h d =
-          elim (ℕ-discrete (rowWidth * i + j) (row step)) [
-            | yes q ↦ rw q (getD-set-same now (row step) own 0 (omega (arith, w .size)) ∙ e)
-            | no q ↦
-                getD-set-other now (row step) (rowWidth * i + j) own 0 q
-                ∙ w .rest (rowWidth * i + j) (λ l r s. d (omega arith) (omega arith, omega arith, λ t. q (omega arith)))
-          ]
+      off :
+          (i j : ℕ) → j < rowWidth → (i ≡ j → ⊥) → (step ≡ i → Apart n i j → ⊥)
+          → getD now (rowWidth * i + j) 0 ≡ getD before (rowWidth * i + j) 0
+      off i j h q d = w .rest (rowWidth * i + j) (λ l r s. d (omega arith) (omega arith, omega arith, q))
 
       due-low : (j : ℕ) → due j ≤ tableBias → due j ≤ emptyLimit
       due-low j h =
@@ -435,17 +440,9 @@ module _ (origin : Origin) (leads before : List ℕ) where
             | no l ↦ omega (arith, known .near)
           ]
 
-      each : (p : ℕ) (P : ℕ → Type 0) → ((q : ℕ) → P (getD before q 0)) → ((j : ℕ) → P (due j)) → P (getD after p 0)
-      each p P old new =
-          elim (ℕ-discrete p (row step)) [
-            | yes q ↦
-                subst P (sym (ap (λ j. getD after j 0) q ∙ getD-set-same now (row step) own 0 (omega (arith, w .size)) ∙ e)) (old (row step))
-            | no q ↦ subst P (sym (getD-set-other now (row step) p own 0 q)) (rowed-each w P old new p)
-          ]
-
       least :
           (i j bound : ℕ) → Apart n i j → gapIn before i j ≤ bound → ((gap : ℕ) → Ahead origin leads i j gap → gap ≤ bound)
-          → gapIn after i j ≤ bound
+          → gapIn now i j ≤ bound
       least i j bound a h all =
           elim (ℕ-discrete step i) [
             | yes s ↦
@@ -454,16 +451,15 @@ module _ (origin : Origin) (leads before : List ℕ) where
                       omega (arith, on i j s a, all (gapOfEntry (origin .at + getD leads (leadPlace (origin .value) j) 0)) (s, l, refl), h)
                   | no l ↦ omega (arith, on i j s a, known .near, h)
                 ]
-            | no s ↦ omega (arith, off i j (omega (arith, a .1)) (λ t _. s t))
+            | no s ↦ omega (arith, off i j (omega (arith, a .1)) (a .2) (λ t _. s t))
           ]
 
   -- a longer row is raised no further, if the leads are those of n steps
   pub row-reached :
-      (n m : ℕ) (now : List ℕ) {own : ℕ} → n ≤ m → m ≤ stepLimit → OriginKnown n origin → LeadsKnown n leads → length before ≡ tableSize
-      → own ≡ getD before (rowWidth * origin .step + origin .step) 0
+      (n m : ℕ) (now : List ℕ) → n ≤ m → m ≤ stepLimit → OriginKnown n origin → LeadsKnown n leads → length before ≡ tableSize
       → Rowed (rowWidth * origin .step) due before now m
-      → Reached n (Ahead origin leads) before (set now (rowWidth * origin .step + origin .step) own)
-  row-reached n m now few wide known led whole e w =
-      reached-narrow n m (Ahead origin leads) before _ few
-      (rowed-reached m now wide (record { step = omega (arith, known .step); near = known .near; value = known .value }) (led .each) whole e w)
+      → Reached n (Ahead origin leads) before now
+  row-reached n m now few wide known led whole w =
+      reached-narrow n m (Ahead origin leads) before now few
+      (rowed-reached m now wide (record { step = omega (arith, known .step); near = known .near; value = known .value }) (led .each) whole w)
       (λ i k gap a o. (omega (arith, o .0, known .step), led .below (origin .value) k (omega (arith, a .1)) (o .1)))

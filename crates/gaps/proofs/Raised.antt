@@ -1,8 +1,8 @@
 -- A table is raised by one order at a time. What a loop has raised is the largest of its orders so far, two rules one after the other
 -- raise by the larger of their gaps, and an empty table raised by all rules is the table of gaps.
-use Prim.Native.Nat.{ℕ, _+_, _*_, _≤_, _<_, max}
+use Prim.Native.Nat.{ℕ, _+_, _*_, _/_, _≤_, _<_, max}
 use mathlib.Core.Path.{_≡_, refl, sym, ap, ap₂, subst, _∙_}
-use mathlib.Core.Bool.{Bool, true, false, _&&_, cond, and-false}
+use mathlib.Core.Bool.{_&&_, cond, and-false}
 use mathlib.Core.List.{List}
 use native.Mathlib.Decide.{ℕ-discrete, decLt}
 use native.Mathlib.Numerals.{add-one}
@@ -14,9 +14,9 @@ use lib.Seq.{getD-set-same, getD-set-other}
 use Rattle.laws.specs.Fold.{largest}
 use Rattle.laws.proofs.Fold.{largest-ge, largest-le}
 use Rattle.orders.proofs.Near.{counted-le}
-use Rattle.order_file.specs.Table.{gapIn, gapOfEntry, Gaps, rowWidth, tableSize, tableBias, emptyLimit}
+use Rattle.order_file.specs.Table.{gapIn, gapOfEntry, Gaps, rowWidth, tableSize, tableBias, emptyLimit, noOrder}
 use Rattle.gaps.specs.Table.{single, TableOf}
-use Rattle.gaps.specs.Raised.{EntryKnown, Raised}
+use Rattle.gaps.specs.Raised.{EntryKnown, Raised, Cleared}
 use Rattle.gaps.proofs.Row.{of-larger}
 use Rattle.laws.proofs.Chosen.{eqb-same}
 use Rattle.order_file.specs.Contents.{stepLimit, mostGap}
@@ -35,34 +35,15 @@ single-off i k gap a b d =
       | no e ↦ ap (λ t. cond (t && eqb k b) gap 0) (ne-eqb i a e)
     ]
 
--- an entry that is large enough stays, and raised twice it is raised by the larger gap
-pub keeps : (a b : ℕ) (t : Bool) → b ≤ a → a ≡ max a (cond t 0 b)
-keeps a b true h = omega arith
-keeps a b false h = omega arith
-
-joins : (a b c d e : ℕ) (t : Bool) → c ≡ max b (cond t 0 d) → a ≡ max c (cond t 0 e) → a ≡ max b (cond t 0 (max d e))
-joins a b c d e true p q = omega arith
-joins a b c d e false p q = omega arith
-
--- A table that is high enough stays as it is.
-raised-still :
-    (n : ℕ) (f : ℕ → ℕ → ℕ) (gaps : List ℕ) → ((i k : ℕ) → (i ≡ k → ⊥) → f i k ≤ gapIn gaps i k)
-    → Raised n f gaps gaps
-raised-still n f gaps high =
-    record {
-      whole = λ g. g;
-      below = λ a b h l.
-          elim (ℕ-discrete a b) [
-            | yes q ↦ rw (eq-eqb a b q) (omega arith)
-            | no q ↦ keeps _ _ (eqb a b) (high a b q)
-          ];
-      rest = λ a b h d. refl;
-    }
+-- raised twice, an entry is raised by the larger gap
+joins : (a b c d e : ℕ) → c ≡ max b d → a ≡ max c e → a ≡ max b (max d e)
+joins a b c d e p q = omega arith
 
 pub raised-none : (n : ℕ) (f : ℕ → ℕ → ℕ) (gaps : List ℕ) → ((i k : ℕ) → f i k ≡ 0) → Raised n f gaps gaps
-raised-none n f gaps z = raised-still n f gaps (λ i k d. omega (arith, z i k))
+raised-none n f gaps z =
+    record { whole = λ g. g; below = λ i k h l d. omega (arith, z i k); rest = λ i k h d out. refl }
 
--- An order into a table: the larger of it and what is there, except for a step's own entry.
+-- An order into a table: the larger of it and what is there.
 module _ (gaps : List ℕ) (i k entry v : ℕ) where
   abbrev gap : ℕ
   gap = gapOfEntry entry
@@ -71,10 +52,9 @@ module _ (gaps : List ℕ) (i k entry v : ℕ) where
   old = getD gaps (rowWidth * i + k) 0
 
   pub raised-put :
-      i < rowWidth → k < rowWidth → (i ≡ k → v ≡ old) → ((i ≡ k → ⊥) → v ≡ max old entry) → EntryKnown entry
-      → length gaps ≡ tableSize
+      i < rowWidth → k < rowWidth → v ≡ max old entry → EntryKnown entry → length gaps ≡ tableSize
       → Raised rowWidth (single i k gap) gaps (set gaps (rowWidth * i + k) v)
-  raised-put h small own other known n =
+  raised-put h small e known n =
       record {
         whole = λ g. record {
           size = length-set gaps (rowWidth * i + k) v ∙ n;
@@ -83,7 +63,7 @@ module _ (gaps : List ℕ) (i k entry v : ℕ) where
         };
         below = below;
         rest =
-            λ a b r w.
+            λ a b r d w.
             ap gapOfEntry (getD-set-other gaps (rowWidth * i + k) (rowWidth * a + b) v 0 (λ q. w (omega arith) (omega arith)));
       }
     where
@@ -92,36 +72,28 @@ module _ (gaps : List ℕ) (i k entry v : ℕ) where
 
       -- what holds of the entry and of what was there holds
       either : (p : ℕ) (P : ℕ → Type 0) → P entry → ((q : ℕ) → P (getD gaps q 0)) → P (getD (set gaps (rowWidth * i + k) v) p 0)
-      either p P e o =
+      either p P new was =
           elim (ℕ-discrete p (rowWidth * i + k)) [
             | yes q ↦
-                subst P (sym (ap (λ j. getD (set gaps (rowWidth * i + k) v) j 0) q ∙ here))
-                (elim (ℕ-discrete i k) [
-                  | yes s ↦ subst P (sym (own s)) (o (rowWidth * i + k))
-                  | no s ↦ subst P (sym (other s)) (of-larger P old entry (o (rowWidth * i + k)) e)
-                ])
-            | no q ↦ subst P (sym (getD-set-other gaps (rowWidth * i + k) p v 0 q)) (o p)
-          ]
-
-      at : gapIn (set gaps (rowWidth * i + k) v) i k ≡ max (gapIn gaps i k) (cond (eqb i k) 0 gap)
-      at =
-          elim (ℕ-discrete i k) [
-            | yes s ↦ rw (eq-eqb i k s) (omega (arith, here, own s))
-            | no s ↦ rw (ne-eqb i k s) (omega (arith, here, other s))
+                subst P (sym (ap (λ j. getD (set gaps (rowWidth * i + k) v) j 0) q ∙ here ∙ e)) (of-larger P old entry (was (rowWidth * i + k)) new)
+            | no q ↦ subst P (sym (getD-set-other gaps (rowWidth * i + k) p v 0 q)) (was p)
           ]
 
       below :
-          (a b : ℕ) → a < rowWidth → b < rowWidth
-          → gapIn (set gaps (rowWidth * i + k) v) a b ≡ max (gapIn gaps a b) (cond (eqb a b) 0 (single i k gap a b))
-      below a b r s =
+          (a b : ℕ) → a < rowWidth → b < rowWidth → (a ≡ b → ⊥)
+          → gapIn (set gaps (rowWidth * i + k) v) a b ≡ max (gapIn gaps a b) (single i k gap a b)
+      below a b r s d =
           elim (ℕ-discrete (rowWidth * a + b) (rowWidth * i + k)) [
             | yes q ↦
                 let u : a ≡ i = omega arith in
                 let v : b ≡ k = omega arith in
-                rw (u, v, single-at i k gap) at
+                rw (u, v, single-at i k gap) (omega (arith, here, e))
             | no q ↦
-                ap gapOfEntry (getD-set-other gaps (rowWidth * i + k) (rowWidth * a + b) v 0 q)
-                ∙ keeps _ _ (eqb a b) (omega (arith, single-off i k gap a b (λ s t. q (omega arith))))
+                omega (
+                  arith,
+                  getD-set-other gaps (rowWidth * i + k) (rowWidth * a + b) v 0 q,
+                  single-off i k gap a b (λ s t. q (omega arith)),
+                )
           ]
 
 -- an order between steps below n
@@ -131,15 +103,11 @@ raised-narrow :
 raised-narrow n i k gap before after m h l w =
     record {
       whole = w .whole;
-      below = λ a b r s. w .below a b (omega arith) (omega arith);
-      rest = λ a b r d.
+      below = λ a b r s apart. w .below a b (omega arith) (omega arith) apart;
+      rest = λ a b r apart d.
           elim (decLt a rowWidth) [
-            | yes s ↦
-                w .below a b s r
-                ∙ sym
-                (keeps (gapIn before a b) (single i k gap a b) (eqb a b)
-                (omega (arith, single-off i k gap a b (λ p q. d (omega arith) (omega arith)))))
-            | no s ↦ w .rest a b r (λ t _. s t)
+            | yes s ↦ omega (arith, w .below a b s r apart, single-off i k gap a b (λ p q. d (omega arith) (omega arith)))
+            | no s ↦ w .rest a b r apart (λ t _. s t)
           ];
     }
 
@@ -149,7 +117,7 @@ module _ (n : ℕ) (f g : ℕ → ℕ → ℕ) (before : List ℕ) where
   raised-is after w e =
       record {
         whole = w .whole;
-        below = λ i k h l. w .below i k h l ∙ ap (λ v. max (gapIn before i k) (cond (eqb i k) 0 v)) (e i k h l);
+        below = λ i k h l d. w .below i k h l d ∙ ap (max (gapIn before i k)) (e i k h l);
         rest = w .rest;
       }
 
@@ -159,9 +127,9 @@ module _ (n : ℕ) (f g : ℕ → ℕ → ℕ) (before : List ℕ) where
   raised-then mid after v w =
       record {
         whole = λ h. w .whole (v .whole h);
-        below = λ i k h l.
-            joins (gapIn after i k) (gapIn before i k) (gapIn mid i k) (f i k) (g i k) (eqb i k) (v .below i k h l) (w .below i k h l);
-        rest = λ i k h d. w .rest i k h d ∙ v .rest i k h d;
+        below = λ i k h l d.
+            joins (gapIn after i k) (gapIn before i k) (gapIn mid i k) (f i k) (g i k) (v .below i k h l d) (w .below i k h l d);
+        rest = λ i k h d out. w .rest i k h d out ∙ v .rest i k h d out;
       }
 
 -- by one order, which f names
@@ -226,13 +194,73 @@ module _ (n : ℕ) (gap : ℕ → ℕ → ℕ) (a b : ℕ) where
 pub empty-gaps : (gaps : List ℕ) → length gaps ≡ tableSize → ((p : ℕ) → getD gaps p 0 ≡ 0) → Gaps gaps
 empty-gaps gaps l z = record { size = l; most = λ p. omega (arith, z p); low = λ p _. omega (arith, z p) }
 
+-- own entries cleared one by one
+module _ (before : List ℕ) where
+  pub cleared-start : Cleared 0 before before
+  cleared-start = record { size = refl; own = λ i h. absurd (omega arith); rest = λ p d. refl }
+
+  pub cleared-more :
+      (i : ℕ) (mid : List ℕ) → i < rowWidth → length before ≡ tableSize → Cleared i before mid
+      → Cleared (i + 1) before (set mid (rowWidth * i + i) noOrder)
+  cleared-more i mid h n w =
+      record {
+        size = length-set mid (rowWidth * i + i) noOrder ∙ w .size;
+        own = λ j l.
+            elim (ℕ-discrete j i) [
+              | yes q ↦
+                  subst (λ a. getD (set mid (rowWidth * i + i) noOrder) (rowWidth * a + a) 0 ≡ noOrder) (sym q)
+                  (getD-set-same mid (rowWidth * i + i) noOrder 0 (omega (arith, w .size)))
+              | no q ↦ getD-set-other mid (rowWidth * i + i) (rowWidth * j + j) noOrder 0 (λ r. q (omega arith)) ∙ w .own j (omega arith)
+            ];
+        rest = λ p d. getD-set-other mid (rowWidth * i + i) p noOrder 0 (d i (omega arith)) ∙ w .rest p (λ j l. d j (omega arith));
+      }
+
+  pub cleared-all : {i n : ℕ} {after : List ℕ} → i ≡ n → Cleared i before after → Cleared n before after
+  cleared-all {i} {n} {after} e w = subst (λ j. Cleared j before after) e w
+
+-- an empty table, raised and then cleared of own entries
 pub table-of :
-    (n : ℕ) (f : ℕ → ℕ → ℕ) (before after : List ℕ) → Raised n f before after → length before ≡ tableSize
+    (n : ℕ) (f : ℕ → ℕ → ℕ) (before mid after : List ℕ) → n ≤ stepLimit → Raised n f before mid → Cleared rowWidth mid after
+    → length before ≡ tableSize
     → ((p : ℕ) → getD before p 0 ≡ 0)
     → TableOf n (λ i k. cond (eqb i k) 0 (f i k)) after
-table-of n f before after w l z =
+table-of n f before mid after few w clear l z =
     record {
-      whole = w .whole (empty-gaps before l z);
-      below = λ i k h g. omega (arith, w .below i k h g, z (rowWidth * i + k));
-      rest = λ i k h d. omega (arith, w .rest i k h d, z (rowWidth * i + k));
+      whole = record {
+        size = clear .size ∙ whole .size;
+        most = λ p. each p (λ v. v ≤ mostGap + tableBias) (omega arith) (whole .most);
+        low = λ p. each p (λ v. v ≤ tableBias → v ≤ emptyLimit) (λ h. omega arith) (whole .low);
+      };
+      below = λ i k h g.
+          elim (ℕ-discrete i k) [
+            | yes q ↦ rw (eq-eqb i k q) (none i k (omega arith) q)
+            | no q ↦ rw (ne-eqb i k q) (omega (arith, same i k (omega arith) q, w .below i k h g q, z (rowWidth * i + k)))
+          ];
+      rest = λ i k h d.
+          elim (ℕ-discrete i k) [
+            | yes q ↦ none i k h q
+            | no q ↦ omega (arith, same i k h q, w .rest i k h q d, z (rowWidth * i + k))
+          ];
     }
+  where
+    whole : Gaps mid
+    whole = w .whole (empty-gaps before l z)
+
+    none : (i k : ℕ) → k < rowWidth → i ≡ k → gapIn after i k ≡ 0
+    none i k h q = subst (λ a. gapIn after a k ≡ 0) (sym q) (omega (arith, clear .own k h))
+
+    same : (i k : ℕ) → k < rowWidth → (i ≡ k → ⊥) → gapIn after i k ≡ gapIn mid i k
+    same i k h q = ap gapOfEntry (clear .rest (rowWidth * i + k) (λ j l e. q (omega arith)))
+
+    -- what holds of none and of every entry before holds
+    each : (p : ℕ) (P : ℕ → Type 0) → P 0 → ((q : ℕ) → P (getD mid q 0)) → P (getD after p 0)
+    each p P new was =
+        let i : ℕ = p / (rowWidth + 1) in
+        elim (decLt i rowWidth) [
+          | yes l ↦
+              elim (ℕ-discrete p (rowWidth * i + i)) [
+                | yes q ↦ subst P (sym (ap (λ j. getD after j 0) q ∙ clear .own i l)) new
+                | no q ↦ subst P (sym (clear .rest p (λ j h e. q (omega arith)))) (was p)
+              ]
+          | no l ↦ subst P (sym (clear .rest p (λ j h e. l (omega arith)))) (was p)
+        ]

@@ -1,13 +1,10 @@
 -- A table raised to what orders say: the order in which it happens does not matter, and of two orders the larger counts.
 use Prim.Native.Nat.{ℕ, _+_, _≤_, _<_, max}
-use mathlib.Core.Path.{_≡_, refl, sym, ap, subst, _∙_}
-use mathlib.Core.Bool.{cond}
+use mathlib.Core.Path.{_≡_, refl, sym, subst, _∙_}
 use mathlib.Core.List.{List}
 use mathlib.Core.Logic.{_⊎_, inl, inr, ⊎-elim}
 use native.Mathlib.Decide.{ℕ-discrete, decLt}
 use native.Mathlib.Omega.{arith}
-use borrow.Author.Tests.{eq-eqb, ne-eqb}
-use lib.Dec.{eqb}
 use Rattle.order_file.specs.Table.{gapIn, rowWidth}
 use Rattle.gaps.specs.Table.{single}
 use Rattle.gaps.specs.Raised.{Raised}
@@ -21,7 +18,7 @@ pub reached-none :
 reached-none n Order gaps none =
     record {
       whole = λ g. g;
-      rest = λ i k h d. refl;
+      rest = λ i k h d out. refl;
       rises = λ i k a. omega arith;
       reaches = λ i k gap a o. absurd (none i k gap o);
       least = λ i k bound a h b. h;
@@ -49,18 +46,14 @@ pub reached-narrow :
 reached-narrow n wide Order before after few w inside =
     record {
       whole = w .whole;
-      rest = λ i k h d.
+      rest = λ i k h q d.
           elim (decLt i wide) [
             | yes l ↦
                 elim (decLt k wide) [
-                  | yes r ↦
-                      elim (ℕ-discrete i k) [
-                        | yes q ↦ w .rest i k h (λ a. a .2 q)
-                        | no q ↦ still i k (l, r, q) d
-                      ]
-                  | no r ↦ w .rest i k h (λ a. r (a .1))
+                  | yes r ↦ still i k (l, r, q) d
+                  | no r ↦ w .rest i k h q (λ a. r (a .1))
                 ]
-            | no l ↦ w .rest i k h (λ a. l (a .0))
+            | no l ↦ w .rest i k h q (λ a. l (a .0))
           ];
       rises = λ i k a. w .rises i k (wider i k a);
       reaches = λ i k gap a o. w .reaches i k gap (wider i k a) o;
@@ -86,7 +79,7 @@ reached-then :
 reached-then n P Q R before mid after v w p q r =
     record {
       whole = λ g. w .whole (v .whole g);
-      rest = λ i k h d. w .rest i k h d ∙ v .rest i k h d;
+      rest = λ i k h d out. w .rest i k h d out ∙ v .rest i k h d out;
       rises = λ i k a. omega (arith, v .rises i k a, w .rises i k a);
       reaches = λ i k gap a o.
           ⊎-elim
@@ -149,28 +142,11 @@ raised-reached :
 raised-reached n f before after m w =
     record {
       whole = w .whole;
-      rest = rest;
-      rises = λ i k a. omega (arith, entry i k a);
-      reaches = λ i k gap a o. omega (arith, entry i k a, o);
-      least = λ i k bound a h all. omega (arith, entry i k a, all (f i k) refl, h);
+      rest = λ i k h q d. w .rest i k h q (λ s t. d (s, t, q));
+      rises = λ i k a. omega (arith, w .below i k (a .0) (a .1) (a .2));
+      reaches = λ i k gap a o. omega (arith, w .below i k (a .0) (a .1) (a .2), o);
+      least = λ i k bound a h all. omega (arith, w .below i k (a .0) (a .1) (a .2), all (f i k) refl, h);
     }
-  where
-    entry : (i k : ℕ) → Apart n i k → gapIn after i k ≡ max (gapIn before i k) (f i k)
-    entry i k a = w .below i k (a .0) (a .1) ∙ ap (λ t. max (gapIn before i k) (cond t 0 (f i k))) (ne-eqb i k (a .2))
-
-    rest : (i k : ℕ) → k < rowWidth → (Apart n i k → ⊥) → gapIn after i k ≡ gapIn before i k
-    rest i k h d =
-        elim (ℕ-discrete i k) [
-          | yes q ↦
-              elim (decLt i n) [
-                | yes l ↦
-                    let none : max (gapIn before i k) (cond (eqb i k) 0 (f i k)) ≡ max (gapIn before i k) 0 =
-                    ap (λ t. max (gapIn before i k) (cond t 0 (f i k))) (eq-eqb i k q)
-                    in omega (arith, w .below i k l (omega arith), none)
-                | no l ↦ w .rest i k h (λ s _. l s)
-              ]
-          | no q ↦ w .rest i k h (λ s t. d (s, t, q))
-        ]
 
 pub reached-one :
     (n a b gap : ℕ) (before after : List ℕ) → n ≤ stepLimit → a < n → b < n → Raised rowWidth (single a b gap) before after
@@ -198,18 +174,13 @@ pub reached-raised :
 reached-raised n Order f before after m w under over =
     record {
       whole = w .whole;
-      below = λ i k h l.
-          elim (ℕ-discrete i k) [
-            | yes q ↦ rw (eq-eqb i k q) (omega (arith, w .rest i k (omega arith) (λ a. a .2 q)))
-            | no q ↦
-                let a : Apart n i k = (h, l, q) in
-                rw (ne-eqb i k q)
-                (omega (
-                  arith,
-                  w .rises i k a,
-                  w .least i k (max (gapIn before i k) (f i k)) a (omega arith) (λ gap o. omega (arith, under i k gap a o)),
-                  over i k (gapIn after i k) a (λ gap o. w .reaches i k gap a o),
-                ))
-          ];
-      rest = λ i k h d. w .rest i k h (λ a. d (a .0) (a .1));
+      below = λ i k h l q.
+          let a : Apart n i k = (h, l, q) in
+          omega (
+            arith,
+            w .rises i k a,
+            w .least i k (max (gapIn before i k) (f i k)) a (omega arith) (λ gap o. omega (arith, under i k gap a o)),
+            over i k (gapIn after i k) a (λ gap o. w .reaches i k gap a o),
+          );
+      rest = λ i k h q d. w .rest i k h q (λ a. d (a .0) (a .1));
     }

@@ -19,7 +19,7 @@ use Rattle.order_file.specs.Contents.{stepLimit, mostGap, gapBias}
 use Rattle.gaps.specs.Table.{single}
 use Rattle.gaps.specs.Raised.{EntryKnown, Raised, serialRow, entryFrom, laterGap}
 use Rattle.gaps.specs.Points.{Rowed}
-use Rattle.gaps.proofs.Raised.{keeps, single-is, single-off, single-le}
+use Rattle.gaps.proofs.Raised.{single-is, single-off, single-le}
 use Rattle.gaps.proofs.Row.{rowed-each}
 
 -- a test decides between an entry and none
@@ -40,13 +40,13 @@ module _ (n i end entry k : ℕ) (x : ℕ → ℕ) (before now : List ℕ) (few 
   abbrev later : ℕ → ℕ → ℕ
   later = laterGap x i end (gapOfEntry entry)
 
-  row-below : (a b : ℕ) → a < n → b < n → gapIn now a b ≡ max (gapIn before a b) (cond (eqb a b) 0 (later a b))
+  row-below : (a b : ℕ) → a < n → b < n → gapIn now a b ≡ max (gapIn before a b) (later a b)
   row-below a b h l =
       elim (ℕ-discrete i a) [
-        | yes s ↦ subst (λ c. gapIn now c b ≡ max (gapIn before c b) (cond (eqb c b) 0 (later c b))) s own
+        | yes s ↦ subst (λ c. gapIn now c b ≡ max (gapIn before c b) (later c b)) s own
         | no s ↦
             let off : later a b ≡ 0 = ap (λ t. cond (t && leb end (x b)) (gapOfEntry entry) 0) (ne-eqb i a s) in
-            ap gapOfEntry (w .rest (rowWidth * a + b) (λ j r e. s (omega arith))) ∙ keeps (gapIn before a b) (later a b) (eqb a b) (omega (arith, off))
+            omega (arith, w .rest (rowWidth * a + b) (λ j r e. s (omega arith)), off)
       ]
     where
       told : (t : Bool) → leb end (x b) ≡ t → later i b ≡ cond t (gapOfEntry entry) 0
@@ -60,25 +60,20 @@ module _ (n i end entry k : ℕ) (x : ℕ → ℕ) (before now : List ℕ) (few 
       still : k ≤ b → gapIn now i b ≡ gapIn before i b
       still r = ap gapOfEntry (w .rest (rowWidth * i + b) (λ j s e. absurd (omega arith)))
 
-      own : gapIn now i b ≡ max (gapIn before i b) (cond (eqb i b) 0 (later i b))
+      own : gapIn now i b ≡ max (gapIn before i b) (later i b)
       own =
           elim (decLe end (x b)) [
             | yes late ↦
                 elim (decLt b k) [
-                  | yes r ↦
-                      let apart : i ≡ b → ⊥ = λ e. absurd (omega (arith, ap x e)) in
-                      raised true (le-leb end (x b) late) r
-                      ∙ ap (max (gapIn before i b)) (sym (ap (λ t. cond t 0 (later i b)) (ne-eqb i b apart) ∙ told true (le-leb end (x b) late)))
+                  | yes r ↦ omega (arith, raised true (le-leb end (x b) late) r, told true (le-leb end (x b) late))
                   | no r ↦ absurd (omega (arith, none b (omega arith) l))
                 ]
             | no early ↦
                 let e : leb end (x b) ≡ false = lt-leb end (x b) (omega arith) in
-                let same : gapIn now i b ≡ gapIn before i b =
                 elim (decLt b k) [
-                  | yes r ↦ omega (arith, raised false e r)
-                  | no r ↦ still (omega arith)
+                  | yes r ↦ omega (arith, raised false e r, told false e)
+                  | no r ↦ omega (arith, still (omega arith), told false e)
                 ]
-                in same ∙ keeps (gapIn before i b) (later i b) (eqb i b) (omega (arith, told false e))
           ]
 
   pub row-raised : Raised n (laterGap x i end (gapOfEntry entry)) before now
@@ -91,8 +86,8 @@ module _ (n i end entry k : ℕ) (x : ℕ → ℕ) (before now : List ℕ) (few 
               rowed-each w (λ v. v ≤ tableBias → v ≤ emptyLimit) (g .low)
               (λ j. either-entry (λ v. v ≤ tableBias → v ≤ emptyLimit) (leb end (x j)) entry (known .low) (λ h. omega arith));
         };
-        below = row-below;
-        rest = λ a b h d. ap gapOfEntry (w .rest (rowWidth * a + b) (λ j l e. d (omega arith) (omega arith)));
+        below = λ a b h l d. row-below a b h l;
+        rest = λ a b h q d. ap gapOfEntry (w .rest (rowWidth * a + b) (λ j l e. d (omega arith) (omega arith)));
       }
 
 -- what the code's test of a step says

@@ -60,10 +60,11 @@ pub record Notable (x : ℕ → ℕ) (word : ℕ) : Type 0 where
 abbrev pub Apart : ℕ → ℕ → ℕ → Type 0
 Apart n i k = (i < n) × (k < n) × (i ≡ k → ⊥)
 
--- a table raised to what orders say, each from i to k by a gap: no entry rises further than one of them asks, and nothing else changes
+-- a table raised to what orders say, each from i to k by a gap: no entry rises further than one of them asks, and nothing else changes,
+-- except perhaps what stands for a step and itself
 pub record Reached (n : ℕ) (Order : ℕ → ℕ → ℕ → Type 0) (before after : List ℕ) : Type 0 where
   pub whole : Gaps before → Gaps after
-  pub rest : (i k : ℕ) → k < rowWidth → (Apart n i k → ⊥) → gapIn after i k ≡ gapIn before i k
+  pub rest : (i k : ℕ) → k < rowWidth → (i ≡ k → ⊥) → (Apart n i k → ⊥) → gapIn after i k ≡ gapIn before i k
   pub rises : (i k : ℕ) → Apart n i k → gapIn before i k ≤ gapIn after i k
   pub reaches : (i k gap : ℕ) → Apart n i k → Order i k gap → gap ≤ gapIn after i k
   pub least :

@@ -1,10 +1,10 @@
 -- Inner: the table of gaps raised, rule by rule.
-use Prim.Native.Nat.{ℕ, _+_, _≤_, _<_, max}
+use Prim.Native.Nat.{ℕ, _+_, _*_, _≤_, _<_, max}
 use mathlib.Core.Path.{_≡_}
 use mathlib.Core.Bool.{_&&_, cond}
 use mathlib.Core.List.{List}
 use lib.Dec.{eqb, leb}
-use lib.ListN.{length}
+use lib.ListN.{length, getD}
 use Rattle.laws.specs.Fold.{largest}
 use Rattle.job.specs.Model.{Model}
 use Rattle.job.specs.WellFormed.{WellFormed}
@@ -21,11 +21,18 @@ pub record EntryKnown (entry : ℕ) : Type 0 where
   pub most : entry ≤ mostGap + tableBias
   pub low : entry ≤ tableBias → entry ≤ emptyLimit
 
--- a table raised by f: between different steps below n the larger of before and f stays, and nothing else changes
+-- a table raised by f: between different steps below n the larger of before and f stays, and nothing else changes, except perhaps what
+-- stands for a step and itself, which is cleared in the end
 pub record Raised (n : ℕ) (f : ℕ → ℕ → ℕ) (before after : List ℕ) : Type 0 where
   pub whole : Gaps before → Gaps after
-  pub below : (i k : ℕ) → i < n → k < n → gapIn after i k ≡ max (gapIn before i k) (cond (eqb i k) 0 (f i k))
-  pub rest : (i k : ℕ) → k < rowWidth → (i < n → k < n → ⊥) → gapIn after i k ≡ gapIn before i k
+  pub below : (i k : ℕ) → i < n → k < n → (i ≡ k → ⊥) → gapIn after i k ≡ max (gapIn before i k) (f i k)
+  pub rest : (i k : ℕ) → k < rowWidth → (i ≡ k → ⊥) → (i < n → k < n → ⊥) → gapIn after i k ≡ gapIn before i k
+
+-- a table whose first n own entries, of a step and itself, are cleared
+pub record Cleared (n : ℕ) (before after : List ℕ) : Type 0 where
+  pub size : length after ≡ length before
+  pub own : (i : ℕ) → i < n → getD after (rowWidth * i + i) 0 ≡ noOrder
+  pub rest : (p : ℕ) → ((i : ℕ) → i < n → p ≡ rowWidth * i + i → ⊥) → getD after p 0 ≡ getD before p 0
 
 -- rule 1 reads links that name effects of the job, into a whole table
 pub record SupportKnown (m : Model) (links gaps : List ℕ) : Type 0 where

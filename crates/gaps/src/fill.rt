@@ -8,9 +8,9 @@ ghost use Rattle.job.specs.WellFormed.{WellFormed};
 ghost use Rattle.validity.specs.Ticks.{scheduleOf};
 ghost use Rattle.orders.specs.Gaps.{supportOrder, supportGap, opposingGap, conditionGap, levelGap, serialFirst, serialGap, gapOf};
 ghost use Rattle.order_file.specs.Contents.{stepLimit};
-ghost use Rattle.order_file.specs.Table.{gapOfEntry, Gaps};
+ghost use Rattle.order_file.specs.Table.{gapOfEntry, Gaps, rowWidth, tableSize};
 ghost use Rattle.gaps.specs.Table.{Fillable, TableOf};
-ghost use Rattle.gaps.specs.Raised.{EntryKnown, Raised, SupportKnown, RaisedByLinks, ValidPoints, serialRow, entryFrom, laterGap};
+ghost use Rattle.gaps.specs.Raised.{EntryKnown, Raised, Cleared, SupportKnown, RaisedByLinks, ValidPoints, serialRow, entryFrom, laterGap};
 ghost use Rattle.gaps.specs.Points.{factAt};
 use crate::rows::Fact;
 use crate::rows::OTHER;
@@ -243,6 +243,18 @@ fn fill_serial(s: &[u8], job: Job, starts: &[u32], gaps: &mut [u32])
     }
 }
 
+// Clears the entry of each step with itself: only different steps are ordered. The rules raise these entries too, which spares them a test.
+fn clear_own(gaps: &mut [u32])
+    requires { ⌜ length (now gaps) ≡ tableSize ⌝ }
+    ensures { λ _. ⌜ Cleared rowWidth (now (gaps .entry)) (now (gaps .exit)) ⌝ }
+{
+    let mut i = 0;
+    while i < WIDTH {
+        gaps[WIDTH * i + i] = NO_ORDER;
+        i += 1;
+    }
+}
+
 // All rules, one after the other, into an empty table.
 pub fn fill_gaps(
     s: &[u8],
@@ -261,4 +273,5 @@ pub fn fill_gaps(
     fill_conditions(s, job, starts, points, begins, gaps);
     fill_levels(job, starts, points, begins, gaps);
     fill_serial(s, job, starts, gaps);
+    clear_own(gaps);
 }

@@ -111,15 +111,14 @@ pub fn strictly(p: usize, q: usize) -> u32
     (p + AT_START - q) as u32
 }
 
-// Keeps the larger of an entry and the one in the table; only different steps are ordered.
+// Keeps the larger of an entry and the one in the table.
 pub fn raise(i: u16, k: u16, entry: u32, gaps: &mut [u32])
     requires { ⌜ Gaps (now gaps) × (i < rowWidth) × (k < rowWidth) × EntryKnown entry ⌝ }
     ensures { λ _. ⌜ Raised rowWidth (single i k (gapOfEntry entry)) (now (gaps .entry)) (now (gaps .exit)) ⌝ }
 {
     let at = WIDTH * i as usize + k as usize;
     let old = gaps[at];
-    let raised = higher(old, entry);
-    gaps[at] = if i == k { old } else { raised };
+    gaps[at] = higher(old, entry);
 }
 
 // Orders a point after the origin, if it has the value and is not before the tick.
@@ -295,22 +294,19 @@ fn raise_whole(row: usize, ahead: usize, at: u32, leads: &[u32; LEADS], gaps: &m
     }
 }
 
-// Raises the row of an origin's step by the leads of its value; the step's own entry stays.
+// Raises the row of an origin's step by the leads of its value.
 fn raise_row(n: usize, origin: Origin, leads: &[u32; LEADS], gaps: &mut [u32])
     requires { ⌜ Gaps (now gaps) × (n ≤ stepLimit) × OriginKnown n origin × LeadsKnown n (now leads) ⌝ }
     ensures { λ _. ⌜ Reached n (Ahead origin (now (leads .entry))) (now (gaps .entry)) (now (gaps .exit)) ⌝ }
 {
-    let step = origin.step as usize;
-    let at = origin.at as u32;
+    let row = WIDTH * origin.step as usize;
     let ahead = WIDTH * origin.value as usize;
-    let row = WIDTH * step;
-    let own = gaps[row + step];
+    let at = origin.at as u32;
     if MANY_STEPS < n {
         raise_whole(row, ahead, at, leads, gaps);
     } else {
         raise_part(n, row, ahead, at, leads, gaps);
     }
-    gaps[row + step] = own;
 }
 
 // Each point of the first places before the later ones of the second that have the other value or the same, by `turn`: the latest point

@@ -65,8 +65,24 @@ fill-gaps-spec =
     let whole3 = conditions .fill-conditions .ensures .whole whole2 in
     let whole4 = levels .fill-levels .ensures _ known .whole whole3 in
     (w .form, whole4))
+    (λ c κs.
+    let serial = c .before .before .before in
+    let levels = serial .before .before .before .before in
+    let conditions = levels .before .before .before .before in
+    let opposing = conditions .before .before .before .before in
+    let support = opposing .before .before .before .before in
+    let d = support .before .before .before .before .before .before .before .before in
+    let w = d .pre in
+    let known : ValidPoints _ _ _ _ = record { form = w .form; known = w .known; valid = w .valid } in
+    let none = empty-gaps _ (w .size) (w .empty) in
+    let whole1 = support .fill-support .ensures _ (w .linked) .whole none in
+    let whole2 = opposing .fill-opposing .ensures _ known .whole whole1 in
+    let whole3 = conditions .fill-conditions .ensures .whole whole2 in
+    let whole4 = levels .fill-levels .ensures _ known .whole whole3 in
+    serial .fill-serial .ensures .whole whole4 .size)
     (λ c.
-    let serial = c .before .before in
+    let clear = c .before .before in
+    let serial = clear .before .before .before .before in
     let levels = serial .before .before .before .before in
     let conditions = levels .before .before .before .before in
     let opposing = conditions .before .before .before .before in
@@ -80,9 +96,10 @@ fill-gaps-spec =
     let whole3 = conditions .fill-conditions .ensures .whole whole2 in
     let whole4 = levels .fill-levels .ensures _ known .whole whole3 in
     let whole5 = serial .fill-serial .ensures .whole whole4 in
-    omega (arith, whole5 .size, w .size))
+    omega (arith, clear .clear-own .ensures .size, whole5 .size, w .size))
     (λ c.
-    let serial = c .before .before in
+    let clear = c .before .before in
+    let serial = clear .before .before .before .before in
     let levels = serial .before .before .before .before in
     let conditions = levels .before .before .before .before in
     let opposing = conditions .before .before .before .before in
@@ -90,9 +107,10 @@ fill-gaps-spec =
     let d = support .before .before .before .before .before .before .before .before in
     let w = d .pre in
     let known : ValidPoints _ _ _ _ = record { form = w .form; known = w .known; valid = w .valid } in
-    table-of _ _ _ _
+    table-of _ _ _ _ _ (w .form .stepCount)
     (raised-then _ _ _ _ _ _
     (raised-then _ _ _ _ _ _
     (raised-then _ _ _ _ _ _
     (raised-then _ _ _ _ _ _ (support .fill-support .ensures _ (w .linked)) (opposing .fill-opposing .ensures _ known))
-    (conditions .fill-conditions .ensures)) (levels .fill-levels .ensures _ known)) (serial .fill-serial .ensures)) (w .size) (w .empty)))
+    (conditions .fill-conditions .ensures)) (levels .fill-levels .ensures _ known)) (serial .fill-serial .ensures)) (clear .clear-own .ensures)
+    (w .size) (w .empty)))

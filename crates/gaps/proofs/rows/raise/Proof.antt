@@ -1,7 +1,5 @@
--- The larger of two, except for a step's own entry.
+-- The larger of two.
 use Prim.Native.Nat.{_+_, _*_}
-use mathlib.Core.Path.{_∙_}
-use mathlib.Core.Logic.{⊎-elim}
 use native.Mathlib.Omega.{arith}
 use borrow.Author.Needs.{needs}
 use Rattle.order_file.specs.Table.{rowWidth}
@@ -13,13 +11,11 @@ pub raise-spec : {M : Type 1} → statement M
 raise-spec =
     tie.close
     (tie.spec
-    (λ c. search needs) (λ c. search needs) (λ c. search needs) (λ c. search needs) (λ c. search needs) (λ c. search needs)
+    (λ c. search needs) (λ c. search needs) (λ c. search needs) (λ c. search needs)
     (λ c κs.
     let d = c .before .before in
     (omega (arith, d .pre .0 .most (rowWidth * d .args .i + d .args .k)), omega (arith, d .pre .3 .most)))
     (λ c. search needs) (λ c. search needs) (λ c. search needs)
     (λ c.
-    let d = c .before .before .before .before in
-    raised-put _ _ _ _ _ (d .pre .1) (d .pre .2)
-    (⊎-elim (λ w s. w .1) (λ w s. absurd (w .0 .left s)) (c .if1 .came))
-    (⊎-elim (λ w s. absurd (s (w .0 .taken))) (λ w s. w .1 ∙ c .before .higher .ensures) (c .if1 .came)) (d .pre .3) (d .pre .0 .size)))
+    let d = c .before .before .before in
+    raised-put _ _ _ _ _ (d .pre .1) (d .pre .2) (c .higher .ensures) (d .pre .3) (d .pre .0 .size)))
