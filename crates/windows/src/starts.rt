@@ -1,19 +1,23 @@
 // Earliest starts: rounds over a table of gaps, until the first that changes nothing.
 ghost use mathlib.Core.Path.{_≡_};
-ghost use Prim.Native.Nat.{max, _+_, _-_, _≤_, _<_};
+ghost use Prim.Native.Nat.{ℕ, min, max, _+_, _-_, _≤_, _<_};
 ghost use lib.Dec.{eqb};
+ghost use lib.ListN.{length, getD};
 use order_file::layout::NO_LATEST;
 use order_file::table::ENTRY_BIAS;
 use order_file::table::WIDTH;
 use order_file::table::higher;
 ghost use Rattle.laws.specs.Search.{all};
 ghost use Rattle.job.specs.Model.{lastStart};
-ghost use Rattle.rounds.specs.Rounds.{demand, raised, rounds, earliest};
-ghost use Rattle.windows.specs.Loops.{aboveStarts, Given};
+ghost use Rattle.rounds.specs.Rounds.{raised, rounds, earliest};
+ghost use Rattle.windows.specs.Loops.{aboveStarts, lanes, Given, Movers, Moving, LowLanes, LanesRaised, Stored, raisedBy};
 ghost use Rattle.order_file.specs.Contents.{gapBias};
-ghost use Rattle.order_file.specs.Table.{rowWidth, entryBias, gapIn, startIn, Gaps};
+ghost use Rattle.order_file.specs.Table.{rowWidth, tableSize, entryBias, gapIn, startIn, Gaps};
 ghost use Rattle.windows.specs.Starts.{Bounded};
 ghost use Rattle.laws.specs.Listed.{Filled};
+
+// The starts that are raised together: as many as fit registers.
+const LANES: usize = 16;
 
 // A start that no step has.
 const NO_START: u32 = NO_LATEST;
@@ -29,25 +33,117 @@ pub struct Earliest {
     pub rounds: usize,
 }
 
-// What the order from i, which starts at t, demands of k, plus the bias of an entry; less than the bias for no order.
-fn demanded(gaps: &[u32], i: usize, k: usize, t: u32) -> u32
-    requires { ⌜ Gaps (now gaps) × (i < rowWidth) × (k < rowWidth) × (t < aboveStarts) ⌝ }
-    ensures { λ r. ⌜ r - entryBias ≡ demand (gapIn (now (gaps .entry))) gapBias i k t ⌝ }
+// Lists the steps among the first n that start otherwise than in seen, and returns how many they are. Every step is stored, and the next one
+// over it unless it moved: whether a step moves is not to be foreseen, so a branch would cost more than the store.
+fn list_movers(
+    n: usize,
+    seen: &[u32; WIDTH],
+    before: &[u32; WIDTH],
+    movers: &mut [u16; WIDTH],
+) -> usize
+    requires { ⌜ (n ≤ rowWidth) × (length (now movers) ≡ rowWidth) ⌝ }
+    ensures { λ r. ⌜ Movers n (startIn (now (seen .entry))) (startIn (now (before .entry))) r (now (movers .exit)) ⌝ }
 {
-    t + gaps[WIDTH * i + k]
+    let mut m = 0;
+    let mut i = 0;
+    while i < n {
+        movers[m] = i as u16;
+        m += (seen[i] != before[i]) as usize;
+        i += 1;
+    }
+    m
 }
 
-// Raises the first n starts to what the orders from i, which starts at t, demand.
-fn raise_starts(n: usize, gaps: &[u32], i: usize, t: u32, at: &mut [u32; WIDTH])
-    requires { ⌜ Gaps (now gaps) × Bounded n (aboveStarts + gapBias) (now at) × (n ≤ rowWidth) × (i < rowWidth) × (t < aboveStarts) ⌝ }
-    ensures { λ _. ⌜ Filled n (λ k. max (startIn (now (at .entry)) k) (demand (gapIn (now (gaps .entry))) gapBias i k t)) (now (at .entry))
-        (now (at .exit)) ⌝ }
+// How many of the lanes from q on have a step.
+fn lanes_used(n: usize, q: usize) -> usize
+    requires { ⌜ (q ≤ n) × (n ≤ rowWidth) ⌝ }
+    ensures { λ r. ⌜ r ≡ min (n - q) lanes ⌝ }
+{
+    if n < q + LANES { n - q } else { LANES }
+}
+
+// Puts the starts from q on into the first lanes, with the bias of the entries.
+fn load_lanes(q: usize, used: usize, before: &[u32; WIDTH], part: &mut [u32; LANES])
+    requires { ⌜ (q + used ≤ rowWidth) × (used ≤ lanes) × (length (now part) ≡ lanes)
+        × ((k : ℕ) → k < used → startIn (now before) (q + k) < aboveStarts) ⌝ }
+    ensures { λ _. ⌜ Filled used (λ k. startIn (now (before .entry)) (q + k) + entryBias) (now (part .entry)) (now (part .exit)) ⌝ }
 {
     let mut k = 0;
-    while k < n {
-        at[k] = higher(at[k] + ENTRY_BIAS, demanded(gaps, i, k, t)) - ENTRY_BIAS;
+    while k < used {
+        part[k] = before[q + k] + ENTRY_BIAS;
         k += 1;
     }
+}
+
+// Raises the lanes to what a step that starts at t demands by the entries from row on. Always all of them, so that the compiler keeps them
+// in registers.
+fn raise_lanes(gaps: &[u32], row: usize, t: u32, part: &mut [u32; LANES])
+    requires { ⌜ Gaps (now gaps) × (row + lanes ≤ tableSize) × (t < aboveStarts) × LowLanes (now part) ⌝ }
+    ensures { λ _. ⌜ Filled lanes (λ k. max (startIn (now (part .entry)) k) (getD (now (gaps .entry)) (row + k) 0 + t)) (now (part .entry))
+        (now (part .exit)) ⌝ }
+{
+    let mut k = 0;
+    while k < LANES {
+        part[k] = higher(part[k], gaps[row + k] + t);
+        k += 1;
+    }
+}
+
+// Raises the lanes from q on to what the first m movers demand.
+fn raise_by_movers(
+    gaps: &[u32],
+    q: usize,
+    m: usize,
+    movers: &[u16; WIDTH],
+    before: &[u32; WIDTH],
+    part: &mut [u32; LANES],
+)
+    requires { ⌜ Gaps (now gaps) × (q + lanes ≤ rowWidth) × Moving m (now movers) (now before) × LowLanes (now part) ⌝ }
+    ensures { λ _. ⌜ LanesRaised (now (gaps .entry)) (now (before .entry)) (now (movers .entry)) q m (now (part .entry)) (now (part .exit)) ⌝ }
+{
+    let mut j = 0;
+    while j < m {
+        let i = movers[j] as usize;
+        raise_lanes(gaps, WIDTH * i + q, before[i], part);
+        j += 1;
+    }
+}
+
+// Puts the first lanes back as the starts from q on, without the bias.
+fn store_lanes(q: usize, used: usize, part: &[u32; LANES], at: &mut [u32; WIDTH])
+    requires { ⌜ (q + used ≤ rowWidth) × (used ≤ lanes) × (length (now at) ≡ rowWidth)
+        × ((k : ℕ) → k < used → entryBias ≤ startIn (now part) k) ⌝ }
+    ensures { λ _. ⌜ Stored q used (now (part .entry)) (now (at .entry)) (now (at .exit)) ⌝ }
+{
+    let mut k = 0;
+    while k < used {
+        at[q + k] = part[k] - ENTRY_BIAS;
+        k += 1;
+    }
+}
+
+// Raises those of the first n starts that are in the lanes from q on to what the first m movers demand. A lane past the last step is raised
+// like the others, from 0, and not put back.
+fn raise_part(
+    n: usize,
+    gaps: &[u32],
+    q: usize,
+    m: usize,
+    movers: &[u16; WIDTH],
+    before: &[u32; WIDTH],
+    at: &mut [u32; WIDTH],
+)
+    requires { ⌜ Gaps (now gaps) × Bounded n (aboveStarts - 1) (now before) × (n ≤ rowWidth) × (q < n) × (q + lanes ≤ rowWidth)
+        × Moving m (now movers) (now before)
+        × Filled q (raisedBy (gapIn (now gaps)) gapBias m (now movers) (startIn (now before))) (now before) (now at) ⌝ }
+    ensures { λ _. ⌜ Filled (min n (q + lanes)) (raisedBy (gapIn (now (gaps .entry))) gapBias m (now (movers .entry)) (startIn (now (before .entry))))
+        (now (before .entry)) (now (at .exit)) ⌝ }
+{
+    let used = lanes_used(n, q);
+    let mut part = [0; LANES];
+    load_lanes(q, used, before, &mut part);
+    raise_by_movers(gaps, q, m, movers, before, &mut part);
+    store_lanes(q, used, &part, at);
 }
 
 // Whether the first n starts of two lists are the same.
@@ -67,7 +163,7 @@ fn same_starts(a: &[u32; WIDTH], b: &[u32; WIDTH], n: usize) -> bool
 
 impl Starts {
     // The starts of the first n steps after a round. A step that starts as it did before the last round, in last, demanded the same
-    // then, so its row is skipped.
+    // then, so only the others demand anew: the movers.
     pub fn round(self, last: Starts, n: usize, gaps: &[u32]) -> Starts
         requires { ⌜ Gaps (now gaps) × Bounded n (aboveStarts - 1) (self .at) × (n ≤ rowWidth)
             × Given n (gapIn (now gaps)) gapBias (startIn (last .at)) (startIn (self .at)) ⌝ }
@@ -76,12 +172,12 @@ impl Starts {
         let before = self.at;
         let seen = last.at;
         let mut at = self.at;
-        let mut i = 0;
-        while i < n {
-            if seen[i] != before[i] {
-                raise_starts(n, gaps, i, before[i], &mut at);
-            }
-            i += 1;
+        let mut movers = [0; WIDTH];
+        let m = list_movers(n, &seen, &before, &mut movers);
+        let mut q = 0;
+        while q < n {
+            raise_part(n, gaps, q, m, &movers, &before, &mut at);
+            q += LANES;
         }
         Starts { at }
     }

@@ -1,12 +1,13 @@
--- The rows that may demand more raise the starts one after the other, by the starts before the round.
-use Prim.Native.Nat.{_≤_, _-_}
-use mathlib.Core.Logic.{⊎-elim}
+-- The movers raise one part of the starts after the other, by the starts before the round.
+use Prim.Native.Nat.{_%_, _-_, min}
+use mathlib.Core.Path.{_≡_, refl}
 use native.Mathlib.Omega.{arith}
-use Rattle.rounds.specs.Rounds.{raised}
 use Rattle.order_file.specs.Contents.{gapBias}
 use Rattle.order_file.specs.Table.{gapIn, startIn}
 use Rattle.laws.specs.Listed.{Filled}
-use Rattle.windows.proofs.Loops.{rows-start, rows-more, rows-same, rows-end, rows-bounded}
+use Rattle.laws.proofs.Listed.{filled-start, filled-end}
+use Rattle.windows.specs.Loops.{lanes, raisedBy}
+use Rattle.windows.proofs.Movers.{movers-moving, movers-raised}
 use Rattle.windows.proofs.starts.Starts.round.Statement.{statement}
 use Rattle.windows.proofs.starts.Starts.round.Tie as tie
 
@@ -14,33 +15,28 @@ pub round-spec : {M : Type 1} → statement M
 round-spec =
     tie.close
     (tie.spec
-    (λ n gaps before seen at₀ i₀ at i. (i ≤ n) × Filled n (raised i (gapIn gaps) gapBias (startIn before)) before at)
-    (λ n gaps before seen at₀ i₀ at i. n - i)
-    (λ c. (omega arith, rows-start _ _ _ _))
-    (λ c. omega arith)
-    (λ c. omega arith)
-    (λ c. omega arith)
-    (λ c. omega arith)
-    (λ c. omega arith)
-    (λ c. omega arith)
+    (λ n gaps before at₀ movers m q₀ at q.
+    (q % lanes ≡ 0) × Filled (min n q) (raisedBy (gapIn gaps) gapBias m movers (startIn before)) before at)
+    (λ n gaps before at₀ movers m q₀ at q. n - q)
+    (λ c κs. (c .before .before .before .before .before .before .before .pre .2, refl))
+    (λ c. (refl, filled-end _ _ _ _ _ (filled-start _ _) (omega arith) (omega arith)))
     (λ c κs.
-    let p = c .before .before .before .before .before .before .before .before .pre in
-    let l = c .before .before .before .loop in (
+    let l = c .before .before .before .before in
+    let p = l .before .before .before .before .before .before .before .before .before .pre in
+    let t = c .before .before .before .loop-test .taken in (
       p .0,
-      rows-bounded _ _ _ _ _ (p .0) (p .1) (l .inv .0) (l .inv .1),
+      p .1,
       p .2,
-      omega arith,
-      omega (arith, p .1 .most (l .i) (c .before .before .loop-test .taken)),
+      t,
+      omega (arith, l .loop .inv .0),
+      movers-moving _ _ _ _ _ (l .before .list-movers .ensures) (p .1) (p .2),
+      filled-end _ _ _ _ _ (l .loop .inv .1) (omega arith) (omega arith),
     ))
     (λ c. omega arith)
     (λ c. omega arith)
+    (λ c. (omega (arith, c .before .before .before .before .before .loop .inv .0), c .raise-part .ensures))
     (λ c.
-    let p = c .before .before .before .before .before .before .before .pre in
-    let v = c .before .before .loop .inv in (
-      omega arith,
-      ⊎-elim
-          (λ w. rows-more _ _ _ _ _ _ (v .1) _ _ (w .3) (w .2 .ensures))
-          (λ w. rows-same _ _ _ _ _ _ (v .1) _ (w .1) _ (p .3) (c .before .loop-test .taken) (w .0 .left))
-          (c .if1 .came),
-    ))
-    (λ c. rows-end _ _ _ _ _ _ (c .before .loop .inv .1) (c .before .loop .inv .0) (c .loop-test .left)))
+    let l = c .before in
+    let p = l .before .before .before .before .before .before .before .before .before .pre in
+    movers-raised _ _ _ _ _ _ _ (l .before .list-movers .ensures) (p .3) _ _
+    (filled-end _ _ _ _ _ (l .loop .inv .1) (omega (arith, c .loop-test .left)) (omega (arith, c .loop-test .left)))))
