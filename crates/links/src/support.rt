@@ -10,9 +10,8 @@ ghost use Rattle.points.specs.Points.{Wanting};
 ghost use Rattle.links.specs.Linkable.{OfValid, Linkable, LinksFound};
 ghost use Rattle.links.specs.Linking.{runLink, LinkIs, LinksPut, FromTo};
 use job::layout::Job;
-use job::records::fact_initial;
-use job::records::goal_fact;
-use job::records::goal_value;
+use job_reader::reader::fact_at;
+use job_reader::reader::goal_at;
 use order_file::layout::INITIAL_STATE;
 use timeline::walk::Cursor;
 use timeline::walk::advance;
@@ -35,7 +34,7 @@ fn run_link(
     requires { ⌜ ((eqb run low && eqb (view job (now s) .initial fact) value) ≡ false → run < length (now points)) ⌝ }
     ensures { λ r. ⌜ r ≡ runLink (view job (now (s .entry))) (now (points .entry)) fact value low run ⌝ }
 {
-    if (run == low) & (fact_initial(s, job, fact) == value) {
+    if (run == low) & (fact_at(s, job, fact) == value) {
         return INITIAL_STATE;
     }
     number_of(points[run])
@@ -81,11 +80,13 @@ fn goal_link(s: &[u8], job: Job, points: &[u64], begins: &[u16], g: u16) -> u16
     requires { ⌜ WellFormed (view job (now s)) × OfValid (view job (now s)) (now points) (now begins) × (g < job .count .goals) ⌝ }
     ensures { λ r. ⌜ LinkIs (view job (now (s .entry))) (now (points .entry)) (now (begins .entry)) (job .count .conditions + g) r ⌝ }
 {
-    let fact = goal_fact(s, job, g);
+    let goal = goal_at(s, job, g);
+    let fact = goal.fact;
+    let value = goal.value;
     let low = begin_at(begins, fact as usize);
     let high = begin_at(begins, fact as usize + 1);
     let run = last_run(points, low, high);
-    run_link(s, job, points, fact, goal_value(s, job, g), low, run)
+    run_link(s, job, points, fact, value, low, run)
 }
 
 fn link_goals(s: &[u8], job: Job, points: &[u64], begins: &[u16], links: &mut [u16])

@@ -15,7 +15,7 @@ ghost use Rattle.values.specs.Against.{OfValue, Rising};
 ghost use Rattle.values.specs.Conditions.{ConditionsKnown, ConditionAt, NotPast, Come};
 use crate::effects::opposed_from;
 use job::layout::Job;
-use job::records::fact_initial;
+use job_reader::reader::fact_at;
 use points::ticks::last_tick;
 use timeline::walk::Cursor;
 use timeline::walk::advance;
@@ -175,7 +175,7 @@ fn contested_of(
     let setters = Setters {
         low: begin_at(begins, fact as usize),
         high: begin_at(begins, fact as usize + 1),
-        initial: fact_initial(s, job, fact),
+        initial: fact_at(s, job, fact),
     };
     let group = job.count.facts as usize + fact as usize;
     let end = begin_at(begins, group + 1);

@@ -8,7 +8,9 @@ ghost use Rattle.validity.specs.Checks.{goalFails};
 ghost use Rattle.points.specs.Points.{PointsKnown, OneValue};
 ghost use Rattle.values.specs.GoalRuns.{GoalsKnown, LateRun};
 use job::layout::Job;
-use job::records::*;
+use job::records::NO_DEADLINE;
+use job_reader::reader::fact_at;
+use job_reader::reader::goal_at;
 use timeline::walk::last_run;
 use timeline::word::begin_at;
 use timeline::word::tick_of;
@@ -32,18 +34,20 @@ fn goal_fails(s: &[u8], job: Job, points: &[u64], begins: &[u16], g: u16) -> boo
     ensures { λ r. ⌜ ((x : ℕ → ℕ) → PointsKnown (view job (now (s .entry))) x (now (points .entry)) (now (begins .entry))
         → OneValue (view job (now (s .entry))) x → r ≡ goalFails (view job (now (s .entry))) x g) ⌝ }
 {
-    let fact = goal_fact(s, job, g);
-    let value = goal_value(s, job, g);
+    let goal = goal_at(s, job, g);
+    let fact = goal.fact;
+    let value = goal.value;
+    let deadline = goal.deadline;
     let low = begin_at(begins, fact as usize);
     let high = begin_at(begins, fact as usize + 1);
-    let kept = fact_initial(s, job, fact) == value;
+    let kept = fact_at(s, job, fact) == value;
     if high <= low {
         return !kept;
     }
     if value_of(points[high - 1]) != value {
         return true;
     }
-    late(points, low, high, kept, goal_deadline(s, job, g))
+    late(points, low, high, kept, deadline)
 }
 
 // The lowest goal that fails or comes after its deadline, or the count of goals.

@@ -16,12 +16,12 @@ run-link-spec =
     (λ c κs. search needs)
     (λ c.
     let d = c .before .before .before .before in
-    chosen-yes _ _ _ (c .if1 .taken) (ap (λ n. eqb (d .args .run) (d .args .low) && eqb n (d .args .value)) (c .before .fact-initial .ensures)) refl)
-    (λ c. let l = c .before .before .before .before .pre (rw (sym (c .before .fact-initial .ensures)) (c .if1 .left)) in search needs)
-    (λ c. c .before .before .before .before .before .pre (rw (sym (c .before .before .fact-initial .ensures)) (c .before .if1 .left)))
+    chosen-yes _ _ _ (c .if1 .taken) (ap (λ n. eqb (d .args .run) (d .args .low) && eqb n (d .args .value)) (c .before .fact-at .ensures)) refl)
+    (λ c. let l = c .before .before .before .before .pre (rw (sym (c .before .fact-at .ensures)) (c .if1 .left)) in search needs)
+    (λ c. c .before .before .before .before .before .pre (rw (sym (c .before .before .fact-at .ensures)) (c .before .if1 .left)))
     (λ c κs. search needs)
     (λ c.
     let d = c .before .before .before .before .before .before in
     chosen-no _ _ _ (c .before .before .if1 .left)
-    (ap (λ n. eqb (d .args .run) (d .args .low) && eqb n (d .args .value)) (c .before .before .before .fact-initial .ensures))
+    (ap (λ n. eqb (d .args .run) (d .args .low) && eqb n (d .args .value)) (c .before .before .before .fact-at .ensures))
     (c .number-of .ensures .0)))

@@ -29,7 +29,7 @@ contested-of-spec =
     let low = c .before .before .before .before .before .begin-at .ensures .0 in
     let high = c .before .before .before .before .begin-at2 .ensures .0 in
     walked-start (p .0) (p .1) (c .before .begin-at3 .ensures .0)
-    (record { low = low; high = high; initial = c .before .before .before .fact-initial .ensures })
+    (record { low = low; high = high; initial = c .before .before .before .fact-at .ensures })
     (c .begin-at4 .ensures .0))
     (λ c. search needs)
     (λ c. walked-listed (c .before .before .loop .inv) (c .before .loop-test .taken))
