@@ -1,5 +1,5 @@
 -- A sweep along the uses of a level in the order of their ticks: sums over places are sums over uses, tick by tick.
-use Prim.Native.Nat.{ℕ, _+_, _≤_, _<_}
+use Prim.Native.Nat.{ℕ, _+_, _*_, _≤_, _<_}
 use mathlib.Core.Path.{_≡_, refl, sym, ap, ap₂, _∙_}
 use mathlib.Core.Bool.{Bool, true, false, cond, not, _&&_}
 use mathlib.Core.List.{List}
@@ -14,7 +14,12 @@ use Rattle.laws.specs.Fold.{sum}
 use Rattle.laws.specs.Search.{lowest}
 use Rattle.laws.proofs.Search.{and-both, and-l, either, any-found, any-none}
 use Rattle.laws.proofs.Fold.{sum-zero}
-use Rattle.job.specs.Model.{Model}
+use Rattle.little_endian.specs.Bytes.{values, biasedAt}
+use Rattle.little_endian.proofs.Bytes.{biased}
+use Rattle.job.specs.Layout.{levelWidth}
+use Rattle.job.specs.declared.layout.Job.{Job}
+use Rattle.job.specs.declared.records.Level.{Level}
+use Rattle.job.specs.Model.{Model, view, levelOf}
 use Rattle.timeline.specs.Words.{numberAt, tickAt}
 use Rattle.timeline.specs.Placed.{Parted, placeLimit}
 use Rattle.timeline.proofs.PlacedSums.{sum-placed}
@@ -24,6 +29,15 @@ use Rattle.validity.specs.Checks.{passes, levelFails}
 use Rattle.points.specs.Points.{usedGroup, PointsKnown}
 use Rattle.schedule.specs.declared.levels.Sums.{Sums}
 use Rattle.schedule.specs.LevelSums.{sumLimit, sumFrom, inBounds, UsesPlaced, Stretch, Summed, Added, SummedTick}
+
+-- the numbers of a level are read from four bytes each
+pub level-low :
+    (j : Job) (s : List ℕ) (k : ℕ) {l : Level} → l ≡ levelOf (view j s) k
+    → (l .initial < values) × (l .least < values) × (l .most < values)
+unfolding biasedAt
+level-low j s k e =
+    let at = j .at .levels + levelWidth * k in
+    rw e (biased s at refl .1, biased s (at + 4) refl .1, biased s (at + 8) refl .1)
 
 module _ {m : Model} {points : List ℕ} {low high : ℕ} where
   -- nothing is summed

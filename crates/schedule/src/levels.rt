@@ -8,7 +8,8 @@ ghost use Rattle.points.specs.Points.{PointsKnown};
 ghost use Rattle.timeline.specs.Placed.{placeLimit};
 ghost use Rattle.schedule.specs.LevelSums.{sumLimit, inBounds, UsesPlaced, Stretch, Summed, Added, SummedTick};
 use job::layout::Job;
-use job::records::*;
+use job::records::use_amount;
+use job_reader::reader::level_at;
 use little_endian::SIGN_BIAS;
 use timeline::word::begin_at;
 use timeline::word::number_of;
@@ -69,9 +70,12 @@ fn in_bounds(s: &[u8], job: Job, l: u16, before: Sums, after: Sums) -> bool
     requires { ⌜ (before .rises ≤ sumLimit) × (before .falls ≤ sumLimit) × (after .rises ≤ sumLimit) × (after .falls ≤ sumLimit) ⌝ }
     ensures { λ r. ⌜ r ≡ inBounds (view job (now (s .entry))) l before after ⌝ }
 {
-    let initial = level_initial(s, job, l);
-    let above = level_least(s, job, l) + after.falls <= initial + before.rises;
-    let below = initial + after.rises <= level_most(s, job, l) + before.falls;
+    let level = level_at(s, job, l);
+    let initial = level.initial;
+    let least = level.least;
+    let most = level.most;
+    let above = least + after.falls <= initial + before.rises;
+    let below = initial + after.rises <= most + before.falls;
     above & below
 }
 
