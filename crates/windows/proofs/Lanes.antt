@@ -1,35 +1,41 @@
 -- The lanes: starts with the bias of the entries, raised by one mover after the other, and put back.
-use Prim.Native.Nat.{ℕ, zero, suc, _+_, _*_, _-_, _≤_, _<_, min, max}
+use Prim.Native.Nat.{ℕ, zero, suc, _+_, _*_, _-_, _≤_, _<_, max}
 use mathlib.Core.Path.{_≡_, refl, ap, _∙_}
 use mathlib.Core.List.{List}
 use native.Mathlib.Numerals.{add-one}
 use native.Mathlib.Decide.{decLt}
 use native.Mathlib.Omega.{arith}
 use borrow.Author.Tests.{eq-eqb, ne-eqb}
-use lib.ListN.{length, getD, set, replicate, length-set, getD-replicate, length-replicate}
+use lib.ListN.{length, getD, set, replicate, getD-replicate}
 use Rattle.laws.specs.Fold.{largest}
 use Rattle.laws.specs.Listed.{Filled}
 use Rattle.laws.proofs.Fold.{largest-le, largest-cong}
-use Rattle.laws.proofs.Listed.{filled-more, filled-end}
+use Rattle.laws.proofs.Listed.{filled-start, filled-more, filled-end}
 use Rattle.order_file.specs.Contents.{gapBias}
 use Rattle.order_file.specs.Table.{rowWidth, entryBias, tableBias, gapIn, startIn, Gaps}
 use Rattle.rounds.specs.Rounds.{demand}
-use Rattle.windows.specs.Loops.{aboveStarts, lanes, Moving, LowLanes, LanesRaised, Stored, entryDemand, raisedBy}
+use Rattle.windows.specs.Starts.{Bounded}
+use Rattle.windows.specs.Loops.{aboveStarts, lanes, Moving, LowLanes, LanesRaised, Stored, HighRaised, PartRaised, entryDemand}
+use Rattle.windows.proofs.Movers.{raisedBy}
 
--- lanes that are loaded are low, and those past the last step are 0
+-- biased starts are low, and where there is no step there is 0
+pub biased-low :
+    (n : ℕ) (starts high : List ℕ) → Bounded n (aboveStarts - 1) starts
+    → Filled n (λ k. startIn starts k + entryBias) (replicate rowWidth 0) high
+    → (k : ℕ) → k < rowWidth → startIn high k < 2 * entryBias
+biased-low n starts high b w k h =
+    elim (decLt k n) [
+      | yes l ↦ omega (arith, w .below k l, b .most k l)
+      | no l ↦ omega (arith, w .rest k (omega arith), getD-replicate {A = ℕ} rowWidth k 0 0 h)
+    ]
+
+-- lanes of a low list are low
 pub loaded-low :
-    (q used : ℕ) (starts part : List ℕ) → ((k : ℕ) → k < used → startIn starts (q + k) < aboveStarts)
-    → Filled used (λ k. startIn starts (q + k) + entryBias) (replicate lanes 0) part
+    (q : ℕ) (high empty part : List ℕ) → ((k : ℕ) → k < lanes → startIn high (q + k) < 2 * entryBias) → length empty ≡ lanes
+    → Filled lanes (λ k. startIn high (q + k)) empty part
     → LowLanes part
-loaded-low q used starts part b w =
-    record {
-      size = w .size ∙ length-replicate {A = ℕ} lanes 0;
-      low = λ k h.
-          elim (decLt k used) [
-            | yes l ↦ omega (arith, w .below k l, b k l)
-            | no l ↦ omega (arith, w .rest k (omega arith), getD-replicate {A = ℕ} lanes k 0 0 h)
-          ];
-    }
+loaded-low q high empty part b e w =
+    record { size = w .size ∙ e; low = λ k h. omega (arith, w .below k h, b k h) }
 
 -- A loop over the movers has raised the lanes by what the first j of them demand.
 module _ (gaps starts movers : List ℕ) (q : ℕ) (before : List ℕ) where
@@ -72,26 +78,25 @@ module _ (gaps starts movers : List ℕ) (q : ℕ) (before : List ℕ) where
     pub lanes-end : (m : ℕ) → j ≤ m → m ≤ j → LanesRaised gaps starts movers q m before part
     lanes-end m h g = let e : j ≡ m = omega arith in rw e at w
 
--- A loop puts the lanes back behind the starts that are filled.
+-- A loop puts the lanes back behind what is filled.
 module _ (q : ℕ) (part before : List ℕ) where
   pub stored-start : Stored q 0 part before before
-  stored-start = record { size = refl; filled = λ f first w e. filled-end f first (q + 0) q before w (omega arith) (omega arith) }
+  stored-start = record { filled = λ f first w e. filled-end f first (q + 0) q before w (omega arith) (omega arith) }
 
   pub stored-more :
       (k : ℕ) (at : List ℕ) → Stored q k part before at → q + k < length before
-      → Stored q (k + 1) part before (set at (q + k) (startIn part k - entryBias))
+      → Stored q (k + 1) part before (set at (q + k) (startIn part k))
   stored-more k at w l =
-      let v : ℕ = startIn part k - entryBias in
+      let v : ℕ = startIn part k in
       record {
-        size = length-set at (q + k) v ∙ w .size;
         filled = λ f first h e.
             filled-end f first (q + (k + 1)) (q + k + 1) (set at (q + k) v)
             (filled-more f first (q + k) v at (omega (arith, h .size)) (w .filled f first h (λ j g. e j (omega arith))) (e k (omega arith)))
             (omega arith) (omega arith);
       }
 
-  pub stored-end : (used k : ℕ) (at : List ℕ) → Stored q k part before at → k ≤ used → used ≤ k → Stored q used part before at
-  stored-end used k at w h g = let e : k ≡ used = omega arith in rw e at w
+  pub stored-end : (count k : ℕ) (at : List ℕ) → Stored q k part before at → k ≤ count → count ≤ k → Stored q count part before at
+  stored-end count k at w h g = let e : k ≡ count = omega arith in rw e at w
 
 -- what a start and an entry demand with the bias of the entries, and without it
 demand-entry :
@@ -110,7 +115,7 @@ largest-less f zero b = omega arith
 largest-less f (suc n) b = let e : largest n f - b ≡ largest n (λ j. f j - b) = largest-less f n b in omega arith
 
 -- a start raised with the bias of the entries, and without it
-pub raised-unbiased :
+raised-unbiased :
     (gaps starts movers : List ℕ) (m k : ℕ) → Gaps gaps → Moving m movers starts
     → max (startIn starts k + entryBias) (largest m (λ j. entryDemand gaps starts (getD movers j 0) k)) - entryBias
     ≡ raisedBy (gapIn gaps) gapBias m movers (startIn starts) k
@@ -123,18 +128,44 @@ raised-unbiased gaps starts movers m k g w =
           (λ j h. demand-entry gaps starts (getD movers j 0) k g (w .start j h)),
     )
 
--- The lanes of a part, loaded and raised.
-module _ (gaps starts movers : List ℕ) (q m used : ℕ) (empty part raised : List ℕ) (w : LanesRaised gaps starts movers q m part raised)
-    (v : Filled used (λ k. startIn starts (q + k) + entryBias) empty part) (h : used ≤ lanes) where
-  pub part-biased : (k : ℕ) → k < used → entryBias ≤ startIn raised k
-  part-biased k l = omega (arith, v .below k l, w .filled .below k (omega arith))
+-- the lanes from q on, loaded, raised and put back
+pub part-raised :
+    (gaps starts movers : List ℕ) (q m : ℕ) (part raised empty high next : List ℕ) → LanesRaised gaps starts movers q m part raised
+    → Filled lanes (λ k. startIn high (q + k)) empty part → Stored q lanes raised high next
+    → PartRaised gaps starts movers m q high next
+part-raised gaps starts movers q m part raised empty high next w v s =
+    record {
+      part = λ first h.
+          record {
+            filled =
+                s .filled (λ k. max (startIn first k) (largest m (λ j. entryDemand gaps starts (getD movers j 0) k))) first (h .filled) (λ k b.
+                omega (arith, v .below k b, w .filled .below k b, h .filled .rest (q + k) (omega arith)));
+          };
+    }
 
-  pub part-stored :
-      (n : ℕ) (at next : List ℕ) → used ≡ min (n - q) lanes → q < n → Gaps gaps → Moving m movers starts
-      → Filled q (raisedBy (gapIn gaps) gapBias m movers (startIn starts)) starts at → Stored q used raised at next
-      → Filled (min n (q + lanes)) (raisedBy (gapIn gaps) gapBias m movers (startIn starts)) starts next
-  part-stored n at next e l g d f s =
-      filled-end (raisedBy (gapIn gaps) gapBias m movers (startIn starts)) starts (min n (q + lanes)) (q + used) next
-      (s .filled (raisedBy (gapIn gaps) gapBias m movers (startIn starts)) starts f (λ k b.
-      omega (arith, v .below k b, w .filled .below k (omega arith), raised-unbiased gaps starts movers m (q + k) g d)))
-      (omega arith) (omega arith)
+-- A loop over the parts has raised the list below q, which then is past the last step.
+pub high-start : (gaps starts movers : List ℕ) (m : ℕ) (first : List ℕ) → HighRaised gaps starts movers m 0 first first
+high-start gaps starts movers m first =
+    record { filled = filled-start (λ k. max (startIn first k) (largest m (λ j. entryDemand gaps starts (getD movers j 0) k))) first }
+
+module _ (n : ℕ) (gaps starts movers : List ℕ) (m q : ℕ) (empty first high : List ℕ) (w : HighRaised gaps starts movers m q first high)
+    (v : Filled n (λ k. startIn starts k + entryBias) empty first) (l : n ≤ q) where
+  pub high-biased : (k : ℕ) → k < n → entryBias ≤ startIn high k
+  high-biased k h = omega (arith, w .filled .below k (omega arith), v .below k h)
+
+  pub high-unbiased :
+      (at : List ℕ) → Gaps gaps → Moving m movers starts → Filled n (λ k. startIn high k - entryBias) starts at
+      → Filled n (raisedBy (gapIn gaps) gapBias m movers (startIn starts)) starts at
+  high-unbiased at g d u =
+      record {
+        size = u .size;
+        below = λ k h.
+            omega (
+              arith,
+              u .below k h,
+              w .filled .below k (omega arith),
+              v .below k h,
+              raised-unbiased gaps starts movers m k g d,
+            );
+        rest = u .rest;
+      }

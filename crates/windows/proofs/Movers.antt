@@ -1,5 +1,5 @@
 -- The steps that moved: the list of them, and that no other step raises a start.
-use Prim.Native.Nat.{ℕ, _+_, _-_, _≤_, _<_}
+use Prim.Native.Nat.{ℕ, _+_, _-_, _≤_, _<_, max}
 use mathlib.Core.Path.{_≡_, ap, _∙_, sym}
 use mathlib.Core.Bool.{Bool, true, false, not}
 use mathlib.Core.List.{List}
@@ -12,13 +12,14 @@ use mir.Val.{Fits, boolByte}
 use lib.ListN.{length, getD, set, length-set}
 use lib.Seq.{getD-set-same, getD-set-other}
 use lib.Dec.{eqb}
+use Rattle.laws.specs.Fold.{largest}
 use Rattle.laws.specs.Listed.{Filled}
 use Rattle.laws.proofs.Fold.{largest-ge, largest-le}
 use Rattle.order_file.specs.Table.{rowWidth, startIn}
 use Rattle.rounds.specs.Rounds.{demand, raised}
 use Rattle.rounds.proofs.Rounds.{raised-ge, raised-demand, raised-le}
 use Rattle.windows.specs.Starts.{Bounded}
-use Rattle.windows.specs.Loops.{aboveStarts, Given, Movers, Moving, raisedBy}
+use Rattle.windows.specs.Loops.{aboveStarts, Given, Movers, Moving}
 
 -- what a test adds to a count
 byte-most : (t : Bool) → boolByte t ≤ 1
@@ -81,6 +82,10 @@ movers-moving n last starts m movers w b l =
       row = λ j h. omega (arith, w .below j h);
       start = λ j h. omega (arith, b .most (getD movers j 0) (w .below j h));
     }
+
+-- a start raised to what the first m movers demand
+abbrev pub raisedBy : (ℕ → ℕ → ℕ) → ℕ → ℕ → List ℕ → (ℕ → ℕ) → ℕ → ℕ
+raisedBy gap bias m movers x k = max (x k) (largest m (λ j. demand gap bias (getD movers j 0) k (x (getD movers j 0))))
 
 -- Starts raised by the movers are raised by all steps: what the others demand, they have.
 module _ (n : ℕ) (gap : ℕ → ℕ → ℕ) (bias : ℕ) (last x : ℕ → ℕ) (m : ℕ) (movers : List ℕ) (w : Movers n last x m movers)

@@ -1,5 +1,5 @@
 -- Inner: rounds over the starts, and the latest starts lowered goal by goal.
-use Prim.Native.Nat.{ℕ, _+_, _*_, _-_, _≤_, _<_, max}
+use Prim.Native.Nat.{ℕ, _+_, _*_, _≤_, _<_, max}
 use mathlib.Core.Path.{_≡_}
 use mathlib.Core.Bool.{cond}
 use mathlib.Core.List.{List}
@@ -37,10 +37,6 @@ pub record Moving (m : ℕ) (movers starts : List ℕ) : Type 0 where
   pub row : (j : ℕ) → j < m → getD movers j 0 < rowWidth
   pub start : (j : ℕ) → j < m → startIn starts (getD movers j 0) < aboveStarts
 
--- a start raised to what the first m movers demand
-abbrev pub raisedBy : (ℕ → ℕ → ℕ) → ℕ → ℕ → List ℕ → (ℕ → ℕ) → ℕ → ℕ
-raisedBy gap bias m movers x k = max (x k) (largest m (λ j. demand gap bias (getD movers j 0) k (x (getD movers j 0))))
-
 -- the starts that are raised together, a lane each
 abbrev pub lanes : ℕ
 lanes = 16
@@ -59,10 +55,17 @@ pub record LanesRaised (gaps starts movers : List ℕ) (q j : ℕ) (before after
   pub filled : Filled lanes (λ k. max (startIn before k) (largest j (λ i. entryDemand gaps starts (getD movers i 0) (q + k)))) before after
 
 -- a list that was filled below q, and then from the first lanes
-pub record Stored (q used : ℕ) (part before after : List ℕ) : Type 0 where
-  pub size : length after ≡ length before
-  pub filled : (f : ℕ → ℕ) (first : List ℕ) → Filled q f first before → ((k : ℕ) → k < used → startIn part k - entryBias ≡ f (q + k))
-      → Filled (q + used) f first after
+pub record Stored (q count : ℕ) (part before after : List ℕ) : Type 0 where
+  pub filled : (f : ℕ → ℕ) (first : List ℕ) → Filled q f first before → ((k : ℕ) → k < count → startIn part k ≡ f (q + k))
+      → Filled (q + count) f first after
+
+-- a list of starts, with the bias of the entries, raised below q to what the first m movers demand
+pub record HighRaised (gaps starts movers : List ℕ) (m q : ℕ) (before after : List ℕ) : Type 0 where
+  pub filled : Filled q (λ k. max (startIn before k) (largest m (λ j. entryDemand gaps starts (getD movers j 0) k))) before after
+
+-- one that was raised so below q, and now with the lanes from q on
+pub record PartRaised (gaps starts movers : List ℕ) (m q : ℕ) (before after : List ℕ) : Type 0 where
+  pub part : (first : List ℕ) → HighRaised gaps starts movers m q first before → HighRaised gaps starts movers m (q + lanes) first after
 
 -- the written start of a fixed step, else `none`
 abbrev pub fixedStart : Model → ℕ → ℕ → ℕ

@@ -1,6 +1,6 @@
 // Earliest starts: rounds over a table of gaps, until the first that changes nothing.
 ghost use mathlib.Core.Path.{_≡_};
-ghost use Prim.Native.Nat.{ℕ, min, max, _+_, _-_, _≤_, _<_};
+ghost use Prim.Native.Nat.{ℕ, max, _+_, _*_, _-_, _≤_, _<_};
 ghost use lib.Dec.{eqb};
 ghost use lib.ListN.{length, getD};
 use order_file::layout::NO_LATEST;
@@ -10,7 +10,7 @@ use order_file::table::higher;
 ghost use Rattle.laws.specs.Search.{all};
 ghost use Rattle.job.specs.Model.{lastStart};
 ghost use Rattle.rounds.specs.Rounds.{raised, rounds, earliest};
-ghost use Rattle.windows.specs.Loops.{aboveStarts, lanes, Given, Movers, Moving, LowLanes, LanesRaised, Stored, raisedBy};
+ghost use Rattle.windows.specs.Loops.{aboveStarts, lanes, Given, Movers, Moving, LowLanes, LanesRaised, Stored, PartRaised};
 ghost use Rattle.order_file.specs.Contents.{gapBias};
 ghost use Rattle.order_file.specs.Table.{rowWidth, tableSize, entryBias, gapIn, startIn, Gaps};
 ghost use Rattle.windows.specs.Starts.{Bounded};
@@ -34,7 +34,7 @@ pub struct Earliest {
 }
 
 // Lists the steps among the first n that start otherwise than in seen, and returns how many they are. Every step is stored, and the next one
-// over it unless it moved: whether a step moves is not to be foreseen, so a branch would cost more than the store.
+// over it unless it moved: which steps move is not to be foreseen, so nothing branches on it.
 fn list_movers(
     n: usize,
     seen: &[u32; WIDTH],
@@ -54,23 +54,38 @@ fn list_movers(
     m
 }
 
-// How many of the lanes from q on have a step.
-fn lanes_used(n: usize, q: usize) -> usize
-    requires { ⌜ (q ≤ n) × (n ≤ rowWidth) ⌝ }
-    ensures { λ r. ⌜ r ≡ min (n - q) lanes ⌝ }
-{
-    if n < q + LANES { n - q } else { LANES }
-}
-
-// Puts the starts from q on into the first lanes, with the bias of the entries.
-fn load_lanes(q: usize, used: usize, before: &[u32; WIDTH], part: &mut [u32; LANES])
-    requires { ⌜ (q + used ≤ rowWidth) × (used ≤ lanes) × (length (now part) ≡ lanes)
-        × ((k : ℕ) → k < used → startIn (now before) (q + k) < aboveStarts) ⌝ }
-    ensures { λ _. ⌜ Filled used (λ k. startIn (now (before .entry)) (q + k) + entryBias) (now (part .entry)) (now (part .exit)) ⌝ }
+// Puts the first n starts into a list, with the bias of the entries.
+fn bias_starts(n: usize, before: &[u32; WIDTH], high: &mut [u32; WIDTH])
+    requires { ⌜ Bounded n (aboveStarts - 1) (now before) × (n ≤ rowWidth) × (length (now high) ≡ rowWidth) ⌝ }
+    ensures { λ _. ⌜ Filled n (λ k. startIn (now (before .entry)) k + entryBias) (now (high .entry)) (now (high .exit)) ⌝ }
 {
     let mut k = 0;
-    while k < used {
-        part[k] = before[q + k] + ENTRY_BIAS;
+    while k < n {
+        high[k] = before[k] + ENTRY_BIAS;
+        k += 1;
+    }
+}
+
+// Puts the first n of such a list back as starts.
+fn unbias_starts(n: usize, high: &[u32; WIDTH], at: &mut [u32; WIDTH])
+    requires { ⌜ (n ≤ rowWidth) × (length (now at) ≡ rowWidth) × ((k : ℕ) → k < n → entryBias ≤ startIn (now high) k) ⌝ }
+    ensures { λ _. ⌜ Filled n (λ k. startIn (now (high .entry)) k - entryBias) (now (at .entry)) (now (at .exit)) ⌝ }
+{
+    let mut k = 0;
+    while k < n {
+        at[k] = high[k] - ENTRY_BIAS;
+        k += 1;
+    }
+}
+
+// Takes the lanes from q on out of a list of biased starts.
+fn load_lanes(q: usize, high: &[u32; WIDTH], part: &mut [u32; LANES])
+    requires { ⌜ (q + lanes ≤ rowWidth) × (length (now part) ≡ lanes) ⌝ }
+    ensures { λ _. ⌜ Filled lanes (λ k. startIn (now (high .entry)) (q + k)) (now (part .entry)) (now (part .exit)) ⌝ }
+{
+    let mut k = 0;
+    while k < LANES {
+        part[k] = high[q + k];
         k += 1;
     }
 }
@@ -109,41 +124,35 @@ fn raise_by_movers(
     }
 }
 
-// Puts the first lanes back as the starts from q on, without the bias.
-fn store_lanes(q: usize, used: usize, part: &[u32; LANES], at: &mut [u32; WIDTH])
-    requires { ⌜ (q + used ≤ rowWidth) × (used ≤ lanes) × (length (now at) ≡ rowWidth)
-        × ((k : ℕ) → k < used → entryBias ≤ startIn (now part) k) ⌝ }
-    ensures { λ _. ⌜ Stored q used (now (part .entry)) (now (at .entry)) (now (at .exit)) ⌝ }
+// Puts the lanes from q on back into the list.
+fn store_lanes(q: usize, part: &[u32; LANES], high: &mut [u32; WIDTH])
+    requires { ⌜ (q + lanes ≤ rowWidth) × (length (now high) ≡ rowWidth) ⌝ }
+    ensures { λ _. ⌜ Stored q lanes (now (part .entry)) (now (high .entry)) (now (high .exit)) ⌝ }
 {
     let mut k = 0;
-    while k < used {
-        at[q + k] = part[k] - ENTRY_BIAS;
+    while k < LANES {
+        high[q + k] = part[k];
         k += 1;
     }
 }
 
-// Raises those of the first n starts that are in the lanes from q on to what the first m movers demand. A lane past the last step is raised
-// like the others, from 0, and not put back.
+// Raises, in a list of biased starts, the lanes from q on to what the first m movers demand.
 fn raise_part(
-    n: usize,
     gaps: &[u32],
     q: usize,
     m: usize,
     movers: &[u16; WIDTH],
     before: &[u32; WIDTH],
-    at: &mut [u32; WIDTH],
+    high: &mut [u32; WIDTH],
 )
-    requires { ⌜ Gaps (now gaps) × Bounded n (aboveStarts - 1) (now before) × (n ≤ rowWidth) × (q < n) × (q + lanes ≤ rowWidth)
-        × Moving m (now movers) (now before)
-        × Filled q (raisedBy (gapIn (now gaps)) gapBias m (now movers) (startIn (now before))) (now before) (now at) ⌝ }
-    ensures { λ _. ⌜ Filled (min n (q + lanes)) (raisedBy (gapIn (now (gaps .entry))) gapBias m (now (movers .entry)) (startIn (now (before .entry))))
-        (now (before .entry)) (now (at .exit)) ⌝ }
+    requires { ⌜ Gaps (now gaps) × (q + lanes ≤ rowWidth) × Moving m (now movers) (now before) × (length (now high) ≡ rowWidth)
+        × ((k : ℕ) → k < lanes → startIn (now high) (q + k) < 2 * entryBias) ⌝ }
+    ensures { λ _. ⌜ PartRaised (now (gaps .entry)) (now (before .entry)) (now (movers .entry)) m q (now (high .entry)) (now (high .exit)) ⌝ }
 {
-    let used = lanes_used(n, q);
     let mut part = [0; LANES];
-    load_lanes(q, used, before, &mut part);
+    load_lanes(q, high, &mut part);
     raise_by_movers(gaps, q, m, movers, before, &mut part);
-    store_lanes(q, used, &part, at);
+    store_lanes(q, &part, high);
 }
 
 // Whether the first n starts of two lists are the same.
@@ -163,7 +172,7 @@ fn same_starts(a: &[u32; WIDTH], b: &[u32; WIDTH], n: usize) -> bool
 
 impl Starts {
     // The starts of the first n steps after a round. A step that starts as it did before the last round, in last, demanded the same
-    // then, so only the others demand anew: the movers.
+    // then, so only the others demand anew: the movers. Lanes past the last step are raised with the rest, from 0, and not put back.
     pub fn round(self, last: Starts, n: usize, gaps: &[u32]) -> Starts
         requires { ⌜ Gaps (now gaps) × Bounded n (aboveStarts - 1) (self .at) × (n ≤ rowWidth)
             × Given n (gapIn (now gaps)) gapBias (startIn (last .at)) (startIn (self .at)) ⌝ }
@@ -174,11 +183,14 @@ impl Starts {
         let mut at = self.at;
         let mut movers = [0; WIDTH];
         let m = list_movers(n, &seen, &before, &mut movers);
+        let mut high = [0; WIDTH];
+        bias_starts(n, &before, &mut high);
         let mut q = 0;
         while q < n {
-            raise_part(n, gaps, q, m, &movers, &before, &mut at);
+            raise_part(gaps, q, m, &movers, &before, &mut high);
             q += LANES;
         }
+        unbias_starts(n, &high, &mut at);
         Starts { at }
     }
 }

@@ -1,13 +1,11 @@
 -- The movers raise one part of the starts after the other, by the starts before the round.
-use Prim.Native.Nat.{_%_, _-_, min}
-use mathlib.Core.Path.{_≡_, refl}
+use Prim.Native.Nat.{_+_, _%_, _≤_, _-_}
+use mathlib.Core.Path.{_≡_, refl, _∙_}
 use native.Mathlib.Omega.{arith}
-use Rattle.order_file.specs.Contents.{gapBias}
-use Rattle.order_file.specs.Table.{gapIn, startIn}
-use Rattle.laws.specs.Listed.{Filled}
-use Rattle.laws.proofs.Listed.{filled-start, filled-end}
-use Rattle.windows.specs.Loops.{lanes, raisedBy}
+use Rattle.order_file.specs.Table.{rowWidth}
+use Rattle.windows.specs.Loops.{lanes, HighRaised}
 use Rattle.windows.proofs.Movers.{movers-moving, movers-raised}
+use Rattle.windows.proofs.Lanes.{biased-low, high-start, high-biased, high-unbiased}
 use Rattle.windows.proofs.starts.Starts.round.Statement.{statement}
 use Rattle.windows.proofs.starts.Starts.round.Tie as tie
 
@@ -15,28 +13,41 @@ pub round-spec : {M : Type 1} → statement M
 round-spec =
     tie.close
     (tie.spec
-    (λ n gaps before at₀ movers m q₀ at q.
-    (q % lanes ≡ 0) × Filled (min n q) (raisedBy (gapIn gaps) gapBias m movers (startIn before)) before at)
-    (λ n gaps before at₀ movers m q₀ at q. n - q)
+    (λ n gaps before at movers m high₀ q₀ high q. (q % lanes ≡ 0) × HighRaised gaps before movers m q high₀ high)
+    (λ n gaps before at movers m high₀ q₀ high q. n - q)
     (λ c κs. (c .before .before .before .before .before .before .before .pre .2, refl))
-    (λ c. (refl, filled-end _ _ _ _ _ (filled-start _ _) (omega arith) (omega arith)))
+    (λ c κs. let p = c .before .before .before .before .before .before .before .before .before .before .pre in (p .1, p .2, refl))
+    (λ c. (refl, high-start _ _ _ _ _))
     (λ c κs.
     let l = c .before .before .before .before in
-    let p = l .before .before .before .before .before .before .before .before .before .pre in
-    let t = c .before .before .before .loop-test .taken in (
+    let w = l .before .bias-starts .ensures in
+    let d = l .before .before .before .before in
+    let p = d .before .before .before .before .before .before .before .before .pre in
+    let q = l .loop .q in
+    let room : q + lanes ≤ rowWidth = omega (arith, l .loop .inv .0, c .before .before .before .loop-test .taken, p .2) in (
       p .0,
-      p .1,
-      p .2,
-      t,
-      omega (arith, l .loop .inv .0),
-      movers-moving _ _ _ _ _ (l .before .list-movers .ensures) (p .1) (p .2),
-      filled-end _ _ _ _ _ (l .loop .inv .1) (omega arith) (omega arith),
+      room,
+      movers-moving _ _ _ _ _ (d .list-movers .ensures) (p .1) (p .2),
+      l .loop .inv .1 .filled .size ∙ w .size,
+      λ k h. omega (arith, l .loop .inv .1 .filled .rest (q + k) (omega arith), biased-low _ _ _ (p .1) w (q + k) (omega (arith, room))),
     ))
     (λ c. omega arith)
     (λ c. omega arith)
-    (λ c. (omega (arith, c .before .before .before .before .before .loop .inv .0), c .raise-part .ensures))
     (λ c.
-    let l = c .before in
-    let p = l .before .before .before .before .before .before .before .before .before .pre in
-    movers-raised _ _ _ _ _ _ _ (l .before .list-movers .ensures) (p .3) _ _
-    (filled-end _ _ _ _ _ (l .loop .inv .1) (omega (arith, c .loop-test .left)) (omega (arith, c .loop-test .left)))))
+    let v = c .before .before .before .before .before .loop .inv in
+    (omega (arith, v .0), c .raise-part .ensures .part _ (v .1)))
+    (λ c κs.
+    let l = c .before .before .before in
+    let p = l .before .before .before .before .before .before .before .before .before .before .before .before .pre in (
+      p .2,
+      p .1 .size,
+      high-biased _ _ _ _ _ _ _ _ _ (l .loop .inv .1) (l .before .bias-starts .ensures) (c .before .before .loop-test .left),
+    ))
+    (λ c.
+    let l = c .before .before .before .before in
+    let d = l .before .before .before .before in
+    let p = d .before .before .before .before .before .before .before .before .pre in
+    let w = d .list-movers .ensures in
+    movers-raised _ _ _ _ _ _ _ w (p .3) _ _
+    (high-unbiased _ _ _ _ _ _ _ _ _ (l .loop .inv .1) (l .before .bias-starts .ensures) (c .before .before .before .loop-test .left) _ (p .0)
+    (movers-moving _ _ _ _ _ w (p .1) (p .2)) (c .unbias-starts .ensures))))
