@@ -14,14 +14,22 @@ use lib.Dec.{ltb, eqb}
 use Rattle.laws.specs.Fold.{least}
 use Rattle.laws.proofs.Fold.{least-none}
 use Rattle.laws.proofs.Search.{either, contrary, and-both}
-use Rattle.job.specs.Model.{Model}
-use Rattle.job.specs.Model.{noDeadline}
+use Rattle.job.specs.Model.{Model, noDeadline, lastDeadline}
+use Rattle.job.specs.WellFormed.{WellFormed}
 use Rattle.order_file.specs.Contents.{initialState, noLatest}
 use Rattle.orders.specs.Links.{goalLink}
 use Rattle.orders.specs.Windows.{allowed, latestOf}
 use Rattle.orders.proofs.Limits.{allowed-linked}
 use Rattle.order_file.specs.Table.{startIn}
 use Rattle.windows.specs.Loops.{fixedStart, LatestBy}
+
+-- a deadline, or the number for none, is within a u32
+pub deadline-low : {m : Model} → WellFormed m → (g : ℕ) → g < m .goals → {d : ℕ} → d ≡ m .goalDeadline g → d ≤ noDeadline
+deadline-low {m} w g b {d} e =
+    ⊎-elim
+    (λ (h : m .goalDeadline g ≤ lastDeadline). omega (arith, e, h))
+    (λ (h : m .goalDeadline g ≡ noDeadline). omega (arith, e, h))
+    (w .goalDeadline g b)
 
 module _ (m : Model) (x : ℕ → ℕ) where
   -- a goal that has no deadline, or is supported by no effect of step k, allows k any start

@@ -13,9 +13,9 @@ use job::layout::Job;
 use job::records::NO_DEADLINE;
 use job::records::effect_at;
 use job::records::effect_step;
-use job::records::goal_deadline;
 use job::records::step_fixed;
 use job::records::step_start;
+use job_reader::reader::goal_at;
 use order_file::layout::INITIAL_STATE;
 use order_file::layout::NO_LATEST;
 use order_file::table::WIDTH;
@@ -72,7 +72,8 @@ fn lower_latest(s: &[u8], job: Job, links: &[u16], g: u16, at: &mut [u32; WIDTH]
     requires { ⌜ Lowering (view job (now s)) (now links) (now at) × (g < job .count .goals) ⌝ }
     ensures { λ _. ⌜ Lowered (view job (now (s .entry))) (now (links .entry)) g (now (at .entry)) (now (at .exit)) ⌝ }
 {
-    let deadline = goal_deadline(s, job, g);
+    let goal = goal_at(s, job, g);
+    let deadline = goal.deadline;
     let link = links[job.count.conditions as usize + g as usize];
     let k = effect_step(s, job, link);
     if (deadline != NO_DEADLINE)

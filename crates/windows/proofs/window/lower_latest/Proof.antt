@@ -5,7 +5,7 @@ use borrow.Author.Tests.{ltb-true}
 use lib.ListN.{length-set}
 use Rattle.laws.proofs.Search.{and-l, and-r}
 use Rattle.links.proofs.LinkList.{goal-link}
-use Rattle.windows.proofs.Latest.{latest-same, latest-set}
+use Rattle.windows.proofs.Latest.{deadline-low, latest-same, latest-set}
 use borrow.Author.Needs.{needs}
 use native.Mathlib.Omega.{arith}
 use Rattle.windows.proofs.window.lower_latest.Statement.{statement}
@@ -16,7 +16,12 @@ lower-latest-spec =
     tie.close
     (tie.spec
     (λ c κs. search needs) (λ c. search needs) (λ c. search needs) (λ c. search needs) (λ c. search needs) (λ c κs. search needs)
-    (λ c κs. search needs) (λ c κs. search needs) (λ c κs. search needs) (λ c. search needs) (λ c. search needs) (λ c. search needs)
+    (λ c κs. search needs) (λ c κs. search needs) (λ c κs. search needs)
+    (λ c.
+    let d = c .before .before .before .before .before .before .before .before in
+    let p = d .before .before .before .pre in
+    omega (arith, c .since .ensures, deadline-low (p .0 .form) _ (p .1) (ap (λ n. n .deadline) (d .goal-at .ensures))))
+    (λ c. search needs) (λ c. search needs)
     (λ c.
     let t = c .before .before in
     let e = t .before .before .before in
@@ -38,7 +43,7 @@ lower-latest-spec =
     record {
       size = simp length-set (p .0 .size);
       goal = λ x l w.
-          latest-set _ x _ _ w (d .goal-deadline .ensures .0) (goal-link _ _ _ l _ (p .1)) (e .effect-step .ensures) (f .step-fixed .ensures) _
+          latest-set _ x _ _ w (ap (λ n. n .deadline) (d .goal-at .ensures)) (goal-link _ _ _ l _ (p .1)) (e .effect-step .ensures) (f .step-fixed .ensures) _
           (t .if1 .taken)
           (omega (arith, ltb-true (e .effect-step .result) (b .args .job .count .steps) (search (and-l, and-r, t .if1 .taken)), p .0 .form .stepCount))
           (c .lower .ensures ∙ ap (min _) (c .before .before .since .ensures ∙ ap (_-_ _) (c .before .before .before .effect-at .ensures .0)));
@@ -51,6 +56,6 @@ lower-latest-spec =
     record {
       size = p .0 .size;
       goal = λ x l w.
-          latest-same _ x _ _ w (d .goal-deadline .ensures .0) (goal-link _ _ _ l _ (p .1)) (e .effect-step .ensures) (f .step-fixed .ensures)
+          latest-same _ x _ _ w (ap (λ n. n .deadline) (d .goal-at .ensures)) (goal-link _ _ _ l _ (p .1)) (e .effect-step .ensures) (f .step-fixed .ensures)
           (c .if1 .left);
     }))
