@@ -5,7 +5,7 @@ use mathlib.Core.List.{List, [], _++_, map}
 use lib.Dec.{eqb}
 use lib.IntN.{ℤ, pos, negsuc}
 use lib.ListN.{length, take, drop}
-use Rattle.little_endian.specs.Bytes.{values}
+use Rattle.little_endian.specs.Bytes.{u32Values}
 use Rattle.order_reader.specs.declared.HeaderRead.{HeaderRead}
 use Rattle.order_reader.specs.Answers.{headerNumber, headerValues, recordValues}
 use Rattle.order_reader.specs.declared.RecordRead.{RecordRead}
@@ -18,7 +18,7 @@ filled list numbers = take (length list) numbers ++ drop (length numbers) list
 -- the 32 bits of an i32, read without a sign
 abbrev pub bits : ℤ → ℕ
 bits (pos n) = n
-bits (negsuc n) = values - suc n
+bits (negsuc n) = u32Values - suc n
 
 -- a header's numbers; none after a refusal
 abbrev pub headerList : HeaderRead → List ℕ

@@ -35,7 +35,8 @@ reached-is n P Q before after w to from =
       rest = w .rest;
       rises = w .rises;
       reaches = λ i k gap a o. let m = from i k gap a o in omega (arith, m .1, w .reaches i k (m .0) a (m .2));
-      least = λ i k bound a h all. w .least i k bound a h (λ gap o. ⊎-elim (λ (z : gap ≡ 0). omega arith) (λ (q : Q i k gap). all gap q) (to i k gap a o));
+      least = λ i k bound a h all.
+          w .least i k bound a h (λ gap o. ⊎-elim (λ (z : gap ≡ 0). omega arith) (λ (q : Q i k gap). all gap q) (to i k gap a o));
     }
 
 -- orders between steps below n alone
@@ -132,13 +133,15 @@ within-all n Order before after low high low' high' d e w =
     subst (λ p. Reached n (Among p high' Order) before after) d (subst (λ q. Reached n (Among low q Order) before after) e w)
 
 pub within-empty :
-    (n : ℕ) (Order : ℕ → ℕ → ℕ → ℕ → Type 0) (gaps : List ℕ) (low high : ℕ) → high ≤ low → Reached n (Among low high Order) gaps gaps
+    (n : ℕ) (Order : ℕ → ℕ → ℕ → ℕ → Type 0) (gaps : List ℕ) (low high : ℕ) → high ≤ low
+    → Reached n (Among low high Order) gaps gaps
 within-empty n Order gaps low high h =
     reached-none n (Among low high Order) gaps (λ i k gap o. absurd (omega (arith, o .1, o .2)))
 
 -- a table raised by f is raised to the gaps of f, and to a single order
 raised-reached :
-    (n : ℕ) (f : ℕ → ℕ → ℕ) (before after : List ℕ) → n ≤ stepLimit → Raised n f before after → Reached n (λ i k gap. gap ≡ f i k) before after
+    (n : ℕ) (f : ℕ → ℕ → ℕ) (before after : List ℕ) → n ≤ stepLimit → Raised n f before after
+    → Reached n (λ i k gap. gap ≡ f i k) before after
 raised-reached n f before after m w =
     record {
       whole = w .whole;

@@ -88,7 +88,7 @@ fn fill_opposing(job: Job, starts: &[u32], points: &[u64], begins: &[u16], gaps:
 }
 
 // The places of fact f, of so many.
-fn fact_at(begins: &[u16], facts: usize, f: usize) -> Fact
+fn places_of(begins: &[u16], facts: usize, f: usize) -> Fact
     requires { ⌜ (f < facts) × (facts + facts < length (now begins)) × (facts < 65536) ⌝ }
     ensures { λ r. ⌜ r ≡ factAt (now (begins .entry)) facts f ⌝ }
 {
@@ -116,7 +116,7 @@ fn fill_conditions(
     let n = job.count.facts as usize;
     let mut f = 0;
     while f < n {
-        let fact = fact_at(begins, n, f);
+        let fact = places_of(begins, n, f);
         raise_conditions(s, job, starts, points, fact, gaps);
         f += 1;
     }

@@ -10,7 +10,7 @@ use lib.Dec.{leb}
 use lib.ListN.{length, set, length-set, List·getD-eq-default}
 use lib.Seq.{sets}
 use Rattle.little_endian.proofs.Sets.{sets-out}
-use Rattle.little_endian.specs.Bytes.{signBias, values, byteAt, u16At, u32At, biasedAt, u16Bytes, u32Bytes}
+use Rattle.little_endian.specs.Bytes.{signBias, u32Values, byteAt, u16At, u32At, biasedAt, u16Bytes, u32Bytes}
 
 -- What a test for room says: that it passed, and that it failed.
 pub room : (end size : ℕ) {r : Bool} → r ≡ leb end size → r ≡ true → end ≤ size
@@ -22,9 +22,9 @@ no-room end size e f = leb-false end size (sym e ∙ f)
 -- the bits of an i32 read without a sign
 pub biased :
     (s : List ℕ) (at : ℕ) {n : ℕ} → n ≡ u32At s at
-    → ((n + signBias) % values ≡ biasedAt s at) × ((n + signBias) % values < values)
+    → ((n + signBias) % u32Values ≡ biasedAt s at) × ((n + signBias) % u32Values < u32Values)
 unfolding biasedAt
-biased s at {n} e = (ap (λ k. (k + signBias) % values) e, omega arith)
+biased s at {n} e = (ap (λ k. (k + signBias) % u32Values) e, omega arith)
 
 -- past the end every number reads as 0
 pub byte-out : (s : List ℕ) (at : ℕ) → length s ≤ at → byteAt s at ≡ 0

@@ -4,7 +4,7 @@ ghost use Prim.Native.Nat.{_+_, _≤_, _<_};
 ghost use lib.Dec.{leb};
 ghost use lib.ListN.{length, set};
 ghost use lib.Seq.{sets};
-ghost use Rattle.little_endian.specs.Bytes.{u16Values, values, byteAt, u16At, u32At, biasedAt, u16Bytes, u32Bytes};
+ghost use Rattle.little_endian.specs.Bytes.{u16Values, u32Values, byteAt, u16At, u32At, biasedAt, u16Bytes, u32Bytes};
 
 fn wide(b: u8) -> usize
     ensures { λ r. ⌜ (r ≡ b) × (r < 256) ⌝ }
@@ -57,14 +57,14 @@ pub fn u16_at(s: &[u8], at: usize) -> usize
 // The u32 at a position within the bytes.
 pub fn u32_within(s: &[u8], at: usize) -> usize
     requires { ⌜ at + 4 ≤ length (now s) ⌝ }
-    ensures { λ r. ⌜ (r ≡ u32At (now (s .entry)) at) × (r < values) ⌝ }
+    ensures { λ r. ⌜ (r ≡ u32At (now (s .entry)) at) × (r < u32Values) ⌝ }
 {
     u16_within(s, at) + 65536 * u16_within(s, at + 2)
 }
 
 // The u32 that starts at a position; its bytes past the end count as 0.
 pub fn u32_at(s: &[u8], at: usize) -> usize
-    ensures { λ r. ⌜ (r ≡ u32At (now (s .entry)) at) × (r < values) ⌝ }
+    ensures { λ r. ⌜ (r ≡ u32At (now (s .entry)) at) × (r < u32Values) ⌝ }
 {
     if has_room(s, at, 4) {
         return u32_within(s, at);
@@ -79,21 +79,21 @@ pub fn u32_at(s: &[u8], at: usize) -> usize
 pub const SIGN_BIAS: usize = 2147483648;
 
 // How many values four bytes have.
-pub const VALUES: usize = 2 * SIGN_BIAS;
+pub const U32_VALUES: usize = 2 * SIGN_BIAS;
 
 // The i32 at a position within the bytes, plus the bias.
 pub fn biased_within(s: &[u8], at: usize) -> usize
     requires { ⌜ at + 4 ≤ length (now s) ⌝ }
-    ensures { λ r. ⌜ (r ≡ biasedAt (now (s .entry)) at) × (r < values) ⌝ }
+    ensures { λ r. ⌜ (r ≡ biasedAt (now (s .entry)) at) × (r < u32Values) ⌝ }
 {
-    (u32_within(s, at) + SIGN_BIAS) % VALUES
+    (u32_within(s, at) + SIGN_BIAS) % U32_VALUES
 }
 
 // The i32 that starts at a position, plus the bias.
 pub fn biased_at(s: &[u8], at: usize) -> usize
-    ensures { λ r. ⌜ (r ≡ biasedAt (now (s .entry)) at) × (r < values) ⌝ }
+    ensures { λ r. ⌜ (r ≡ biasedAt (now (s .entry)) at) × (r < u32Values) ⌝ }
 {
-    (u32_at(s, at) + SIGN_BIAS) % VALUES
+    (u32_at(s, at) + SIGN_BIAS) % U32_VALUES
 }
 
 // Puts a byte at a position; past the end nothing changes.

@@ -9,7 +9,7 @@ use borrow.Author.Tests.{eq-eqb, ne-eqb}
 use lib.ListN.{length, getD, length-append}
 use lib.Seq.{sets, length-sets}
 use Rattle.laws.specs.Listed.{concatenate}
-use Rattle.little_endian.specs.Bytes.{values, u16Bytes, u32Bytes}
+use Rattle.little_endian.specs.Bytes.{u32Values, u16Bytes, u32Bytes}
 use Rattle.laws.specs.Nth.{count}
 use Rattle.laws.proofs.Listed.{concatenate-more}
 use Rattle.laws.proofs.Nth.{count-more, count-same, count-below, nth-is}
@@ -92,11 +92,11 @@ pub put-order :
     (l : List ℕ) {a b c : List ℕ} (at q entry : ℕ) → tableBias < entry
     → a ≡ sets l at (u16Bytes (q / rowWidth))
     → b ≡ sets a (at + 2) (u16Bytes (q % rowWidth))
-    → c ≡ sets b (at + 4) (u32Bytes ((entry + (values - entryBias)) % values))
+    → c ≡ sets b (at + 4) (u32Bytes ((entry + (u32Values - entryBias)) % u32Values))
     → c ≡ sets l at (entryBytes q entry)
 unfolding entryBytes u32Bytes u16Bytes
 put-order l at q entry h ea eb ec =
-    let e : entry + (values - entryBias) ≡ gapOfEntry entry + (values - gapBias) = omega arith in
+    let e : entry + (u32Values - entryBias) ≡ gapOfEntry entry + (u32Values - gapBias) = omega arith in
     rw (ec, eb, ea, e)
     (put-three l (u16Bytes (q / rowWidth)) (u16Bytes (q % rowWidth)) (u32Bytes (gapBits (gapOfEntry entry))) at (at + 2) (at + 4) refl (omega arith))
 

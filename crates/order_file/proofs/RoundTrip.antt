@@ -7,7 +7,7 @@ use native.Mathlib.Nat.{zero-add, add-zero}
 use native.Mathlib.Omega.{arith}
 use lib.ListN.{length, getD}
 use Rattle.laws.specs.Listed.{concatenate}
-use Rattle.little_endian.specs.Bytes.{u16Values, values, u16At, u32At, biasedAt, u16Bytes, u32Bytes}
+use Rattle.little_endian.specs.Bytes.{u16Values, u32Values, u16At, u32At, biasedAt, u16Bytes, u32Bytes}
 use Rattle.order_file.specs.Contents.{Contents, initialState}
 use Rattle.order_file.specs.Layout.{windowsAt, windowAt, ordersAt, orderAt, linksAt, linkAt, gapRead, contentsOf}
 use Rattle.order_file.specs.Encode.{headerBytes, windowBytes, orderBytes, linkBytes, gapBits, upToWindow, upToOrder, upToLink, encode}
@@ -20,7 +20,7 @@ use Rattle.order_file.proofs.Encode.{length-header, length-window, leng
 u16-back : (n : ℕ) → n < u16Values → n % 256 + 256 * (n / 256 % 256) ≡ n
 u16-back n h = omega arith
 
-u32-back : (n : ℕ) → n < values → n % 256 + 256 * (n / 256 % 256) + 65536 * (n / 65536 % 256 + 256 * (n / 65536 / 256 % 256)) ≡ n
+u32-back : (n : ℕ) → n < u32Values → n % 256 + 256 * (n / 256 % 256) + 65536 * (n / 65536 % 256 + 256 * (n / 65536 / 256 % 256)) ≡ n
 u32-back n h = omega arith
 
 module _ (c : Contents) where
@@ -100,15 +100,15 @@ module _ (c : Contents) where
   link-u16 k h = stands-u16 (encode c) (linkAt (c .steps) (c .orders) k) (linkBytes c k) (link-stands k h) 0 (omega (arith, length-link c k))
 
   -- each number's own bytes
-  limit-bytes : (k : ℕ) → c .limit k < values → u32At (windowBytes c k) 0 ≡ c .limit k
+  limit-bytes : (k : ℕ) → c .limit k < u32Values → u32At (windowBytes c k) 0 ≡ c .limit k
   unfolding windowBytes u32Bytes u16Bytes u32At u16At
   limit-bytes k h = u32-back (c .limit k) h
 
-  latest-bytes : (k : ℕ) → c .latest k < values → u32At (windowBytes c k) 4 ≡ c .latest k
+  latest-bytes : (k : ℕ) → c .latest k < u32Values → u32At (windowBytes c k) 4 ≡ c .latest k
   unfolding windowBytes u32Bytes u16Bytes u32At u16At
   latest-bytes k h = u32-back (c .latest k) h
 
-  earliest-bytes : (k : ℕ) → c .earliest k < values → u32At (windowBytes c k) 8 ≡ c .earliest k
+  earliest-bytes : (k : ℕ) → c .earliest k < u32Values → u32At (windowBytes c k) 8 ≡ c .earliest k
   unfolding windowBytes u32Bytes u16Bytes u32At u16At
   earliest-bytes k h = u32-back (c .earliest k) h
 

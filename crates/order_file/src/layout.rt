@@ -1,7 +1,7 @@
 // Where an order file holds what it says, and its fields read from there.
 ghost use mathlib.Core.Path.{_≡_};
 ghost use Prim.Native.Nat.{_<_};
-ghost use Rattle.little_endian.specs.Bytes.{u16Values, values};
+ghost use Rattle.little_endian.specs.Bytes.{u16Values, u32Values};
 ghost use Rattle.order_file.specs.Contents.{gapSpan};
 ghost use Rattle.order_file.specs.Layout.{windowAt, orderAt, linkAt, gapRead, contentsOf};
 use little_endian::SIGN_BIAS;
@@ -87,7 +87,7 @@ pub fn links(file: &[u8]) -> usize
 }
 
 pub fn rounds(file: &[u8]) -> usize
-    ensures { λ r. ⌜ (r ≡ contentsOf (now (file .entry)) .rounds) × (r < values) ⌝ }
+    ensures { λ r. ⌜ (r ≡ contentsOf (now (file .entry)) .rounds) × (r < u32Values) ⌝ }
 {
     little_endian::u32_at(file, 8)
 }
@@ -95,28 +95,28 @@ pub fn rounds(file: &[u8]) -> usize
 // The fields of a step's window.
 pub fn limit(file: &[u8], k: usize) -> usize
     requires { ⌜ k < u16Values ⌝ }
-    ensures { λ r. ⌜ (r ≡ contentsOf (now (file .entry)) .limit k) × (r < values) ⌝ }
+    ensures { λ r. ⌜ (r ≡ contentsOf (now (file .entry)) .limit k) × (r < u32Values) ⌝ }
 {
     little_endian::u32_at(file, window_at(k))
 }
 
 pub fn latest(file: &[u8], k: usize) -> usize
     requires { ⌜ k < u16Values ⌝ }
-    ensures { λ r. ⌜ (r ≡ contentsOf (now (file .entry)) .latest k) × (r < values) ⌝ }
+    ensures { λ r. ⌜ (r ≡ contentsOf (now (file .entry)) .latest k) × (r < u32Values) ⌝ }
 {
     little_endian::u32_at(file, window_at(k) + 4)
 }
 
 pub fn earliest(file: &[u8], k: usize) -> usize
     requires { ⌜ k < u16Values ⌝ }
-    ensures { λ r. ⌜ (r ≡ contentsOf (now (file .entry)) .earliest k) × (r < values) ⌝ }
+    ensures { λ r. ⌜ (r ≡ contentsOf (now (file .entry)) .earliest k) × (r < u32Values) ⌝ }
 {
     little_endian::u32_at(file, window_at(k) + 8)
 }
 
 // The gap plus 100000, of the i32 read without a sign.
 fn gap_read(biased: usize) -> usize
-    requires { ⌜ biased < values ⌝ }
+    requires { ⌜ biased < u32Values ⌝ }
     ensures { λ r. ⌜ (r ≡ gapRead biased) × (r < gapSpan) ⌝ }
 {
     if biased < SIGN_BIAS - GAP_BIAS {

@@ -5,7 +5,7 @@ ghost use lib.ListN.{length};
 ghost use lib.Seq.{sets};
 ghost use Rattle.laws.specs.Listed.{concatenate};
 ghost use Rattle.laws.specs.Nth.{count};
-ghost use Rattle.little_endian.specs.Bytes.{values};
+ghost use Rattle.little_endian.specs.Bytes.{u32Values};
 ghost use Rattle.order_file.specs.Contents.{stepLimit};
 ghost use Rattle.order_file.specs.Layout.{windowsAt, windowAt};
 ghost use Rattle.order_file.specs.Table.{tableSize, tableBias};
@@ -18,14 +18,14 @@ use crate::layout::ORDER;
 use crate::table::ENTRY_BIAS;
 use crate::table::TABLE_BIAS;
 use crate::table::WIDTH;
-use little_endian::VALUES;
+use little_endian::U32_VALUES;
 use little_endian::put_u16;
 use little_endian::put_u16_within;
 use little_endian::put_u32;
 use little_endian::put_u32_within;
 
 // What takes the bias off an entry of the table, counted round below 0.
-const UNBIASED: usize = VALUES - ENTRY_BIAS as usize;
+const UNBIASED: usize = U32_VALUES - ENTRY_BIAS as usize;
 
 // The counts of a file, and its rounds.
 pub struct Header {
@@ -101,12 +101,12 @@ fn write_windows(steps: usize, limits: &[u32], latest: &[u32], earliest: &[u32],
 
 // Puts the order at an entry of the table of gaps: its steps, and the gap's bits.
 fn write_order(at: usize, q: usize, entry: usize, out: &mut [u8])
-    requires { ⌜ (at + 8 ≤ length (now out)) × (tableBias < entry) × (entry < values) ⌝ }
+    requires { ⌜ (at + 8 ≤ length (now out)) × (tableBias < entry) × (entry < u32Values) ⌝ }
     ensures { λ _. ⌜ now (out .exit) ≡ sets (now (out .entry)) at (entryBytes q entry) ⌝ }
 {
     put_u16_within(at, q / WIDTH, out);
     put_u16_within(at + 2, q % WIDTH, out);
-    put_u32_within(at + 4, (entry + UNBIASED) % VALUES, out);
+    put_u32_within(at + 4, (entry + UNBIASED) % U32_VALUES, out);
 }
 
 // Puts every order that the table of the first steps holds, ascending; there is room for all.

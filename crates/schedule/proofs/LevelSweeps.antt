@@ -14,7 +14,7 @@ use Rattle.laws.specs.Fold.{sum}
 use Rattle.laws.specs.Search.{lowest}
 use Rattle.laws.proofs.Search.{and-both, and-l, either, any-found, any-none}
 use Rattle.laws.proofs.Fold.{sum-zero}
-use Rattle.little_endian.specs.Bytes.{values, biasedAt}
+use Rattle.little_endian.specs.Bytes.{u32Values, biasedAt}
 use Rattle.little_endian.proofs.Bytes.{biased}
 use Rattle.job.specs.Layout.{levelWidth}
 use Rattle.job.specs.declared.layout.Job.{Job}
@@ -33,7 +33,7 @@ use Rattle.schedule.specs.LevelSums.{sumLimit, sumFrom, inBounds, UsesPl
 -- the numbers of a level are read from four bytes each
 pub level-low :
     (j : Job) (s : List ℕ) (k : ℕ) {l : Level} → l ≡ levelOf (view j s) k
-    → (l .initial < values) × (l .least < values) × (l .most < values)
+    → (l .initial < u32Values) × (l .least < u32Values) × (l .most < u32Values)
 unfolding biasedAt
 level-low j s k e =
     let at = j .at .levels + levelWidth * k in

@@ -39,7 +39,8 @@ module _ {n : ℕ} {p : ℕ → Bool} where
 
   -- one more is met; r is what the code's test gave
   pub noted-more :
-      {A C : ℕ → Type 0} {best number next : ℕ} {r : Bool} → next ≡ cond r (min best number) best → r ≡ p number → number < n → Noted n p A best
+      {A C : ℕ → Type 0} {best number next : ℕ} {r : Bool} → next ≡ cond r (min best number) best → r ≡ p number → number < n
+      → Noted n p A best
       → ((k : ℕ) → k < n → C k → A k ⊎ (k ≡ number))
       → Noted n p C next
   noted-more {A} {C} {best} {number} {next} {r} e q h so split =

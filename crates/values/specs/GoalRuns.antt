@@ -19,4 +19,6 @@ pub record GoalsKnown (m : Model) (points begins : List ℕ) : Type 0 where
 -- on with a value kept from the start
 pub record LateRun (points : List ℕ) (low high : ℕ) (kept : Bool) (deadline : ℕ) (r : Bool) : Type 0 where
   pub never : deadline ≡ noDeadline → r ≡ false
-  pub ends : (deadline ≡ noDeadline → ⊥) → (run : ℕ) × Run points low high run × (r ≡ (not (kept && eqb run low) && ltb deadline (tickAt points run)))
+  pub ends :
+      (deadline ≡ noDeadline → ⊥)
+      → (run : ℕ) × Run points low high run × (r ≡ (not (kept && eqb run low) && ltb deadline (tickAt points run)))

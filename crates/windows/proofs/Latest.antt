@@ -34,7 +34,8 @@ deadline-low {m} w g b {d} e =
 module _ (m : Model) (x : ℕ → ℕ) where
   -- a goal that has no deadline, or is supported by no effect of step k, allows k any start
   allowed-none :
-      (k g : ℕ) → ((m .goalDeadline g ≡ noDeadline → ⊥) → (goalLink m x g ≡ initialState → ⊥) → m .effectStep (goalLink m x g) ≡ k → ⊥)
+      (k g : ℕ)
+      → ((m .goalDeadline g ≡ noDeadline → ⊥) → (goalLink m x g ≡ initialState → ⊥) → m .effectStep (goalLink m x g) ≡ k → ⊥)
       → allowed m x k g ≡ noLatest
   unfolding allowed
   allowed-none k g d =
@@ -60,7 +61,9 @@ module _ (m : Model) (x : ℕ → ℕ) where
   latest-none starts h = record { each = h }
 
   -- those by all goals
-  pub latest-all : (g : ℕ) (starts : List ℕ) → LatestBy m x g starts → g ≤ m .goals → m .goals ≤ g → (k : ℕ) → k < m .steps → startIn starts k ≡ latestOf m x k
+  pub latest-all :
+      (g : ℕ) (starts : List ℕ) → LatestBy m x g starts → g ≤ m .goals → m .goals ≤ g → (k : ℕ) → k < m .steps
+      → startIn starts k ≡ latestOf m x k
   unfolding latestOf
   latest-all g starts w h l = let q : g ≡ m .goals = omega arith in (rw q at w) .each
 
@@ -111,7 +114,8 @@ module _ (m : Model) (x : ℕ → ℕ) where
         let free : m .fixed step ≡ 1 → ⊥ = λ z. f (ef ∙ z) in
         let most : allowed m x step g ≡ deadline - m .effectAt link =
         rw (ed, el, linked-step)
-        (allowed-linked m x g (λ z. eqb-false deadline noDeadline (not-true _ (a .0)) (ed ∙ z)) (λ z. eqb-false link initialState (not-true _ (a .1)) (el ∙ z)))
+        (allowed-linked m x g (λ z. eqb-false deadline noDeadline (not-true _ (a .0)) (ed ∙ z))
+        (λ z. eqb-false link initialState (not-true _ (a .1)) (el ∙ z)))
         in
         record {
           each = λ k h.

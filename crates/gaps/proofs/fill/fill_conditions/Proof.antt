@@ -29,7 +29,7 @@ fill-conditions-spec =
     let test = made .before in
     let l = test .before in
     let d = l .before .before .before .before .before .before .before in (
-      given-known (made .fact-at .ensures) (fact-known (d .pre .0) _ (test .loop-test .taken)),
+      given-known (made .places-of .ensures) (fact-known (d .pre .0) _ (test .loop-test .taken)),
       l .loop .inv .1 .whole (d .pre .1),
     ))
     (λ c.
@@ -45,7 +45,7 @@ fill-conditions-spec =
     let a = l .before .before .before .before .before .before .before .args in (
       omega (arith, test .loop-test .taken),
       within-up _ _ _ _ _ _ _ (omega arith) (l .loop .inv .1)
-          (given-reached (made .fact-at .ensures) _ (view (a .job) (now (a .s))) (scheduleOf (now (a .starts))) (now (a .points)) _ _
+          (given-reached (made .places-of .ensures) _ (view (a .job) (now (a .s))) (scheduleOf (now (a .starts))) (now (a .points)) _ _
           (raised .raise-conditions .ensures)),
     ))
     (λ c.

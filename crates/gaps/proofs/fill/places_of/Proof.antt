@@ -1,10 +1,10 @@
 -- Each place is read where its group begins.
 use native.Mathlib.Omega.{arith}
-use Rattle.gaps.proofs.fill.fact_at.Statement.{statement}
-use Rattle.gaps.proofs.fill.fact_at.Tie as tie
+use Rattle.gaps.proofs.fill.places_of.Statement.{statement}
+use Rattle.gaps.proofs.fill.places_of.Tie as tie
 
-pub fact-at-spec : {M : Type 1} → statement M
-fact-at-spec =
+pub places-of-spec : {M : Type 1} → statement M
+places-of-spec =
     tie.close
     (tie.spec
     (λ c κs.
