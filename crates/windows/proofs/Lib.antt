@@ -1,5 +1,3 @@
--- The loops of a round, of rounds, and of latest starts.
-pub mod Movers
-pub mod Lanes
+-- The loops of rounds and of latest starts.
 pub mod Loops
 pub mod Latest

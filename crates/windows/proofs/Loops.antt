@@ -1,27 +1,105 @@
--- What the loop of rounds keeps: starts below a bound, steps that need not demand anew, and the rounds reached so far.
-use Prim.Native.Nat.{ℕ, _+_, _*_, _-_, _≤_, _<_}
-use mathlib.Core.Path.{_≡_, refl, ap, ap₂, _∙_}
+-- What the loops over starts keep: filled so far, raised by the rows so far, reached so far.
+use Prim.Native.Nat.{ℕ, _+_, _*_, _-_, _≤_, _<_, max}
+use mathlib.Core.Path.{_≡_, refl, sym, ap, ap₂, _∙_}
 use mathlib.Core.Bool.{Bool, true, false}
 use mathlib.Core.List.{List}
 use native.Mathlib.Numerals.{add-one}
+use native.Mathlib.Decide.{decLt}
 use native.Mathlib.Omega.{arith}
-use lib.ListN.{replicate, getD-replicate}
+use borrow.Author.Tests.{eq-eqb, ne-eqb}
+use lib.ListN.{getD, replicate, getD-replicate}
 use lib.Dec.{eqb}
 use Rattle.laws.specs.Search.{all, lowest}
 use Rattle.laws.proofs.Search.{all-cong, lowest-start, lowest-more, lowest-found, lowest-end}
 use Rattle.job.specs.Model.{lastStart}
 use Rattle.order_file.specs.Contents.{noLatest, gapBias, mostGap}
-use Rattle.order_file.specs.Table.{rowWidth, gapIn, startIn, Gaps}
+use Rattle.order_file.specs.Table.{rowWidth, entryBias, tableBias, gapIn, startIn, Gaps}
 use Rattle.windows.specs.Starts.{Bounded}
 use Rattle.laws.specs.Listed.{Filled}
 use Rattle.rounds.specs.Rounds.{demand, raised, after, unchanged, rounds, earliest}
 use Rattle.windows.specs.Loops.{aboveStarts, Given}
-use Rattle.rounds.proofs.Rounds.{raised-demand, raised-cong, after-most}
+use Rattle.rounds.proofs.Rounds.{demand-most, raised-zero, raised-more, raised-ge, raised-demand, raised-le, raised-cong, after-most}
+
+-- what a start and an entry demand with the bias of the entries, and without it
+pub demand-entry :
+    (gaps : List ℕ) (i k t : ℕ) → Gaps gaps → t < aboveStarts
+    → t + getD gaps (rowWidth * i + k) 0 - entryBias ≡ demand (gapIn gaps) gapBias i k t
+unfolding demand
+demand-entry gaps i k t g h =
+    elim (decLt tableBias (getD gaps (rowWidth * i + k) 0)) [
+      | yes l ↦ rw (ne-eqb (gapIn gaps i k) 0 (λ e. absurd (omega arith))) (omega arith)
+      | no l ↦ rw (eq-eqb (gapIn gaps i k) 0 (omega arith)) (omega (arith, g .low (rowWidth * i + k) (omega arith)))
+    ]
+
+-- the higher of a start and a demand, both with the bias of the entries, and without it
+pub unbiased : (a b d e r : ℕ) → a ≡ b → d - entryBias ≡ e → r ≡ max (a + entryBias) d → r - entryBias ≡ max b e
+unbiased a b d e r p q w = omega arith
+
+-- A loop over the rows of the table has raised the starts by the orders from the first i steps.
+module _ (n : ℕ) (gap : ℕ → ℕ → ℕ) (bias : ℕ) (before : List ℕ) where
+  pub rows-start : Filled n (raised 0 gap bias (startIn before)) before before
+  rows-start = record { size = refl; below = λ k h. sym (raised-zero n gap bias (startIn before) k); rest = λ k h. refl }
+
+  module _ (i : ℕ) (at : List ℕ) (w : Filled n (raised i gap bias (startIn before)) before at) where
+    pub rows-more :
+        (next row : List ℕ) → next ≡ row → Filled n (λ k. max (startIn at k) (demand gap bias i k (startIn before i))) at row
+        → Filled n (raised (i + 1) gap bias (startIn before)) before next
+    rows-more next row e v =
+        rw e
+        record {
+          size = v .size ∙ w .size;
+          below = λ k h. omega (arith, v .below k h, w .below k h, raised-more i gap bias (startIn before) k);
+          rest = λ k h. v .rest k h ∙ w .rest k h;
+        }
+
+    -- a row whose demands are met raises nothing
+    pub rows-same :
+        (next : List ℕ) → next ≡ at → (last : ℕ → ℕ) → Given n gap bias last (startIn before) → i < n → last i ≡ startIn before i
+        → Filled n (raised (i + 1) gap bias (startIn before)) before next
+    rows-same next r last g l e =
+        rw r
+        record {
+          size = w .size;
+          below = λ k h.
+              omega (
+                arith,
+                w .below k h,
+                raised-more i gap bias (startIn before) k,
+                raised-ge i gap bias (startIn before) k,
+                g .given i k l h e,
+              );
+          rest = w .rest;
+        }
+
+    pub rows-end : i ≤ n → n ≤ i → Filled n (raised n gap bias (startIn before)) before at
+    rows-end h g = let q : i ≡ n = omega arith in rw q at w
 
 gap-most : (gaps : List ℕ) → Gaps gaps → (i k : ℕ) → gapIn gaps i k ≤ mostGap
 gap-most gaps g i k = omega (arith, g .most (rowWidth * i + k))
 
--- The steps that need not demand anew: none in the first round, and what a round has given stays.
+-- no row raises by more than the largest gap
+pub rows-bounded :
+    (n : ℕ) (gaps before : List ℕ) (i : ℕ) (at : List ℕ) → Gaps gaps → Bounded n (aboveStarts - 1) before → i ≤ n
+    → Filled n (raised i (gapIn gaps) gapBias (startIn before)) before at
+    → Bounded n (aboveStarts + gapBias) at
+rows-bounded n gaps before i at g b l w =
+    record {
+      size = w .size ∙ b .size;
+      most = λ k h.
+          omega (
+            arith,
+            w .below k h,
+            raised-le i (gapIn gaps) gapBias (startIn before) k (aboveStarts + gapBias) (omega (arith, b .most k h)) (λ j m.
+                omega (
+                  arith,
+                  b .most j (omega arith),
+                  demand-most (gapIn gaps) gapBias (mostGap - gapBias) j k (startIn before j)
+                      (gap-most gaps g j k),
+                )),
+          );
+    }
+
+-- The rows that a round may skip: none in the first, and what a round has given stays.
 pub given-start :
     (n : ℕ) (gap : ℕ → ℕ → ℕ) (bias : ℕ) (limits : List ℕ) → Bounded n lastStart limits → n ≤ rowWidth
     → Given n gap bias (startIn (replicate rowWidth noLatest)) (startIn limits)

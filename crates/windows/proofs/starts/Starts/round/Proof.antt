@@ -1,11 +1,12 @@
--- The movers raise one part of the starts after the other, by the starts before the round.
-use Prim.Native.Nat.{_+_, _%_, _≤_, _-_}
-use mathlib.Core.Path.{_≡_, refl, _∙_}
+-- The rows that may demand more raise the starts one after the other, by the starts before the round.
+use Prim.Native.Nat.{_≤_, _-_}
+use mathlib.Core.Logic.{⊎-elim}
 use native.Mathlib.Omega.{arith}
-use Rattle.order_file.specs.Table.{rowWidth}
-use Rattle.windows.specs.Loops.{lanes, HighRaised}
-use Rattle.windows.proofs.Movers.{movers-moving, movers-raised}
-use Rattle.windows.proofs.Lanes.{biased-low, high-start, high-biased, high-unbiased}
+use Rattle.rounds.specs.Rounds.{raised}
+use Rattle.order_file.specs.Contents.{gapBias}
+use Rattle.order_file.specs.Table.{gapIn, startIn}
+use Rattle.laws.specs.Listed.{Filled}
+use Rattle.windows.proofs.Loops.{rows-start, rows-more, rows-same, rows-end, rows-bounded}
 use Rattle.windows.proofs.starts.Starts.round.Statement.{statement}
 use Rattle.windows.proofs.starts.Starts.round.Tie as tie
 
@@ -13,41 +14,33 @@ pub round-spec : {M : Type 1} → statement M
 round-spec =
     tie.close
     (tie.spec
-    (λ n gaps before at movers m high₀ q₀ high q. (q % lanes ≡ 0) × HighRaised gaps before movers m q high₀ high)
-    (λ n gaps before at movers m high₀ q₀ high q. n - q)
-    (λ c κs. (c .before .before .before .before .before .before .before .pre .2, refl))
-    (λ c κs. let p = c .before .before .before .before .before .before .before .before .before .before .pre in (p .1, p .2, refl))
-    (λ c. (refl, high-start _ _ _ _ _))
+    (λ n gaps before seen at₀ i₀ at i. (i ≤ n) × Filled n (raised i (gapIn gaps) gapBias (startIn before)) before at)
+    (λ n gaps before seen at₀ i₀ at i. n - i)
+    (λ c. (omega arith, rows-start _ _ _ _))
+    (λ c. omega arith)
+    (λ c. omega arith)
+    (λ c. omega arith)
+    (λ c. omega arith)
+    (λ c. omega arith)
+    (λ c. omega arith)
     (λ c κs.
-    let l = c .before .before .before .before in
-    let w = l .before .bias-starts .ensures in
-    let d = l .before .before .before .before in
-    let p = d .before .before .before .before .before .before .before .before .pre in
-    let q = l .loop .q in
-    let room : q + lanes ≤ rowWidth = omega (arith, l .loop .inv .0, c .before .before .before .loop-test .taken, p .2) in (
+    let p = c .before .before .before .before .before .before .before .before .pre in
+    let l = c .before .before .before .loop in (
       p .0,
-      room,
-      movers-moving _ _ _ _ _ (d .list-movers .ensures) (p .1) (p .2),
-      l .loop .inv .1 .filled .size ∙ w .size,
-      λ k h. omega (arith, l .loop .inv .1 .filled .rest (q + k) (omega arith), biased-low _ _ _ (p .1) w (q + k) (omega (arith, room))),
-    ))
-    (λ c. omega arith)
-    (λ c. omega arith)
-    (λ c.
-    let v = c .before .before .before .before .before .loop .inv in
-    (omega (arith, v .0), c .raise-part .ensures .part _ (v .1)))
-    (λ c κs.
-    let l = c .before .before .before in
-    let p = l .before .before .before .before .before .before .before .before .before .before .before .before .pre in (
+      rows-bounded _ _ _ _ _ (p .0) (p .1) (l .inv .0) (l .inv .1),
       p .2,
-      p .1 .size,
-      high-biased _ _ _ _ _ _ _ _ _ (l .loop .inv .1) (l .before .bias-starts .ensures) (c .before .before .loop-test .left),
+      omega arith,
+      omega (arith, p .1 .most (l .i) (c .before .before .loop-test .taken)),
     ))
+    (λ c. omega arith)
+    (λ c. omega arith)
     (λ c.
-    let l = c .before .before .before .before in
-    let d = l .before .before .before .before in
-    let p = d .before .before .before .before .before .before .before .before .pre in
-    let w = d .list-movers .ensures in
-    movers-raised _ _ _ _ _ _ _ w (p .3) _ _
-    (high-unbiased _ _ _ _ _ _ _ _ _ (l .loop .inv .1) (l .before .bias-starts .ensures) (c .before .before .before .loop-test .left) _ (p .0)
-    (movers-moving _ _ _ _ _ w (p .1) (p .2)) (c .unbias-starts .ensures))))
+    let p = c .before .before .before .before .before .before .before .pre in
+    let v = c .before .before .loop .inv in (
+      omega arith,
+      ⊎-elim
+          (λ w. rows-more _ _ _ _ _ _ (v .1) _ _ (w .3) (w .2 .ensures))
+          (λ w. rows-same _ _ _ _ _ _ (v .1) _ (w .1) _ (p .3) (c .before .loop-test .taken) (w .0 .left))
+          (c .if1 .came),
+    ))
+    (λ c. rows-end _ _ _ _ _ _ (c .before .loop .inv .1) (c .before .loop .inv .0) (c .loop-test .left)))
