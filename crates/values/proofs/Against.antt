@@ -16,6 +16,7 @@ use Rattle.timeline.specs.Placed.{Parted}
 use Rattle.validity.specs.Ticks.{effectTick}
 use Rattle.points.specs.Points.{PointsKnown}
 use Rattle.values.specs.Against.{against, Rising, OfValue, Scanned}
+use Rattle.values.specs.Contested.{Past, Opposed}
 
 against-out : (word value step : ℕ) → against word value step ≡ true → (wordStep word ≡ step → ⊥) × (wordValue word ≡ value → ⊥)
 unfolding against
@@ -142,3 +143,26 @@ module _ {points : List ℕ} {value step low place : ℕ} (so : Passed (λ p. ag
         | yes i ↦ let up : tickAt points place ≤ tickAt points p = rises place p (so .from) i g in omega arith
         | no i ↦ let e : tickAt points p ≡ tickAt points place = ap (tickAt points) (let q : p ≡ place = omega arith in q) in omega arith
       ])
+
+-- where the first point lies after the last tick, all do, and nothing is opposed
+pub rising-past :
+    (points : List ℕ) (from high last : ℕ) → Rising points from high → last < tickAt points from → Past points from high last
+rising-past points from high last rises past p l g =
+    elim (decLt from p) [
+      | yes i ↦ let up : tickAt points from ≤ tickAt points p = rises from p (omega arith) i g in omega arith
+      | no i ↦ let e : tickAt points p ≡ tickAt points from = ap (tickAt points) (let q : p ≡ from = omega arith in q) in omega arith
+    ]
+
+pub past-unopposed :
+    (points : List ℕ) (from high last value step : ℕ) → Past points from high last → Opposed points from high last value step false
+past-unopposed points from high last value step past =
+    record {
+      broken = false;
+      early = false;
+      scan = scan-ends (passed-start refl) past;
+      scanned = record {
+        never = λ _. refl;
+        scan = λ _. scan-ends (passed-start refl) (λ p l g. let k : last < tickAt points p = past p l g in omega arith);
+      };
+      either = refl;
+    }

@@ -1,6 +1,6 @@
 -- What breaks a condition stands among its fact's setters, from the place where a walk along them comes to its first tick.
 use Prim.Native.Nat.{ℕ, _+_, _-_, _≤_, _<_}
-use mathlib.Core.Path.{_≡_, sym, ap, ap₂, subst, _∙_}
+use mathlib.Core.Path.{_≡_, refl, sym, ap, ap₂, subst, _∙_}
 use mathlib.Core.Bool.{Bool, true, false, not, cond, _&&_, _||_}
 use mathlib.Core.Logic.{⊎-elim}
 use mathlib.Core.List.{List}
@@ -22,7 +22,7 @@ use Rattle.values.specs.declared.conditions.Setters.{Setters}
 use Rattle.values.specs.declared.conditions.Walk.{Walk}
 use Rattle.values.specs.Against.{Rising, OfValue, Scanned}
 use Rattle.values.specs.Conditions.{ConditionAt}
-use Rattle.values.specs.Contested.{opposesEarly, contested, noStep, ScannedBefore}
+use Rattle.values.specs.Contested.{opposesEarly, contested, noStep, ScannedBefore, Opposed}
 use Rattle.values.proofs.Against.{Opposing, scan-any}
 
 -- one more point of the value
@@ -210,13 +210,16 @@ module _ {m : Model} {x : ℕ → ℕ} {points : List ℕ} {setters : Setters} {
 
   -- what the code tests is whether the condition is contested
   pub contested-there :
-      {from last value step v : ℕ} {broken early : Bool} → value ≡ wordValue word → last ≡ lastTick m x (wordNumber word)
+      {from last value step v : ℕ} {r : Bool} → value ≡ wordValue word → last ≡ lastTick m x (wordNumber word)
       → from ≡ cond (eqb value 0) (walk .off) (walk .on)
       → step ≡ wordStep word
-      → Scanned points from (setters .high) last value step broken
-      → ScannedBefore points from (setters .high) last value early
+      → Opposed points from (setters .high) last value step r
       → v ≡ cond (ltb (setters .low) (walk .place)) (valueAt points (walk .place - 1)) (setters .initial)
-      → (not (eqb v value) || broken || early) ≡ contested m x (wordNumber word)
+      → (not (eqb v value) || r) ≡ contested m x (wordNumber word)
   unfolding contested
-  contested-there is ends begins by scan scanned sees =
-      ap₂ _||_ (fails-there is ends begins by scan sees) (early-there is ends begins scanned)
+  contested-there {value = value} {v = v} is ends begins by opposed sees =
+      ap (_||_ (not (eqb v value))) (opposed .either) ∙ or-or (not (eqb v value)) (opposed .broken) (opposed .early)
+      ∙ ap₂ _||_ (fails-there is ends begins by (opposed .scan) sees) (early-there is ends begins (opposed .scanned))
+    where
+      or-or : (a b c : Bool) → (a || (b || c)) ≡ (a || b || c)
+      or-or a b c = elim a [ true ↦ refl | false ↦ refl ]

@@ -1,6 +1,6 @@
 // Refusal 11: conditions that fail, found along the setters of each fact, with those that their own step opposes (7).
 ghost use mathlib.Core.Path.{_≡_};
-ghost use mathlib.Core.Bool.{cond};
+ghost use mathlib.Core.Bool.{cond, true};
 ghost use Prim.Native.Nat.{max, min, _-_, _≤_, _<_};
 ghost use lib.Dec.{eqb, ltb};
 ghost use lib.ListN.{length};
@@ -9,7 +9,7 @@ ghost use Rattle.job.specs.Model.{view};
 ghost use Rattle.timeline.specs.Words.{wordTick, wordNumber, valueAt};
 ghost use Rattle.validity.specs.Ticks.{scheduleOf};
 ghost use Rattle.points.specs.Points.{Wanting};
-ghost use Rattle.values.specs.Contested.{contested, ScannedBefore};
+ghost use Rattle.values.specs.Contested.{Past, Opposed, contested, ScannedBefore};
 ghost use Rattle.values.specs.Noted.{Noted};
 ghost use Rattle.values.specs.Against.{OfValue, Rising};
 ghost use Rattle.values.specs.Conditions.{ConditionsKnown, ConditionAt, NotPast, Come};
@@ -137,6 +137,31 @@ fn opposed_before(points: &[u64], from: usize, high: usize, last: usize, value: 
     opposed_from(points, from, high, last - 1, value, NO_STEP)
 }
 
+// Whether no point from a place on lies up to tick `last`.
+fn is_past(points: &[u64], from: usize, high: usize, last: usize) -> bool
+    requires { ⌜ (high ≤ length (now points)) × Rising (now points) from high ⌝ }
+    ensures { λ r. ⌜ (r ≡ true → Past (now (points .entry)) from high last) ⌝ }
+{
+    if high <= from {
+        return true;
+    }
+    last < tick_of(points[from])
+}
+
+// Whether a point from a place on has another value: one of another step up to tick `last`, or one of any step before it. In a sound
+// timing there is none, and the first point tells.
+fn is_opposed(points: &[u64], from: usize, high: usize, last: usize, value: u16, step: u16) -> bool
+    requires { ⌜ (high ≤ length (now points)) × Rising (now points) from high ⌝ }
+    ensures { λ r. ⌜ Opposed (now (points .entry)) from high last value step r ⌝ }
+{
+    if is_past(points, from, high, last) {
+        return false;
+    }
+    let broken = opposed_from(points, from, high, last, value, step);
+    let early = opposed_before(points, from, high, last, value);
+    broken | early
+}
+
 // Whether the condition in a word fails or is opposed before its last tick, by a walk that has come to its first tick.
 fn is_contested(
     s: &[u8],
@@ -154,9 +179,8 @@ fn is_contested(
     let step = step_of(word);
     let last = last_tick(s, job, starts, number_of(word), step);
     let from = opposing(walk, value);
-    let broken = opposed_from(points, from, setters.high, last, value, step);
-    let early = opposed_before(points, from, setters.high, last, value);
-    (seen_at(points, setters, walk.place) != value) | broken | early
+    let opposed = is_opposed(points, from, setters.high, last, value, step);
+    (seen_at(points, setters, walk.place) != value) | opposed
 }
 
 // The lowest contested condition on a fact, or the count of conditions.

@@ -22,16 +22,13 @@ is-contested-spec =
     (setters-listed p, scan-rises p (c .before .before .before .before .value-of .ensures .0) (c .opposing .ensures)))
     (λ c κs.
     let p = c .before .before .before .before .before .before .before .before .before .pre in
-    (setters-listed p, scan-rises p (c .before .before .before .before .before .value-of .ensures .0) (c .before .opposing .ensures)))
-    (λ c κs.
-    let p = c .before .before .before .before .before .before .before .before .before .before .pre in
     omega (arith, p .come .parts .to, setters-listed p))
     (λ c.
-    let start = c .before .before .before .before .before .before .before .before .before .before .before in
+    let start = c .before .before .before .before .before .before .before .before .before .before in
     let a = start .args in
     contested-there (start .pre)
-    (c .before .before .before .before .before .before .before .value-of .ensures .0)
-    (c .before .before .before .before .last-tick .ensures .0 ∙ ap (lastTick (view (a .job) (a .s .now)) (scheduleOf (a .starts .now)))
-    (c .before .before .before .before .before .number-of .ensures .0))
-    (c .before .before .before .opposing .ensures) (c .before .before .before .before .before .before .step-of .ensures .0)
-    (c .before .before .opposed-from .ensures) (c .before .opposed-before .ensures) (c .seen-at .ensures)))
+    (c .before .before .before .before .before .before .value-of .ensures .0)
+    (c .before .before .before .last-tick .ensures .0 ∙ ap (lastTick (view (a .job) (a .s .now)) (scheduleOf (a .starts .now)))
+    (c .before .before .before .before .number-of .ensures .0))
+    (c .before .before .opposing .ensures) (c .before .before .before .before .before .step-of .ensures .0)
+    (c .before .is-opposed .ensures) (c .seen-at .ensures)))
