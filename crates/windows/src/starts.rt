@@ -38,7 +38,7 @@ fn demanded(gaps: &[u32], i: usize, k: usize, t: u32) -> u32
 }
 
 // Raises the first n starts to what the orders from i, which starts at t, demand.
-fn raise_starts(n: usize, gaps: &[u32], i: usize, t: u32, at: &mut [u32; WIDTH])
+fn raise_first(n: usize, gaps: &[u32], i: usize, t: u32, at: &mut [u32; WIDTH])
     requires { ⌜ Gaps (now gaps) × Bounded n (aboveStarts + gapBias) (now at) × (n ≤ rowWidth) × (i < rowWidth) × (t < aboveStarts) ⌝ }
     ensures { λ _. ⌜ Filled n (λ k. max (startIn (now (at .entry)) k) (demand (gapIn (now (gaps .entry))) gapBias i k t)) (now (at .entry))
         (now (at .exit)) ⌝ }
@@ -47,6 +47,32 @@ fn raise_starts(n: usize, gaps: &[u32], i: usize, t: u32, at: &mut [u32; WIDTH])
     while k < n {
         at[k] = higher(at[k] + ENTRY_BIAS, demanded(gaps, i, k, t)) - ENTRY_BIAS;
         k += 1;
+    }
+}
+
+// The same of all starts, in a loop of known length, which the compiler unrolls.
+fn raise_all(gaps: &[u32], i: usize, t: u32, at: &mut [u32; WIDTH])
+    requires { ⌜ Gaps (now gaps) × Bounded rowWidth (aboveStarts + gapBias) (now at) × (i < rowWidth) × (t < aboveStarts) ⌝ }
+    ensures { λ _. ⌜ Filled rowWidth (λ k. max (startIn (now (at .entry)) k) (demand (gapIn (now (gaps .entry))) gapBias i k t)) (now (at .entry))
+        (now (at .exit)) ⌝ }
+{
+    let mut k = 0;
+    while k < WIDTH {
+        at[k] = higher(at[k] + ENTRY_BIAS, demanded(gaps, i, k, t)) - ENTRY_BIAS;
+        k += 1;
+    }
+}
+
+// The same, by either.
+fn raise_starts(n: usize, gaps: &[u32], i: usize, t: u32, at: &mut [u32; WIDTH])
+    requires { ⌜ Gaps (now gaps) × Bounded n (aboveStarts + gapBias) (now at) × (n ≤ rowWidth) × (i < rowWidth) × (t < aboveStarts) ⌝ }
+    ensures { λ _. ⌜ Filled n (λ k. max (startIn (now (at .entry)) k) (demand (gapIn (now (gaps .entry))) gapBias i k t)) (now (at .entry))
+        (now (at .exit)) ⌝ }
+{
+    if n == WIDTH {
+        raise_all(gaps, i, t, at);
+    } else {
+        raise_first(n, gaps, i, t, at);
     }
 }
 
