@@ -14,10 +14,10 @@ use Rattle.timeline.specs.Words.{wordStep, wordValue, wordTick, valueAt, tickAt
 use Rattle.timeline.specs.Placed.{Placed}
 use Rattle.orders.specs.Gaps.{strictly}
 use Rattle.orders.proofs.Orders.{pairs-ge}
-use Rattle.gaps.specs.declared.rows.Origin.{Origin}
-use Rattle.gaps.specs.Raised.{Raised}
-use Rattle.gaps.specs.Points.{offsetAt, Group, Reached, Among, After}
-use Rattle.gaps.proofs.Reached.{reached-raised}
+use Rattle.rows.specs.declared.origin.Origin.{Origin}
+use Rattle.rows.specs.Raised.{Raised}
+use Rattle.rows.specs.Points.{offsetAt, Group, Reached, Among, After}
+use Rattle.rows.proofs.Reached.{reached-raised}
 use Rattle.order_file.specs.Contents.{stepLimit}
 
 -- Points of one kind, group by group in the order of their ticks.

@@ -19,12 +19,14 @@ use Rattle.points.specs.Points.{wantedGroup, usedGroup}
 use Rattle.orders.specs.Gaps.{opposingOrder, opposingGap, beforeOrder, afterOrder, conditionGap, levelOrder, levelGap}
 use Rattle.orders.proofs.Orders.{condition-ge}
 use Rattle.orders.proofs.Near.{effect-near, from-near, to-near, use-near}
-use Rattle.gaps.specs.declared.rows.Fact.{Fact}
-use Rattle.gaps.specs.declared.rows.Origin.{Origin}
-use Rattle.gaps.specs.Raised.{Raised, ValidPoints}
-use Rattle.gaps.specs.Points.{pointOrigin, lastOrigin, factAt, Group, FactKnown, Reached, Among}
-use Rattle.gaps.specs.Points.{FromSetters, FromConditions, FactOrder, FromPoints}
-use Rattle.gaps.proofs.Reached.{reached-raised}
+use Rattle.rows.specs.declared.origin.Fact.{Fact}
+use Rattle.rows.specs.declared.origin.Origin.{Origin}
+use Rattle.rows.specs.Raised.{Raised}
+use Rattle.gaps.specs.Rules.{ValidPoints}
+use Rattle.rows.specs.Points.{pointOrigin, lastOrigin, Group, FactKnown, Reached, Among}
+use Rattle.gaps.specs.Rules.{factAt}
+use Rattle.rows.specs.Points.{FromSetters, FromConditions, FactOrder, FromPoints}
+use Rattle.rows.proofs.Reached.{reached-raised}
 use Rattle.gaps.proofs.Pairs.{Listed, Rule, listed-offset, listed-group, rule-under, rule-over, rule-raised}
 
 -- The places that the code read.

@@ -16,11 +16,13 @@ use Rattle.validity.specs.Ticks.{finish}
 use Rattle.orders.specs.Gaps.{serialGap}
 use Rattle.order_file.specs.Table.{gapIn, gapOfEntry, rowWidth, tableSize, tableBias, emptyLimit}
 use Rattle.order_file.specs.Contents.{stepLimit, mostGap, gapBias}
-use Rattle.gaps.specs.Table.{single}
-use Rattle.gaps.specs.Raised.{EntryKnown, Raised, serialRow, entryFrom, laterGap}
-use Rattle.gaps.specs.Points.{Rowed}
-use Rattle.gaps.proofs.Raised.{single-is, single-off, single-le}
-use Rattle.gaps.proofs.Row.{rowed-each}
+use Rattle.rows.specs.Raised.{single}
+use Rattle.rows.specs.Raised.{EntryKnown, Raised}
+use Rattle.gaps.specs.Rules.{serialRow, entryFrom, laterGap}
+use Rattle.rows.specs.Points.{Rowed}
+use Rattle.rows.proofs.Raised.{single-is, single-off}
+use Rattle.gaps.proofs.Filled.{single-le}
+use Rattle.rows.proofs.Row.{rowed-each}
 
 -- a test decides between an entry and none
 either-entry : (P : ℕ → Type 0) (t : Bool) (entry : ℕ) → P entry → P 0 → P (cond t entry 0)

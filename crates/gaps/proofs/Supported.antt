@@ -6,7 +6,7 @@ use Rattle.job.specs.Model.{Model}
 use Rattle.order_file.specs.Contents.{initialState}
 use Rattle.orders.specs.Links.{conditionLink}
 use Rattle.orders.specs.Gaps.{strictly, supportOrder}
-use Rattle.gaps.specs.Table.{single}
+use Rattle.rows.specs.Raised.{single}
 
 -- the order of a condition by its link, which the code read from the list
 module _ (m : Model) (x : ℕ → ℕ) (c : ℕ) {link : ℕ} (e : link ≡ conditionLink m x c) where

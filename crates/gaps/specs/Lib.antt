@@ -1,4 +1,3 @@
--- What callers believe of the table of gaps (Table), and the invariants of this crate: the table raised, groups of points.
+-- What callers believe of the table of gaps (Table), and what the rules read and raise.
 pub mod Table
-pub mod Raised
-pub mod Points
+pub mod Rules

@@ -1,9 +1,7 @@
 -- Between crates: what the table of gaps is filled from, and what it then is.
 use Prim.Native.Nat.{ℕ, _+_, _≤_, _<_}
 use mathlib.Core.Path.{_≡_}
-use mathlib.Core.Bool.{_&&_, cond}
 use mathlib.Core.List.{List}
-use lib.Dec.{eqb}
 use lib.ListN.{length, getD}
 use Rattle.job.specs.Model.{Model}
 use Rattle.job.specs.WellFormed.{WellFormed}
@@ -11,10 +9,6 @@ use Rattle.points.specs.Points.{PointsKnown}
 use Rattle.validity.specs.Valid.{Valid}
 use Rattle.links.specs.LinkList.{LinksOf}
 use Rattle.order_file.specs.Table.{gapIn, Gaps, rowWidth, tableSize}
-
--- the gaps of a single order, from i to k
-abbrev pub single : ℕ → ℕ → ℕ → ℕ → ℕ → ℕ
-single i k gap a b = cond (eqb i a && eqb k b) gap 0
 
 -- a valid schedule whose points are listed and whose links are found, and an empty table
 pub record Fillable (m : Model) (x : ℕ → ℕ) (points begins links gaps : List ℕ) : Type 0 where

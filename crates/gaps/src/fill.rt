@@ -10,15 +10,9 @@ ghost use Rattle.orders.specs.Gaps.{supportOrder, supportGap, opposingGap, cond
 ghost use Rattle.order_file.specs.Contents.{stepLimit};
 ghost use Rattle.order_file.specs.Table.{gapOfEntry, Gaps, rowWidth, tableSize};
 ghost use Rattle.gaps.specs.Table.{Fillable, TableOf};
-ghost use Rattle.gaps.specs.Raised.{EntryKnown, Raised, Cleared, SupportKnown, RaisedByLinks, ValidPoints, serialRow, entryFrom, laterGap};
-ghost use Rattle.gaps.specs.Points.{factAt};
-use crate::rows::Fact;
-use crate::rows::OTHER;
-use crate::rows::SAME;
-use crate::rows::raise;
-use crate::rows::raise_among;
-use crate::rows::raise_conditions;
-use crate::rows::strictly;
+ghost use Rattle.rows.specs.Raised.{EntryKnown, Raised};
+ghost use Rattle.gaps.specs.Rules.{Cleared, SupportKnown, RaisedByLinks, ValidPoints, serialRow, entryFrom, laterGap};
+ghost use Rattle.gaps.specs.Rules.{factAt};
 use job::layout::Job;
 use job::records::condition_from;
 use job::records::condition_step;
@@ -32,6 +26,13 @@ use order_file::table::WIDTH;
 use order_file::table::higher;
 use points::ticks::finish;
 use points::ticks::start_of;
+use rows::origin::Fact;
+use rows::origin::OTHER;
+use rows::origin::SAME;
+use rows::origin::raise;
+use rows::origin::strictly;
+use rows::raise_among;
+use rows::raise_conditions;
 use timeline::word::begin_at;
 
 // How many values a start has.

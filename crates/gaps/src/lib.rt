@@ -1,3 +1,2 @@
 // The table of gaps, filled by the rules.
 pub mod fill;
-mod rows;

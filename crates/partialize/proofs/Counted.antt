@@ -17,12 +17,13 @@ use Rattle.orders.specs.Gaps.{gapOf}
 use Rattle.orders.specs.Windows.{limitOf}
 use Rattle.rounds.specs.Rounds.{after, unchanged}
 use Rattle.order_file.specs.Contents.{gapBias}
-use Rattle.gaps.specs.Table.{single}
+use Rattle.rows.specs.Raised.{single}
 use Rattle.orders.specs.File.{roundsOf, ordered, pairOf, fileOf}
 use Rattle.partialize.specs.Demands.{filedGap, settledAfter}
 use Rattle.rounds.proofs.Rounds.{rounds-some, last-unchanged, earlier-changes}
 use Rattle.rounds.proofs.Same.{unchanged-same}
-use Rattle.gaps.proofs.Raised.{single-at, single-le}
+use Rattle.rows.proofs.Raised.{single-at}
+use Rattle.gaps.proofs.Filled.{single-le}
 use Rattle.orders.proofs.Planned.{planned-obeys}
 use Rattle.orders.proofs.Satisfied.{pair-filed, obeys-satisfied}
 

@@ -4,7 +4,7 @@ ghost use Rattle.validity.specs.Ticks.{scheduleOf};
 ghost use Rattle.orders.specs.File.{fileOf};
 ghost use Rattle.schedule.specs.Opened.{Planned};
 ghost use Rattle.points.specs.Words.{Small};
-ghost use Rattle.gaps.specs.Raised.{ValidPoints};
+ghost use Rattle.gaps.specs.Rules.{ValidPoints};
 ghost use Rattle.partialize.specs.Formed.{Formed};
 ghost use Rattle.partialize.specs.Holds.{Fileable, Filing, FiledOf};
 ghost use Rattle.partialize.specs.Demands.{Promise};

@@ -2,8 +2,8 @@
 use Prim.Native.Nat.{_-_, _≤_}
 use native.Mathlib.Omega.{arith}
 use Rattle.order_file.specs.Table.{rowWidth}
-use Rattle.gaps.specs.Raised.{Cleared}
-use Rattle.gaps.proofs.Raised.{cleared-start, cleared-more, cleared-all}
+use Rattle.gaps.specs.Rules.{Cleared}
+use Rattle.gaps.proofs.Filled.{cleared-start, cleared-more, cleared-all}
 use Rattle.gaps.proofs.fill.clear_own.Statement.{statement}
 use Rattle.gaps.proofs.fill.clear_own.Tie as tie
 

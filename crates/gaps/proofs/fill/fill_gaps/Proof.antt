@@ -2,9 +2,9 @@
 use native.Mathlib.Omega.{arith}
 use denote.Ref.{now}
 use Rattle.orders.specs.Gaps.{gapOf}
-use Rattle.gaps.specs.Raised.{ValidPoints}
+use Rattle.gaps.specs.Rules.{ValidPoints}
 use Rattle.links.proofs.LinkList.{valid-named}
-use Rattle.gaps.proofs.Raised.{raised-then, empty-gaps, table-of}
+use Rattle.gaps.proofs.Filled.{raised-then, empty-gaps, table-of}
 use Rattle.gaps.proofs.fill.fill_gaps.Statement.{statement}
 use Rattle.gaps.proofs.fill.fill_gaps.Tie as tie
 

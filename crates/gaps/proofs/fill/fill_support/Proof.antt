@@ -4,8 +4,8 @@ use Rattle.laws.specs.Fold.{largest}
 use Rattle.job.specs.Model.{view}
 use Rattle.orders.specs.Gaps.{supportOrder, supportGap}
 use Rattle.order_file.specs.Table.{Gaps}
-use Rattle.gaps.specs.Raised.{RaisedByLinks}
-use Rattle.gaps.proofs.Raised.{raised-start, raised-more, raised-end}
+use Rattle.gaps.specs.Rules.{RaisedByLinks}
+use Rattle.gaps.proofs.Filled.{raised-start, raised-more, raised-end}
 use native.Mathlib.Omega.{arith}
 use Rattle.gaps.proofs.fill.fill_support.Statement.{statement}
 use Rattle.gaps.proofs.fill.fill_support.Tie as tie

@@ -4,9 +4,9 @@ use Rattle.laws.specs.Fold.{largest}
 use Rattle.job.specs.Model.{view}
 use Rattle.validity.specs.Ticks.{scheduleOf}
 use Rattle.orders.specs.Gaps.{serialGap}
-use Rattle.gaps.specs.Table.{single}
-use Rattle.gaps.specs.Raised.{Raised}
-use Rattle.gaps.proofs.Raised.{raised-start, raised-order, raised-end}
+use Rattle.rows.specs.Raised.{single}
+use Rattle.rows.specs.Raised.{Raised}
+use Rattle.gaps.proofs.Filled.{raised-start, raised-order, raised-end}
 use native.Mathlib.Omega.{arith}
 use Rattle.gaps.proofs.fill.pair_serial.Statement.{statement}
 use Rattle.gaps.proofs.fill.pair_serial.Tie as tie

@@ -8,8 +8,8 @@ use Rattle.job.specs.Model.{view}
 use Rattle.validity.specs.Ticks.{scheduleOf}
 use Rattle.order_file.specs.Contents.{gapBias}
 use Rattle.order_file.specs.Table.{gapOfEntry, entryBias}
-use Rattle.gaps.specs.Raised.{laterGap}
-use Rattle.gaps.proofs.Raised.{raised-is}
+use Rattle.gaps.specs.Rules.{laterGap}
+use Rattle.rows.proofs.Raised.{raised-is}
 use Rattle.gaps.proofs.Serial.{takes-time, serial-row}
 use Rattle.gaps.proofs.fill.raise_serial.Statement.{statement}
 use Rattle.gaps.proofs.fill.raise_serial.Tie as tie

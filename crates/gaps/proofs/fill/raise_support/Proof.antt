@@ -2,7 +2,8 @@
 use mathlib.Core.Path.{ap₂, _∙_}
 use Rattle.orders.specs.Gaps.{strictly}
 use Rattle.orders.proofs.Near.{effect-near, from-near}
-use Rattle.gaps.proofs.Raised.{raised-none, raised-one}
+use Rattle.gaps.proofs.Filled.{raised-none}
+use Rattle.rows.proofs.Raised.{raised-one}
 use Rattle.links.proofs.LinkList.{condition-link}
 use Rattle.gaps.proofs.Supported.{support-none, support-order}
 use borrow.Author.Needs.{needs}

@@ -7,9 +7,9 @@ use lib.ListN.{getD, List·getD-eq-default}
 use denote.Ref.{now}
 use Rattle.validity.specs.Ticks.{scheduleOf}
 use Rattle.order_file.specs.Table.{rowWidth}
-use Rattle.gaps.specs.Raised.{entryFrom}
-use Rattle.gaps.specs.Points.{Rowed}
-use Rattle.gaps.proofs.Row.{rowed-start, rowed-more}
+use Rattle.gaps.specs.Rules.{entryFrom}
+use Rattle.rows.specs.Points.{Rowed}
+use Rattle.rows.proofs.Row.{rowed-start, rowed-more}
 use Rattle.gaps.proofs.Serial.{entry-low, row-raised}
 use Rattle.gaps.proofs.fill.row_later.Statement.{statement}
 use Rattle.gaps.proofs.fill.row_later.Tie as tie

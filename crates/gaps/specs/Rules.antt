@@ -1,0 +1,62 @@
+-- Between crates: what the rules read, and the table raised by each.
+use Prim.Native.Nat.{ℕ, _+_, _*_, _≤_, _<_}
+use mathlib.Core.Path.{_≡_}
+use mathlib.Core.Bool.{_&&_, cond}
+use mathlib.Core.List.{List}
+use lib.Dec.{eqb, leb}
+use lib.ListN.{length, getD}
+use Rattle.laws.specs.Fold.{largest}
+use Rattle.job.specs.Model.{Model}
+use Rattle.job.specs.WellFormed.{WellFormed}
+use Rattle.points.specs.Points.{PointsKnown}
+use Rattle.validity.specs.Valid.{Valid}
+use Rattle.links.specs.LinkList.{LinksOf, Named}
+use Rattle.orders.specs.Gaps.{serialGap}
+use Rattle.order_file.specs.Table.{Gaps, rowWidth, noOrder}
+use Rattle.rows.specs.declared.origin.Fact.{Fact}
+use Rattle.rows.specs.Raised.{single, Raised}
+
+-- a table whose first n own entries, of a step and itself, are cleared
+pub record Cleared (n : ℕ) (before after : List ℕ) : Type 0 where
+  pub size : length after ≡ length before
+  pub own : (i : ℕ) → i < n → getD after (rowWidth * i + i) 0 ≡ noOrder
+  pub rest : (p : ℕ) → ((i : ℕ) → i < n → p ≡ rowWidth * i + i → ⊥) → getD after p 0 ≡ getD before p 0
+
+-- rule 1 reads links that name effects of the job, into a whole table
+pub record SupportKnown (m : Model) (links gaps : List ℕ) : Type 0 where
+  pub form : WellFormed m
+  pub named : Named m links
+  pub room : m .conditions + m .goals ≤ length links
+  pub whole : Gaps gaps
+
+-- raised by a rule of every schedule whose links these are
+abbrev pub RaisedByLinks : Model → List ℕ → (Model → (ℕ → ℕ) → ℕ → ℕ → ℕ) → List ℕ → List ℕ → Type 0
+RaisedByLinks m links rule before after = (x : ℕ → ℕ) → LinksOf m x links → Raised (m .steps) (rule m x) before after
+
+-- rules 2, 3 and 4 order the points of a valid schedule
+pub record ValidPoints (m : Model) (x : ℕ → ℕ) (points begins : List ℕ) : Type 0 where
+  pub form : WellFormed m
+  pub known : PointsKnown m x points begins
+  pub valid : Valid m x
+
+-- the places of a fact's setters and of its conditions
+abbrev pub factAt : List ℕ → ℕ → ℕ → Fact
+factAt begins facts f =
+    record {
+      low = getD begins f 0;
+      high = getD begins (f + 1) 0;
+      after = getD begins (facts + f) 0;
+      until = getD begins (facts + f + 1) 0;
+    }
+
+-- rule 5 of one step: its gaps to all others
+abbrev pub serialRow : Model → (ℕ → ℕ) → ℕ → ℕ → ℕ → ℕ
+serialRow m x i a b = largest (m .steps) (λ k. single i k (serialGap m x i k) a b)
+
+-- the entry to a step that starts at `start`, from one that finishes at `end`
+abbrev pub entryFrom : ℕ → ℕ → ℕ → ℕ
+entryFrom end entry start = cond (leb end start) entry noOrder
+
+-- the gaps of the orders from i to the steps that start at `end` or later
+abbrev pub laterGap : (ℕ → ℕ) → ℕ → ℕ → ℕ → ℕ → ℕ → ℕ
+laterGap x i end gap a b = cond (eqb i a && leb end (x b)) gap 0

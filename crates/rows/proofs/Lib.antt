@@ -1,0 +1,6 @@
+-- A table raised to the orders between points, pair by pair or by rows.
+pub mod Row
+pub mod Raised
+pub mod Reached
+pub mod Grouped
+pub mod Beside

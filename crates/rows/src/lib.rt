@@ -1,0 +1,76 @@
+// Orders between groups of points, into the table of gaps: pair by pair, or a row of the table for each point. No rule.
+ghost use Prim.Native.Nat.{_≤_};
+ghost use Rattle.job.specs.Model.{view};
+ghost use Rattle.validity.specs.Ticks.{scheduleOf};
+ghost use Rattle.order_file.specs.Table.{Gaps};
+ghost use Rattle.rows.specs.Points.{Group, FactKnown, Reached, FactOrder, FromPoints};
+ghost use Rattle.order_file.specs.Contents.{stepLimit};
+
+pub mod origin;
+mod pairs;
+mod rows;
+
+use job::layout::Job;
+use origin::Fact;
+use origin::OTHER;
+use origin::Span;
+use pairs::pair_among;
+use pairs::pair_conditions;
+use rows::row_conditions;
+use rows::row_points;
+
+// From how many points on a row is cheaper than the pairs.
+const MANY: usize = 8;
+
+// Orders the points of a group among themselves: each before the later ones of the other value or of the same, by `turn`.
+pub fn raise_among(
+    n: usize,
+    starts: &[u32],
+    points: &[u64],
+    low: usize,
+    high: usize,
+    turn: u16,
+    gaps: &mut [u32],
+)
+    requires { ⌜ Gaps (now gaps) × (n ≤ stepLimit) × Group n (scheduleOf (now starts)) (now points) low high × (turn ≤ 1) ⌝ }
+    ensures { λ _. ⌜ Reached n (FromPoints (scheduleOf (now (starts .entry))) (now (points .entry)) low high turn)
+        (now (gaps .entry)) (now (gaps .exit)) ⌝ }
+{
+    if high - low < MANY {
+        pair_among(starts, points, low, high, turn, gaps);
+    } else {
+        let group = Span { low, high };
+        row_points(n, starts, points, group, group, turn, gaps);
+    }
+}
+
+// Orders the conditions of a fact and its setters of the other value.
+pub fn raise_conditions(
+    s: &[u8],
+    job: Job,
+    starts: &[u32],
+    points: &[u64],
+    fact: Fact,
+    gaps: &mut [u32],
+)
+    requires { ⌜ FactKnown (view job (now s)) (scheduleOf (now starts)) (now points) fact × Gaps (now gaps) ⌝ }
+    ensures { λ _. ⌜ Reached (job .count .steps)
+        (FactOrder (view job (now (s .entry))) (scheduleOf (now (starts .entry))) (now (points .entry)) fact)
+        (now (gaps .entry)) (now (gaps .exit)) ⌝ }
+{
+    if fact.high - fact.low < MANY {
+        pair_conditions(s, job, starts, points, fact, gaps);
+    } else {
+        let n = job.count.steps as usize;
+        let setters = Span {
+            low: fact.low,
+            high: fact.high,
+        };
+        let wanted = Span {
+            low: fact.after,
+            high: fact.until,
+        };
+        row_points(n, starts, points, setters, wanted, OTHER, gaps);
+        row_conditions(s, job, starts, points, fact, gaps);
+    }
+}
