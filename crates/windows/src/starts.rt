@@ -37,6 +37,14 @@ fn demanded(gaps: &[u32], i: usize, k: usize, t: u32) -> u32
     t + gaps[WIDTH * i + k]
 }
 
+// A start of k, raised to what that order demands.
+fn raised_to(start: u32, gaps: &[u32], i: usize, k: usize, t: u32) -> u32
+    requires { ⌜ Gaps (now gaps) × (i < rowWidth) × (k < rowWidth) × (t < aboveStarts) × (start ≤ aboveStarts + gapBias) ⌝ }
+    ensures { λ r. ⌜ r ≡ max start (demand (gapIn (now (gaps .entry))) gapBias i k t) ⌝ }
+{
+    higher(start + ENTRY_BIAS, demanded(gaps, i, k, t)) - ENTRY_BIAS
+}
+
 // Raises the first n starts to what the orders from i, which starts at t, demand.
 fn raise_first(n: usize, gaps: &[u32], i: usize, t: u32, at: &mut [u32; WIDTH])
     requires { ⌜ Gaps (now gaps) × Bounded n (aboveStarts + gapBias) (now at) × (n ≤ rowWidth) × (i < rowWidth) × (t < aboveStarts) ⌝ }
@@ -45,7 +53,7 @@ fn raise_first(n: usize, gaps: &[u32], i: usize, t: u32, at: &mut [u32; WIDTH])
 {
     let mut k = 0;
     while k < n {
-        at[k] = higher(at[k] + ENTRY_BIAS, demanded(gaps, i, k, t)) - ENTRY_BIAS;
+        at[k] = raised_to(at[k], gaps, i, k, t);
         k += 1;
     }
 }
@@ -58,12 +66,12 @@ fn raise_all(gaps: &[u32], i: usize, t: u32, at: &mut [u32; WIDTH])
 {
     let mut k = 0;
     while k < WIDTH {
-        at[k] = higher(at[k] + ENTRY_BIAS, demanded(gaps, i, k, t)) - ENTRY_BIAS;
+        at[k] = raised_to(at[k], gaps, i, k, t);
         k += 1;
     }
 }
 
-// The same, by either.
+// The same of the first n, which in a full job are all.
 fn raise_starts(n: usize, gaps: &[u32], i: usize, t: u32, at: &mut [u32; WIDTH])
     requires { ⌜ Gaps (now gaps) × Bounded n (aboveStarts + gapBias) (now at) × (n ≤ rowWidth) × (i < rowWidth) × (t < aboveStarts) ⌝ }
     ensures { λ _. ⌜ Filled n (λ k. max (startIn (now (at .entry)) k) (demand (gapIn (now (gaps .entry))) gapBias i k t)) (now (at .entry))

@@ -15,7 +15,8 @@ unfolding supportGap
 fill-support-spec =
     tie.close
     (tie.spec
-    (λ s job links gaps₀ n c₀ gaps c. (c ≤ n) × Gaps gaps × RaisedByLinks (view job s) links (λ m x i k. largest c (supportOrder m x i k)) gaps₀ gaps)
+    (λ s job links gaps₀ n c₀ gaps c.
+    (c ≤ n) × Gaps gaps × RaisedByLinks (view job s) links (λ m x i k. largest c (supportOrder m x i k)) gaps₀ gaps)
     (λ s job links gaps₀ n c₀ gaps c. n - c)
     (λ c. (omega arith, c .before .before .before .pre .whole, λ x l. raised-start _ _ _))
     (λ c κs.

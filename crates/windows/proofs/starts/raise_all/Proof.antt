@@ -1,14 +1,11 @@
--- As in `raise_first`, to the end of the row.
-use Prim.Native.Nat.{_+_, _*_, _≤_, _-_, max}
+-- To the end of the row.
+use Prim.Native.Nat.{_≤_, _-_, max}
 use native.Mathlib.Omega.{arith}
-use denote.Ref.{now}
 use Rattle.rounds.specs.Rounds.{demand}
-use Rattle.rounds.proofs.Rounds.{demand-most}
-use Rattle.order_file.specs.Contents.{gapBias, mostGap}
+use Rattle.order_file.specs.Contents.{gapBias}
 use Rattle.order_file.specs.Table.{rowWidth, gapIn, startIn}
 use Rattle.laws.specs.Listed.{Filled}
 use Rattle.laws.proofs.Listed.{filled-start, filled-more, filled-end}
-use Rattle.windows.proofs.Loops.{unbiased}
 use Rattle.windows.proofs.starts.raise_all.Statement.{statement}
 use Rattle.windows.proofs.starts.raise_all.Tie as tie
 
@@ -21,34 +18,18 @@ raise-all-spec =
     (λ c. (omega arith, filled-start _ _))
     (λ c. omega arith)
     (λ c. omega arith)
-    (λ c.
-    let l = c .before .before .loop in
-    omega (arith, l .inv .1 .rest (l .k) (omega arith), c .before .before .before .before .pre .1 .most (l .k) (c .before .loop-test .taken)))
-    (λ c κs. let p = c .before .before .before .before .pre in (p .0, p .2, omega arith, p .3))
     (λ c κs.
-    let test = c .before .before in
-    let l = test .before .loop in
-    let d = test .before .before .before in
-    let a = d .args in
-    let gaps = now (a .gaps) in
-    let most = d .pre .0 .most (rowWidth * a .i + l .k) in (
-      omega (arith, l .inv .1 .rest (l .k) (omega arith), d .pre .1 .most (l .k) (test .loop-test .taken)),
-      omega (
-        arith,
-        c .demanded .ensures,
-        demand-most (gapIn gaps) gapBias (mostGap - gapBias) (a .i) (l .k) (a .t) (omega (arith, most)),
-        d .pre .3,
-      ),
-    ))
-    (λ c. omega (arith, c .higher .ensures))
+    let l = c .before .before .loop in
+    let p = c .before .before .before .before .pre in
+    (p .0, p .2, omega arith, p .3, omega (arith, l .inv .1 .rest (l .k) (omega arith), p .1 .most (l .k) (c .before .loop-test .taken))))
     (λ c. omega arith)
     (λ c. omega arith)
     (λ c. omega arith)
     (λ c. omega arith)
     (λ c.
-    let l = c .before .before .before .before .loop in (
+    let l = c .before .before .before .loop in (
       omega arith,
-      filled-more _ _ _ _ _ (omega (arith, c .before .before .before .before .before .before .pre .1 .size)) (l .inv .1)
-          (unbiased _ _ _ _ _ (l .inv .1 .rest (l .k) (omega arith)) (c .before .demanded .ensures) (c .higher .ensures)),
+      filled-more _ _ _ _ _ (omega (arith, c .before .before .before .before .before .pre .1 .size)) (l .inv .1)
+          (omega (arith, c .raised-to .ensures, l .inv .1 .rest (l .k) (omega arith))),
     ))
     (λ c. filled-end _ _ _ _ _ (c .before .loop .inv .1) (c .before .loop .inv .0) (c .loop-test .left)))
