@@ -1,4 +1,5 @@
 // The job file's header: counts, limits, and where the tables lie.
+ghost use Prim.Native.Nat.{_+_, _*_, _^_, _≤_};
 ghost use mathlib.Core.Path.{_≡_};
 ghost use Rattle.job.specs.Layout.{countsOf, positionsOf, jobOf, countTooHigh};
 use little_endian::SIGN_BIAS;
@@ -130,25 +131,34 @@ impl Positions {
     pub fn of(count: Counts) -> Positions
         ensures { λ r. ⌜ r ≡ positionsOf count ⌝ }
     {
-        let facts = HEADER;
-        let levels = facts + WIDTHS[FACT] * count.facts as usize;
-        let steps = levels + WIDTHS[LEVEL] * count.levels as usize;
-        let conditions = steps + WIDTHS[STEP] * count.steps as usize;
-        let effects = conditions + WIDTHS[CONDITION] * count.conditions as usize;
-        let uses = effects + WIDTHS[EFFECT] * count.effects as usize;
-        let goals = uses + WIDTHS[USE] * count.uses as usize;
-        let end = goals + WIDTHS[GOAL] * count.goals as usize;
+        let facts = HEADER as u32;
+        let levels = table_end(facts, WIDTHS[FACT], count.facts);
+        let steps = table_end(levels, WIDTHS[LEVEL], count.levels);
+        let conditions = table_end(steps, WIDTHS[STEP], count.steps);
+        let effects = table_end(conditions, WIDTHS[CONDITION], count.conditions);
+        let uses = table_end(effects, WIDTHS[EFFECT], count.effects);
+        let goals = table_end(uses, WIDTHS[USE], count.uses);
+        let end = table_end(goals, WIDTHS[GOAL], count.goals);
         Positions {
-            facts: facts as u32,
-            levels: levels as u32,
-            steps: steps as u32,
-            conditions: conditions as u32,
-            effects: effects as u32,
-            uses: uses as u32,
-            goals: goals as u32,
-            end: end as u32,
+            facts,
+            levels,
+            steps,
+            conditions,
+            effects,
+            uses,
+            goals,
+            end,
         }
     }
+}
+
+// Where a table of `count` records ends. Any header's tables end below 2^24, so no sum overflows.
+fn table_end(at: u32, width: usize, count: u16) -> u32
+    requires { ⌜ (at ≤ 2 ^ 24) × (width ≤ 14) ⌝ }
+    ensures { λ r. ⌜ r ≡ at + width * count ⌝ }
+    ensures { λ r. ⌜ r ≤ at + 2 ^ 20 ⌝ }
+{
+    (at as usize + width * count as usize) as u32
 }
 
 // Refusal 4: a count exceeds its highest.

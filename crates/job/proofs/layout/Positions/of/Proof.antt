@@ -1,5 +1,4 @@
 -- Each table starts where the one before it ends, as `tableAt` says.
-use mathlib.Core.Path.{refl}
 use Rattle.job.specs.Layout.{positionsOf, tableAt}
 use borrow.Author.Needs.{needs}
 use Rattle.job.proofs.layout.Positions.of.Statement.{statement}
@@ -10,10 +9,20 @@ unfolding positionsOf tableAt
 of-spec =
     tie.close
     (tie.spec
-    (λ c. search needs) (λ c. search needs) (λ c. search needs) (λ c. search needs) (λ c. search needs) (λ c. search needs)
-    (λ c. search needs) (λ c. search needs) (λ c. search needs) (λ c. search needs) (λ c. search needs) (λ c. search needs)
-    (λ c. search needs) (λ c. search needs) (λ c. search needs) (λ c. search needs) (λ c. search needs) (λ c. search needs)
-    (λ c. search needs) (λ c. search needs) (λ c. search needs) (λ c. search needs) (λ c. search needs) (λ c. search needs)
-    (λ c. search needs) (λ c. search needs) (λ c. search needs) (λ c. search needs) (λ c. search needs) (λ c. search needs)
-    (λ c. search needs) (λ c. search needs) (λ c. search needs) (λ c. search needs) (λ c. search needs) (λ c. search needs)
-    (λ c. refl))
+    (λ c. search needs)
+    (λ c. search needs) (λ c _. search needs)
+    (λ c. search needs) (λ c _. search needs)
+    (λ c. search needs) (λ c _. search needs)
+    (λ c. search needs) (λ c _. search needs)
+    (λ c. search needs) (λ c _. search needs)
+    (λ c. search needs) (λ c _. search needs)
+    (λ c. search needs) (λ c _. search needs)
+    (λ c. rw (
+      c .table-end7 .ensures .0,
+      c .before .table-end6 .ensures .0,
+      c .before .before .table-end5 .ensures .0,
+      c .before .before .before .table-end4 .ensures .0,
+      c .before .before .before .before .table-end3 .ensures .0,
+      c .before .before .before .before .before .table-end2 .ensures .0,
+      c .before .before .before .before .before .before .table-end .ensures .0,
+    )))
