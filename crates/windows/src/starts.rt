@@ -102,17 +102,16 @@ fn same_starts(a: &[u32; WIDTH], b: &[u32; WIDTH], n: usize) -> bool
 impl Starts {
     // The starts of the first n steps after a round. A step that starts as it did before the last round, in last, demanded the same
     // then, so its row is skipped.
-    pub fn round(self, last: Starts, n: usize, gaps: &[u32]) -> Starts
+    pub fn round(self, last: &[u32; WIDTH], n: usize, gaps: &[u32]) -> Starts
         requires { ⌜ Gaps (now gaps) × Bounded n (aboveStarts - 1) (self .at) × (n ≤ rowWidth)
-            × Given n (gapIn (now gaps)) gapBias (startIn (last .at)) (startIn (self .at)) ⌝ }
+            × Given n (gapIn (now gaps)) gapBias (startIn (now last)) (startIn (self .at)) ⌝ }
         ensures { λ r. ⌜ Filled n (raised n (gapIn (now (gaps .entry))) gapBias (startIn (self .at))) (self .at) (r .at) ⌝ }
     {
         let before = self.at;
-        let seen = last.at;
         let mut at = self.at;
         let mut i = 0;
         while i < n {
-            if seen[i] != before[i] {
+            if last[i] != before[i] {
                 raise_starts(n, gaps, i, before[i], &mut at);
             }
             i += 1;
@@ -129,12 +128,10 @@ pub fn earliest_starts(limits: Starts, n: usize, gaps: &[u32]) -> Earliest
     ensures { λ r. ⌜ r .rounds ≤ n ⌝ }
 {
     let mut starts = limits;
-    let mut last = Starts {
-        at: [NO_START; WIDTH],
-    };
+    let mut last = [NO_START; WIDTH];
     let mut rounds = 0;
     while rounds < n {
-        let next = starts.round(last, n, gaps);
+        let next = starts.round(&last, n, gaps);
         rounds += 1;
         if same_starts(&next.at, &starts.at, n) {
             return Earliest {
@@ -142,7 +139,7 @@ pub fn earliest_starts(limits: Starts, n: usize, gaps: &[u32]) -> Earliest
                 rounds,
             };
         }
-        last = starts;
+        last = starts.at;
         starts = next;
     }
     Earliest { starts, rounds }

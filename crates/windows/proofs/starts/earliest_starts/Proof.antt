@@ -14,23 +14,24 @@ earliest-starts-spec =
     (tie.spec
     (λ n gaps starts₀ last₀ rounds₀ starts last rounds.
     Reached n (gapIn gaps) gapBias (starts₀ .at) rounds (starts .at)
-    × Given n (gapIn gaps) gapBias (startIn (last .at)) (startIn (starts .at)))
+    × Given n (gapIn gaps) gapBias (startIn last) (startIn (starts .at)))
     (λ n gaps starts₀ last₀ rounds₀ starts last rounds. n - rounds)
     (λ c. (reached-start _ _ _ _, given-start _ _ _ (c .before .args .limits .at) (c .before .pre .1) (c .before .pre .2)))
     (λ c κs.
-    let p = c .before .before .before .pre in
-    let v = c .before .loop .inv in
+    let p = c .before .before .before .before .pre in
+    let v = c .before .before .loop .inv in
     (p .0, reached-bounded _ _ _ _ _ (p .0) (p .1) (p .2) (v .0), p .2, v .1))
     (λ c. omega arith)
-    (λ c κs. c .before .before .before .before .before .before .before .before .pre .2)
-    (λ c. reached-last _ _ _ _ _ _ _ (c .before .before .before .before .before .before .before .before .loop .inv .0)
-    (c .before .before .before .before .before .before .round .ensures) (c .before .before .before .before .before .before .before .loop-test .taken)
+    (λ c κs. c .before .before .before .before .before .before .before .before .before .pre .2)
+    (λ c. reached-last _ _ _ _ _ _ _ (c .before .before .before .before .before .before .before .before .before .loop .inv .0)
+    (c .before .before .before .before .before .before .round .ensures) (c .before .before .before .before .before .before .before .before .loop-test .taken)
     (c .before .same-starts .ensures) (c .if1 .taken))
     (λ c. omega arith)
     (λ c.
-    let v = c .before .before .before .before .before .before .round .ensures in (
-      reached-more _ _ _ _ _ _ _ (c .before .before .before .before .before .before .before .before .loop .inv .0) v
-          (c .before .before .before .before .before .before .before .loop-test .taken) (c .before .same-starts .ensures) (c .if1 .left),
+    let v = c .before .before .before .before .before .before .before .round .ensures in (
+      reached-more _ _ _ _ _ _ _ (c .before .before .before .before .before .before .before .before .before .before .loop .inv .0) v
+          (c .before .before .before .before .before .before .before .before .before .loop-test .taken)
+          (c .before .before .same-starts .ensures) (c .before .if1 .left),
       given-more _ _ _ _ _ v,
     ))
     (λ c. reached-end _ _ _ _ _ _ (c .before .loop .inv .0) (c .loop-test .left)))

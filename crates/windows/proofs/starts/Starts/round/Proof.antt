@@ -14,8 +14,8 @@ pub round-spec : {M : Type 1} → statement M
 round-spec =
     tie.close
     (tie.spec
-    (λ n gaps before seen at₀ i₀ at i. (i ≤ n) × Filled n (raised i (gapIn gaps) gapBias (startIn before)) before at)
-    (λ n gaps before seen at₀ i₀ at i. n - i)
+    (λ last n gaps before at₀ i₀ at i. (i ≤ n) × Filled n (raised i (gapIn gaps) gapBias (startIn before)) before at)
+    (λ last n gaps before at₀ i₀ at i. n - i)
     (λ c. (omega arith, rows-start _ _ _ _))
     (λ c. omega arith)
     (λ c. omega arith)
@@ -25,22 +25,22 @@ round-spec =
     (λ c. omega arith)
     (λ c κs.
     let p = c .before .before .before .before .before .before .before .before .pre in
-    let l = c .before .before .before .loop in (
+    let l = c .before .before .before .before .loop in (
       p .0,
       rows-bounded _ _ _ _ _ (p .0) (p .1) (l .inv .0) (l .inv .1),
       p .2,
       omega arith,
-      omega (arith, p .1 .most (l .i) (c .before .before .loop-test .taken)),
+      omega (arith, p .1 .most (l .i) (c .before .before .before .loop-test .taken)),
     ))
     (λ c. omega arith)
     (λ c. omega arith)
     (λ c.
     let p = c .before .before .before .before .before .before .before .pre in
-    let v = c .before .before .loop .inv in (
+    let v = c .before .before .before .loop .inv in (
       omega arith,
       ⊎-elim
           (λ w. rows-more _ _ _ _ _ _ (v .1) _ _ (w .3) (w .2 .ensures))
-          (λ w. rows-same _ _ _ _ _ _ (v .1) _ (w .1) _ (p .3) (c .before .loop-test .taken) (w .0 .left))
+          (λ w. rows-same _ _ _ _ _ _ (v .1) _ (w .1) _ (p .3) (c .before .before .loop-test .taken) (w .0 .left))
           (c .if1 .came),
     ))
     (λ c. rows-end _ _ _ _ _ _ (c .before .loop .inv .1) (c .before .loop .inv .0) (c .loop-test .left)))
