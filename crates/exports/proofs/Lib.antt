@@ -1,4 +1,2 @@
--- The laws of filling a list, of promises carried over to the defined answer, and of packed answers.
-mod Filling
+-- The law of promises carried over to the defined answer.
 mod Carried
-pub mod Unpacked

@@ -1,3 +1,2 @@
--- The number that packs an answer, and the numbers that the readers put into a lent list.
-pub mod Packed
-pub mod Listed
+-- What a caller gets.
+pub mod Packs

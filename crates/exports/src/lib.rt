@@ -6,15 +6,16 @@ ghost use Rattle.validity.specs.Promise.{JobPromise, SchedulePromise};
 ghost use Rattle.order_reader.specs.Answers.{headerRead, recordRead, alikeAnswer, HeaderPromise, RecordPromise, AlikePromise};
 ghost use Rattle.partialize.specs.Partialization.{answerTo, bufferAfter};
 ghost use Rattle.partialize.specs.Demands.{Promise};
-ghost use Rattle.exports.specs.Packed.{packedVerdict, packedAnswer, packedAlike, packedHeader, packedRecord, Packs};
-ghost use Rattle.exports.specs.Listed.{filled, headerList, recordList};
-
-mod listed;
-mod packed;
-
-use order_reader::numbers;
-use packed::packed;
-use partialize::answer;
+ghost use Rattle.packing.specs.Packed.{packedVerdict, packedAnswer, packedAlike, packedHeader, packedRecord};
+ghost use Rattle.packing.specs.Listed.{filled, headerList, recordList};
+ghost use Rattle.exports.specs.Packs.{Packs};
+use packing::listed::list_header;
+use packing::listed::list_record;
+use packing::packed::packed_alike;
+use packing::packed::packed_answer;
+use packing::packed::packed_header;
+use packing::packed::packed_record;
+use packing::packed::packed_verdict;
 
 // Whether a job is sound.
 #[no_mangle]
@@ -22,7 +23,7 @@ pub extern "C" fn jobs_check(job: &[u8]) -> u64
     ensures { λ r. ⌜ Packs (JobPromise (now (job .entry))) packedVerdict (jobCheck (now (job .entry))) r ⌝ }
 {
     let planned = schedule::check_job(job);
-    packed(0, verdict::number(planned), verdict::place(planned))
+    packed_verdict(planned)
 }
 
 // Whether a list of starts is a sound timing of a job.
@@ -32,7 +33,7 @@ pub extern "C" fn jobs_check_schedule(job: &[u8], starts: &[u32]) -> u64
         (scheduleCheck (now (job .entry)) (now (starts .entry))) r ⌝ }
 {
     let timed = schedule::check_schedule(job, starts);
-    packed(0, verdict::number(timed), verdict::place(timed))
+    packed_verdict(timed)
 }
 
 // Loosens a job into an order file in `out`.
@@ -43,7 +44,7 @@ pub extern "C" fn jobs_partialize(job: &[u8], out: &mut [u8]) -> u64
     ensures { λ _. ⌜ now (out .exit) ≡ bufferAfter (now (job .entry)) (now (out .entry)) ⌝ }
 {
     let a = partialize::partialize(job, out);
-    packed(answer::length(a), answer::number(a), answer::place(a))
+    packed_answer(a)
 }
 
 // Whether two order files are alike.
@@ -52,11 +53,7 @@ pub extern "C" fn jobs_alike(a: &[u8], b: &[u8]) -> u64
     ensures { λ r. ⌜ Packs (AlikePromise (now (a .entry)) (now (b .entry))) packedAlike (alikeAnswer (now (a .entry)) (now (b .entry))) r ⌝ }
 {
     let x = order_reader::alike(a, b);
-    packed(
-        numbers::alike_yes(x) as u32,
-        numbers::alike_number(x),
-        numbers::alike_place(x),
-    )
+    packed_alike(x)
 }
 
 // Reads an order file's header into `list`.
@@ -66,8 +63,8 @@ pub extern "C" fn jobs_order_header(file: &[u8], list: &mut [u32]) -> u64
     ensures { λ _. ⌜ now (list .exit) ≡ filled (now (list .entry)) (headerList (headerRead (now (file .entry)))) ⌝ }
 {
     let a = order_reader::read_header(file);
-    listed::list_header(a, list);
-    packed(0, numbers::header_number(a), numbers::header_place(a))
+    list_header(a, list);
+    packed_header(a)
 }
 
 // Reads one record of an order file into `list`: of table 0 a window, of 1 an order, of 2 a link.
@@ -77,6 +74,6 @@ pub extern "C" fn jobs_order_record(file: &[u8], table: u32, number: u32, list: 
     ensures { λ _. ⌜ now (list .exit) ≡ filled (now (list .entry)) (recordList (recordRead (now (file .entry)) table number)) ⌝ }
 {
     let a = order_reader::read_record(file, table, number);
-    listed::list_record(a, list);
-    packed(0, numbers::record_number(a), numbers::record_place(a))
+    list_record(a, list);
+    packed_record(a)
 }

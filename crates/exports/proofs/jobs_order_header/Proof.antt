@@ -1,27 +1,22 @@
-use mathlib.Core.Path.{refl, ap, _∙_}
+use mathlib.Core.Path.{ap, _∙_}
 use borrow.Author.Needs.{needs}
 use denote.Ref.{now}
 use Rattle.order_reader.specs.Answers.{HeaderPromise}
-use Rattle.exports.specs.Packed.{packedHeader}
-use Rattle.exports.specs.Listed.{filled, headerList}
-use Rattle.exports.proofs.Carried.{carried, repacked}
+use Rattle.packing.specs.Packed.{packedHeader}
+use Rattle.packing.specs.Listed.{filled, headerList}
+use Rattle.exports.proofs.Carried.{carried}
 use Rattle.exports.proofs.jobs_order_header.Statement.{statement}
 use Rattle.exports.proofs.jobs_order_header.Tie as tie
 
 returns : tie.Need-returns
 returns c =
-    let l = c .before .before .before .before .before in
+    let l = c .before .before .before in
     let d = l .before .before in
     let b = d .before .before .before .args in
     let p = d .read-header .ensures in (
-      carried (HeaderPromise (now (b .file))) packedHeader (p .answer) p
-          (repacked {a = 0} (c .packed .ensures) refl (c .before .before .header-number .ensures) (c .before .header-place .ensures)),
+      carried (HeaderPromise (now (b .file))) packedHeader (p .answer) p (c .packed-header .ensures),
       l .list-header .ensures ∙ ap (λ a. filled (now (b .list)) (headerList a)) (p .answer),
     )
 
 pub jobs-order-header-spec : {M : Type 1} → statement M
-jobs-order-header-spec =
-    tie.close
-    (tie.spec
-    (λ c κs. search needs) (λ c κs. search needs) (λ c κs. search needs) (λ c κs. search needs) (λ c κs. search needs) (λ c. search needs)
-    returns)
+jobs-order-header-spec = tie.close (tie.spec (λ c κs. search needs) (λ c κs. search needs) (λ c κs. search needs) (λ c. search needs) returns)

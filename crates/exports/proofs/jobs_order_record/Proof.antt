@@ -1,27 +1,22 @@
-use mathlib.Core.Path.{refl, ap, _∙_}
+use mathlib.Core.Path.{ap, _∙_}
 use borrow.Author.Needs.{needs}
 use denote.Ref.{now}
 use Rattle.order_reader.specs.Answers.{RecordPromise}
-use Rattle.exports.specs.Packed.{packedRecord}
-use Rattle.exports.specs.Listed.{filled, recordList}
-use Rattle.exports.proofs.Carried.{carried, repacked}
+use Rattle.packing.specs.Packed.{packedRecord}
+use Rattle.packing.specs.Listed.{filled, recordList}
+use Rattle.exports.proofs.Carried.{carried}
 use Rattle.exports.proofs.jobs_order_record.Statement.{statement}
 use Rattle.exports.proofs.jobs_order_record.Tie as tie
 
 returns : tie.Need-returns
 returns c =
-    let l = c .before .before .before .before .before in
+    let l = c .before .before .before in
     let d = l .before .before in
     let b = d .before .before .before .args in
     let p = d .read-record .ensures in (
-      carried (RecordPromise (now (b .file)) (b .table) (b .number)) packedRecord (p .answer) p
-          (repacked {a = 0} (c .packed .ensures) refl (c .before .before .record-number .ensures) (c .before .record-place .ensures)),
+      carried (RecordPromise (now (b .file)) (b .table) (b .number)) packedRecord (p .answer) p (c .packed-record .ensures),
       l .list-record .ensures ∙ ap (λ a. filled (now (b .list)) (recordList a)) (p .answer),
     )
 
 pub jobs-order-record-spec : {M : Type 1} → statement M
-jobs-order-record-spec =
-    tie.close
-    (tie.spec
-    (λ c κs. search needs) (λ c κs. search needs) (λ c κs. search needs) (λ c κs. search needs) (λ c κs. search needs) (λ c. search needs)
-    returns)
+jobs-order-record-spec = tie.close (tie.spec (λ c κs. search needs) (λ c κs. search needs) (λ c κs. search needs) (λ c. search needs) returns)

@@ -1,0 +1,4 @@
+-- The laws of filling a list and of packed answers.
+mod Filling
+mod Repacked
+pub mod Unpacked
