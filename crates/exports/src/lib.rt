@@ -7,15 +7,15 @@ ghost use Rattle.order_reader.specs.Answers.{headerRead, recordRead, alikeAnswe
 ghost use Rattle.partialize.specs.Partialization.{answerTo, bufferAfter};
 ghost use Rattle.partialize.specs.Demands.{Promise};
 ghost use Rattle.packing.specs.Packed.{packedVerdict, packedAnswer, packedAlike, packedHeader, packedRecord};
-ghost use Rattle.packing.specs.Listed.{filled, headerList, recordList};
+ghost use Rattle.listing.specs.Listed.{filled, headerList, recordList};
 ghost use Rattle.exports.specs.Packs.{Packs};
-use packing::listed::list_header;
-use packing::listed::list_record;
-use packing::packed::packed_alike;
-use packing::packed::packed_answer;
-use packing::packed::packed_header;
-use packing::packed::packed_record;
-use packing::packed::packed_verdict;
+use listing::list_header;
+use listing::list_record;
+use packing::packed_alike;
+use packing::packed_answer;
+use packing::packed_header;
+use packing::packed_record;
+use packing::packed_verdict;
 
 // Whether a job is sound.
 #[no_mangle]

@@ -1,4 +1,3 @@
--- The laws of filling a list and of packed answers.
-mod Filling
+-- The laws of packed answers.
 mod Repacked
 pub mod Unpacked

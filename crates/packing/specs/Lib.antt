@@ -1,3 +1,2 @@
--- The number that packs an answer, and the numbers that the readers put into a lent list.
+-- The number that packs an answer.
 pub mod Packed
-pub mod Listed

@@ -3,7 +3,7 @@ use borrow.Author.Needs.{needs}
 use denote.Ref.{now}
 use Rattle.order_reader.specs.Answers.{HeaderPromise}
 use Rattle.packing.specs.Packed.{packedHeader}
-use Rattle.packing.specs.Listed.{filled, headerList}
+use Rattle.listing.specs.Listed.{filled, headerList}
 use Rattle.exports.proofs.Carried.{carried}
 use Rattle.exports.proofs.jobs_order_header.Statement.{statement}
 use Rattle.exports.proofs.jobs_order_header.Tie as tie

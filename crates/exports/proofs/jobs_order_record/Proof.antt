@@ -3,7 +3,7 @@ use borrow.Author.Needs.{needs}
 use denote.Ref.{now}
 use Rattle.order_reader.specs.Answers.{RecordPromise}
 use Rattle.packing.specs.Packed.{packedRecord}
-use Rattle.packing.specs.Listed.{filled, recordList}
+use Rattle.listing.specs.Listed.{filled, recordList}
 use Rattle.exports.proofs.Carried.{carried}
 use Rattle.exports.proofs.jobs_order_record.Statement.{statement}
 use Rattle.exports.proofs.jobs_order_record.Tie as tie

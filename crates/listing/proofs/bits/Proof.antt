@@ -10,9 +10,9 @@ use mir.Syntax.{w32, w64}
 use mir.Val.{SFits, toZ, ofZ}
 use mir.Facts.{toZ-ofZ, sfits-widen}
 use Rattle.laws.proofs.Search.{contrary}
-use Rattle.packing.specs.Listed.{bits}
-use Rattle.packing.proofs.listed.bits.Statement.{statement}
-use Rattle.packing.proofs.listed.bits.Tie as tie
+use Rattle.listing.specs.Listed.{bits}
+use Rattle.listing.proofs.bits.Statement.{statement}
+use Rattle.listing.proofs.bits.Tie as tie
 
 same : (z : ℤ) → SFits w32 z → toZ w64 (ofZ w64 (toZ w32 (ofZ w32 z))) ≡ z
 same z f = ap (λ x. toZ w64 (ofZ w64 x)) (toZ-ofZ f) ∙ toZ-ofZ (sfits-widen tt f)

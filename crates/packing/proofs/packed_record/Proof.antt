@@ -1,8 +1,8 @@
 use mathlib.Core.Path.{refl}
 use borrow.Author.Needs.{needs}
 use Rattle.packing.proofs.Repacked.{repacked}
-use Rattle.packing.proofs.packed.packed_record.Statement.{statement}
-use Rattle.packing.proofs.packed.packed_record.Tie as tie
+use Rattle.packing.proofs.packed_record.Statement.{statement}
+use Rattle.packing.proofs.packed_record.Tie as tie
 
 pub packed-record-spec : {M : Type 1} → statement M
 packed-record-spec =

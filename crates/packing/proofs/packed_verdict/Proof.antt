@@ -1,8 +1,8 @@
 use mathlib.Core.Path.{refl}
 use borrow.Author.Needs.{needs}
 use Rattle.packing.proofs.Repacked.{repacked}
-use Rattle.packing.proofs.packed.packed_verdict.Statement.{statement}
-use Rattle.packing.proofs.packed.packed_verdict.Tie as tie
+use Rattle.packing.proofs.packed_verdict.Statement.{statement}
+use Rattle.packing.proofs.packed_verdict.Tie as tie
 
 pub packed-verdict-spec : {M : Type 1} → statement M
 packed-verdict-spec =

@@ -1,7 +1,7 @@
 // What a reader found, as numbers in a lent list.
 ghost use mathlib.Core.Path.{_≡_};
 ghost use lib.ListN.{set};
-ghost use Rattle.packing.specs.Listed as spec;
+ghost use Rattle.listing.specs.Listed as spec;
 use order_reader::HeaderRead;
 use order_reader::RecordRead;
 

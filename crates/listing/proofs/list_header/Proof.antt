@@ -1,10 +1,10 @@
 use mathlib.Core.Path.{sym, ap, _∙_}
 use denote.Ref.{now}
 use borrow.Author.Needs.{needs}
-use Rattle.packing.specs.Listed.{filled, headerList}
-use Rattle.packing.proofs.Filling.{filled-none}
-use Rattle.packing.proofs.listed.list_header.Statement.{statement}
-use Rattle.packing.proofs.listed.list_header.Tie as tie
+use Rattle.listing.specs.Listed.{filled, headerList}
+use Rattle.listing.proofs.Filling.{filled-none}
+use Rattle.listing.proofs.list_header.Statement.{statement}
+use Rattle.listing.proofs.list_header.Tie as tie
 
 returns : tie.Need-returns
 returns c =

@@ -3,8 +3,8 @@ use mathlib.Core.Bool.{Bool, true, false, cond}
 use mir.Val.{boolByte}
 use borrow.Author.Needs.{needs}
 use Rattle.packing.proofs.Repacked.{repacked}
-use Rattle.packing.proofs.packed.packed_alike.Statement.{statement}
-use Rattle.packing.proofs.packed.packed_alike.Tie as tie
+use Rattle.packing.proofs.packed_alike.Statement.{statement}
+use Rattle.packing.proofs.packed_alike.Tie as tie
 
 as-number : (t : Bool) → boolByte t ≡ cond t 1 0
 as-number true = refl

@@ -1,8 +1,8 @@
 use mathlib.Core.Path.{refl}
 use borrow.Author.Needs.{needs}
 use Rattle.packing.proofs.Repacked.{repacked}
-use Rattle.packing.proofs.packed.packed_header.Statement.{statement}
-use Rattle.packing.proofs.packed.packed_header.Tie as tie
+use Rattle.packing.proofs.packed_header.Statement.{statement}
+use Rattle.packing.proofs.packed_header.Tie as tie
 
 pub packed-header-spec : {M : Type 1} → statement M
 packed-header-spec =

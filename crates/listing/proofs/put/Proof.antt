@@ -2,8 +2,8 @@ use mathlib.Core.Path.{sym}
 use denote.Ref.{now}
 use lib.Seq.{set-out}
 use borrow.Author.Needs.{needs}
-use Rattle.packing.proofs.listed.put.Statement.{statement}
-use Rattle.packing.proofs.listed.put.Tie as tie
+use Rattle.listing.proofs.put.Statement.{statement}
+use Rattle.listing.proofs.put.Tie as tie
 
 pub put-spec : {M : Type 1} → statement M
 put-spec =

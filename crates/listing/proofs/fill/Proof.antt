@@ -3,12 +3,12 @@ use Prim.Native.Nat.{_-_, _≤_}
 use mathlib.Core.Path.{_≡_, refl, sym, _∙_}
 use denote.Ref.{now}
 use lib.ListN.{length, take}
-use Rattle.packing.specs.Listed.{filled}
-use Rattle.packing.proofs.Filling.{filled-none, fill-more, fill-end}
+use Rattle.listing.specs.Listed.{filled}
+use Rattle.listing.proofs.Filling.{filled-none, fill-more, fill-end}
 use borrow.Author.Needs.{needs}
 use native.Mathlib.Omega.{arith}
-use Rattle.packing.proofs.listed.fill.Statement.{statement}
-use Rattle.packing.proofs.listed.fill.Tie as tie
+use Rattle.listing.proofs.fill.Statement.{statement}
+use Rattle.listing.proofs.fill.Tie as tie
 
 pub fill-spec : {M : Type 1} → statement M
 fill-spec =

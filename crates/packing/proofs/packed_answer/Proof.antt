@@ -1,7 +1,7 @@
 use borrow.Author.Needs.{needs}
 use Rattle.packing.proofs.Repacked.{repacked}
-use Rattle.packing.proofs.packed.packed_answer.Statement.{statement}
-use Rattle.packing.proofs.packed.packed_answer.Tie as tie
+use Rattle.packing.proofs.packed_answer.Statement.{statement}
+use Rattle.packing.proofs.packed_answer.Tie as tie
 
 pub packed-answer-spec : {M : Type 1} → statement M
 packed-answer-spec =

@@ -6,7 +6,7 @@ use native.Mathlib.Numerals.{add-one}
 use native.Mathlib.Omega.{arith}
 use lib.ListN.{length, getD, set, take}
 use lib.Seq.{take-nil, drop-nil, take-suc, take-all, length-take-le}
-use Rattle.packing.specs.Listed.{filled}
+use Rattle.listing.specs.Listed.{filled}
 
 pub filled-none : (l : List ℕ) → filled l [] ≡ l
 unfolding filled

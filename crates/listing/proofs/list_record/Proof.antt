@@ -5,10 +5,10 @@ use mir.Syntax.{w32}
 use mir.Facts.{toZ-ofZ}
 use denote.Ref.{now}
 use borrow.Author.Needs.{needs}
-use Rattle.packing.specs.Listed.{filled, bits, recordList}
-use Rattle.packing.proofs.Filling.{filled-none}
-use Rattle.packing.proofs.listed.list_record.Statement.{statement}
-use Rattle.packing.proofs.listed.list_record.Tie as tie
+use Rattle.listing.specs.Listed.{filled, bits, recordList}
+use Rattle.listing.proofs.Filling.{filled-none}
+use Rattle.listing.proofs.list_record.Statement.{statement}
+use Rattle.listing.proofs.list_record.Tie as tie
 
 returns : tie.Need-returns
 returns c =

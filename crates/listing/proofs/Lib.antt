@@ -1,0 +1,2 @@
+-- The laws of filling a list.
+mod Filling

@@ -1,0 +1,2 @@
+-- The numbers that the readers put into a lent list.
+pub mod Listed
