@@ -18,7 +18,8 @@ filled-more [] xs x = drop-nil (length (xs ++ (x ∷ []))) ∙ sym (ap (λ (k : 
 filled-more (y ∷ l) [] x = ap (λ (k : List ℕ). x ∷ (k ++ l)) (take-nil (length l))
 filled-more (y ∷ l) (z ∷ xs) x = ap (λ (k : List ℕ). z ∷ k) (filled-more l xs x)
 
-pub fill-more : (l ns : List ℕ) {m n : List ℕ} (k : ℕ) → m ≡ filled l (take k ns) → k < length ns → n ≡ set m k (getD ns k 0) → n ≡ filled l (take (k + 1) ns)
+pub fill-more : (l ns : List ℕ) {m n : List ℕ} (k : ℕ)
+    → m ≡ filled l (take k ns) → k < length ns → n ≡ set m k (getD ns k 0) → n ≡ filled l (take (k + 1) ns)
 fill-more l ns {m} {n} k e h s =
     let x = getD ns k 0 in
     let t : length (take k ns) ≡ k = length-take-le k ns (omega arith) in

@@ -43,6 +43,12 @@ bits-spec =
     let n = c .before .args .n in
     let f = c .before .fits .n in
     rw (same n f, raised n f (rw (same n f) at (c .if1 .taken)), toZ-ofZ (wide-fit n f)) (tt, record { fits = fit n f }))
-    (λ c. let n = c .before .args .n in let f = c .before .fits .n in rw (same n f, kept n f (rw (same n f) at (c .if1 .left))) (tt, record { fits = fit n f }))
-    (λ c. let n = c .before .args .n in let f = c .before .fits .n in rw (same n f, raised n f (rw (same n f) at (c .if1 .taken)), toZ-ofZ (wide-fit n f)) refl)
+    (λ c.
+    let n = c .before .args .n in
+    let f = c .before .fits .n in
+    rw (same n f, kept n f (rw (same n f) at (c .if1 .left))) (tt, record { fits = fit n f }))
+    (λ c.
+    let n = c .before .args .n in
+    let f = c .before .fits .n in
+    rw (same n f, raised n f (rw (same n f) at (c .if1 .taken)), toZ-ofZ (wide-fit n f)) refl)
     (λ c. let n = c .before .args .n in let f = c .before .fits .n in ap natAbs (same n f ∙ kept n f (rw (same n f) at (c .if1 .left)))))
