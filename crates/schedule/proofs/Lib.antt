@@ -2,5 +2,3 @@
 pub mod Chained
 pub mod Reading
 pub mod Overlap
-pub mod LevelSweeps
-pub mod UsesApart

@@ -16,12 +16,12 @@ ghost use Rattle.points.specs.Words.{Small};
 ghost use Rattle.schedule.specs.Timed.{Ordered, Clear, FormedPoints, Settled, settledCheck};
 ghost use Rattle.schedule.specs.Opened.{Read, Opened, Planned};
 
-mod levels;
 mod steps;
-mod uses;
 
 use form::Form;
 use job::layout::Job;
+use levels::bounds;
+use levels::uses;
 use points::ticks;
 use points::words::FEW_GROUPS;
 use points::words::FEW_POINTS;
@@ -50,7 +50,7 @@ fn check_settled(
 {
     let v = Verdict::Accepted;
     let v = refuse_if(v, c < job.count.conditions, Verdict::ConditionFails(c));
-    let l = levels::first_out_of_bounds(s, job, points, begins);
+    let l = bounds::first_out_of_bounds(s, job, points, begins);
     let v = refuse_if(v, l < job.count.levels, Verdict::LevelOutOfBounds(l));
     let g = goals::first_missed(s, job, points, begins);
     let v = refuse_if(v, g < job.count.goals, Verdict::GoalFails(g));

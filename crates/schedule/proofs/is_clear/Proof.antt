@@ -3,7 +3,7 @@ use mathlib.Core.Path.{refl, sym, _∙_}
 use borrow.Author.Tests.{eqb-true}
 use Rattle.laws.proofs.Search.{contrary}
 use Rattle.values.proofs.Conflicts.{facts-listed, unmixed-one}
-use Rattle.schedule.proofs.UsesApart.{levels-listed, apart-one-use}
+use Rattle.levels.proofs.UsesApart.{levels-listed, apart-one-use}
 use Rattle.values.proofs.Contested.{contested-lowest, own-kept}
 use Rattle.schedule.proofs.is_clear.Statement.{statement}
 use Rattle.schedule.proofs.is_clear.Tie as tie

@@ -6,7 +6,7 @@ ghost use Rattle.job.specs.Model.{view};
 ghost use Rattle.validity.specs.Checks.{levelFails};
 ghost use Rattle.points.specs.Points.{PointsKnown};
 ghost use Rattle.timeline.specs.Placed.{placeLimit};
-ghost use Rattle.schedule.specs.LevelSums.{sumLimit, inBounds, UsesPlaced, Stretch, Summed, Added, SummedTick};
+ghost use Rattle.levels.specs.LevelSums.{sumLimit, inBounds, UsesPlaced, Stretch, Summed, Added, SummedTick};
 use job::layout::Job;
 use job::records::use_amount;
 use job_reader::reader::level_at;

@@ -3,9 +3,9 @@ use mathlib.Core.Path.{refl}
 use native.Mathlib.Omega.{arith}
 use borrow.Author.Needs.{needs}
 use Rattle.laws.proofs.Search.{contrary}
-use Rattle.schedule.proofs.UsesApart.{Others, others-start, others-more, others-past, others-end}
-use Rattle.schedule.proofs.uses.repeated.Statement.{statement}
-use Rattle.schedule.proofs.uses.repeated.Tie as tie
+use Rattle.levels.proofs.UsesApart.{Others, others-start, others-more, others-past, others-end}
+use Rattle.levels.proofs.uses.repeated.Statement.{statement}
+use Rattle.levels.proofs.uses.repeated.Tie as tie
 
 pub repeated-spec : {M : Type 1} → statement M
 repeated-spec =

@@ -4,7 +4,7 @@ ghost use mathlib.Core.Bool.{false};
 ghost use Prim.Native.Nat.{_+_, _≤_, _<_};
 ghost use lib.ListN.{length};
 ghost use Rattle.values.specs.Against.{Rising};
-ghost use Rattle.schedule.specs.UsesApart.{Single, StepsApart, LevelsListed, LevelsApart};
+ghost use Rattle.levels.specs.UsesApart.{Single, StepsApart, LevelsListed, LevelsApart};
 use timeline::word::begin_at;
 use timeline::word::step_of;
 use timeline::word::tick_of;

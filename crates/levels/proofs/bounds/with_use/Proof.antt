@@ -2,8 +2,8 @@
 use mathlib.Core.Path.{refl}
 use native.Mathlib.Omega.{arith}
 use borrow.Author.Needs.{needs}
-use Rattle.schedule.proofs.levels.with_use.Statement.{statement}
-use Rattle.schedule.proofs.levels.with_use.Tie as tie
+use Rattle.levels.proofs.bounds.with_use.Statement.{statement}
+use Rattle.levels.proofs.bounds.with_use.Tie as tie
 
 pub with-use-spec : {M : Type 1} → statement M
 with-use-spec =

@@ -4,10 +4,10 @@ use mathlib.Core.Path.{refl}
 use native.Mathlib.Omega.{arith}
 use borrow.Author.Needs.{needs}
 use Rattle.laws.proofs.Search.{contrary}
-use Rattle.schedule.specs.UsesApart.{LevelsApart}
-use Rattle.schedule.proofs.UsesApart.{levels-more}
-use Rattle.schedule.proofs.uses.any_twice.Statement.{statement}
-use Rattle.schedule.proofs.uses.any_twice.Tie as tie
+use Rattle.levels.specs.UsesApart.{LevelsApart}
+use Rattle.levels.proofs.UsesApart.{levels-more}
+use Rattle.levels.proofs.uses.any_twice.Statement.{statement}
+use Rattle.levels.proofs.uses.any_twice.Tie as tie
 
 pub any-twice-spec : {M : Type 1} → statement M
 any-twice-spec =

@@ -3,10 +3,10 @@ use Prim.Native.Nat.{_-_}
 use native.Mathlib.Omega.{arith}
 use Rattle.laws.proofs.Search.{lowest-start, lowest-more, lowest-found, lowest-end}
 use Rattle.job.specs.Model.{view}
-use Rattle.schedule.proofs.LevelSweeps.{LevelsTried, uses-placed, uses-stretch}
+use Rattle.levels.proofs.LevelSweeps.{LevelsTried, uses-placed, uses-stretch}
 use borrow.Author.Needs.{needs}
-use Rattle.schedule.proofs.levels.first_out_of_bounds.Statement.{statement}
-use Rattle.schedule.proofs.levels.first_out_of_bounds.Tie as tie
+use Rattle.levels.proofs.bounds.first_out_of_bounds.Statement.{statement}
+use Rattle.levels.proofs.bounds.first_out_of_bounds.Tie as tie
 
 pub first-out-of-bounds-spec : {M : Type 1} → statement M
 first-out-of-bounds-spec =

@@ -4,10 +4,10 @@ use mathlib.Core.Path.{refl}
 use native.Mathlib.Omega.{arith}
 use borrow.Author.Needs.{needs}
 use Rattle.laws.proofs.Search.{contrary}
-use Rattle.schedule.specs.UsesApart.{StepsApart}
-use Rattle.schedule.proofs.UsesApart.{apart-more}
-use Rattle.schedule.proofs.uses.twice.Statement.{statement}
-use Rattle.schedule.proofs.uses.twice.Tie as tie
+use Rattle.levels.specs.UsesApart.{StepsApart}
+use Rattle.levels.proofs.UsesApart.{apart-more}
+use Rattle.levels.proofs.uses.twice.Statement.{statement}
+use Rattle.levels.proofs.uses.twice.Tie as tie
 
 pub twice-spec : {M : Type 1} → statement M
 twice-spec =

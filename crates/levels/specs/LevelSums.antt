@@ -13,7 +13,7 @@ use Rattle.timeline.specs.Placed.{Placed, placeLimit}
 use Rattle.validity.specs.Ticks.{useTick}
 use Rattle.validity.specs.Levels.{rise, fall}
 use Rattle.points.specs.Points.{Using}
-use Rattle.schedule.specs.declared.levels.Sums.{Sums}
+use Rattle.levels.specs.declared.bounds.Sums.{Sums}
 
 -- no sum of rises or of falls, at most 2^31 a place, exceeds this
 abbrev pub sumLimit : ℕ

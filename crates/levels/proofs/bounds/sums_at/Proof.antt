@@ -2,10 +2,10 @@
 use Prim.Native.Nat.{_-_}
 use native.Mathlib.Omega.{arith}
 use Rattle.job.specs.Model.{view}
-use Rattle.schedule.proofs.LevelSweeps.{Gathering, summed-low, gathering-start, gathering-more, gathering-ends}
+use Rattle.levels.proofs.LevelSweeps.{Gathering, summed-low, gathering-start, gathering-more, gathering-ends}
 use borrow.Author.Needs.{needs}
-use Rattle.schedule.proofs.levels.sums_at.Statement.{statement}
-use Rattle.schedule.proofs.levels.sums_at.Tie as tie
+use Rattle.levels.proofs.bounds.sums_at.Statement.{statement}
+use Rattle.levels.proofs.bounds.sums_at.Tie as tie
 
 pub sums-at-spec : {M : Type 1} → statement M
 sums-at-spec =

@@ -2,10 +2,10 @@
 use Prim.Native.Nat.{_-_}
 use native.Mathlib.Omega.{arith}
 use Rattle.job.specs.Model.{view}
-use Rattle.schedule.proofs.LevelSweeps.{Sweeping, summed-low, sweeping-start, sweeping-more, sweeping-fails, sweeping-end}
+use Rattle.levels.proofs.LevelSweeps.{Sweeping, summed-low, sweeping-start, sweeping-more, sweeping-fails, sweeping-end}
 use borrow.Author.Tests.{not-true, not-false}
-use Rattle.schedule.proofs.levels.level_fails.Statement.{statement}
-use Rattle.schedule.proofs.levels.level_fails.Tie as tie
+use Rattle.levels.proofs.bounds.level_fails.Statement.{statement}
+use Rattle.levels.proofs.bounds.level_fails.Tie as tie
 
 pub level-fails-spec : {M : Type 1} → statement M
 level-fails-spec =

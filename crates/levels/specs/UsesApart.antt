@@ -1,4 +1,4 @@
--- Inner: uses of one level by one step at one tick, among the places of the levels' groups.
+-- Between crates: uses of one level by one step at one tick, among the places of the levels' groups.
 use Prim.Native.Nat.{ℕ, _+_, _≤_, _<_}
 use mathlib.Core.Path.{_≡_}
 use mathlib.Core.List.{List}

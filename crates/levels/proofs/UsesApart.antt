@@ -11,7 +11,7 @@ use Rattle.timeline.specs.Words.{stepAt, numberAt, tickAt}
 use Rattle.validity.specs.Ticks.{useTick}
 use Rattle.points.specs.Points.{PointsKnown}
 use Rattle.values.specs.Against.{Rising}
-use Rattle.schedule.specs.UsesApart.{Single, StepsApart, LevelsListed, LevelsApart}
+use Rattle.levels.specs.UsesApart.{Single, StepsApart, LevelsListed, LevelsApart}
 
 -- the points from place p up to place q are of other steps than the one at q, whose tick and step were read
 pub record Others (points : List ℕ) (low q tick step p : ℕ) : Type 0 where

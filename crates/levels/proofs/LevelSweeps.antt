@@ -27,8 +27,8 @@ use Rattle.validity.specs.Ticks.{useTick}
 use Rattle.validity.specs.Levels.{rise, fall, usedBy, risesBefore, fallsBefore, aboveLeast, belowMost}
 use Rattle.validity.specs.Checks.{passes, levelFails}
 use Rattle.points.specs.Points.{usedGroup, PointsKnown}
-use Rattle.schedule.specs.declared.levels.Sums.{Sums}
-use Rattle.schedule.specs.LevelSums.{sumLimit, sumFrom, inBounds, UsesPlaced, Stretch, Summed, Added, SummedTick}
+use Rattle.levels.specs.declared.bounds.Sums.{Sums}
+use Rattle.levels.specs.LevelSums.{sumLimit, sumFrom, inBounds, UsesPlaced, Stretch, Summed, Added, SummedTick}
 
 -- the numbers of a level are read from four bytes each
 pub level-low :

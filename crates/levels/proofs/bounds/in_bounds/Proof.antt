@@ -1,10 +1,10 @@
 -- Both sides of the rule, from the level's record, whose numbers are read without a sign.
 use mathlib.Core.Path.{refl, ap}
 use native.Mathlib.Omega.{arith}
-use Rattle.schedule.proofs.LevelSweeps.{level-low}
+use Rattle.levels.proofs.LevelSweeps.{level-low}
 use borrow.Author.Needs.{needs}
-use Rattle.schedule.proofs.levels.in_bounds.Statement.{statement}
-use Rattle.schedule.proofs.levels.in_bounds.Tie as tie
+use Rattle.levels.proofs.bounds.in_bounds.Statement.{statement}
+use Rattle.levels.proofs.bounds.in_bounds.Tie as tie
 
 pub in-bounds-spec : {M : Type 1} → statement M
 in-bounds-spec =
