@@ -1,4 +1,3 @@
 -- How the refusals chain.
 pub mod Chained
 pub mod Reading
-pub mod Overlap

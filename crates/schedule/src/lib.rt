@@ -15,9 +15,6 @@ ghost use Rattle.points.specs.Points.{PointsKnown};
 ghost use Rattle.points.specs.Words.{Small};
 ghost use Rattle.schedule.specs.Timed.{Ordered, Clear, FormedPoints, Settled, settledCheck};
 ghost use Rattle.schedule.specs.Opened.{Read, Opened, Planned};
-
-mod steps;
-
 use form::Form;
 use job::layout::Job;
 use levels::bounds;

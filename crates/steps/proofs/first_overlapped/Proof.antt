@@ -5,10 +5,10 @@ use native.Mathlib.Omega.{arith}
 use Rattle.laws.specs.Search.{lowest}
 use Rattle.laws.proofs.Search.{lowest-start, lowest-more, lowest-found, lowest-end}
 use Rattle.validity.specs.Ticks.{scheduleOf}
-use Rattle.schedule.specs.Overlap.{overlapped}
+use Rattle.steps.specs.Overlap.{overlapped}
 use borrow.Author.Needs.{needs}
-use Rattle.schedule.proofs.steps.first_overlapped.Statement.{statement}
-use Rattle.schedule.proofs.steps.first_overlapped.Tie as tie
+use Rattle.steps.proofs.first_overlapped.Statement.{statement}
+use Rattle.steps.proofs.first_overlapped.Tie as tie
 
 pub first-overlapped-spec : {M : Type 1} → statement M
 first-overlapped-spec =

@@ -12,7 +12,7 @@ use Rattle.laws.proofs.Search.{either, contrary, by-order, and-both, any-intro,
 use Rattle.job.specs.Model.{Model}
 use Rattle.validity.specs.Ticks.{finish}
 use Rattle.validity.specs.Checks.{overlaps, crowded}
-use Rattle.schedule.specs.Overlap.{overlapLater, overlapped}
+use Rattle.steps.specs.Overlap.{overlapLater, overlapped}
 
 -- what is found is at most the count
 pub found-within : (n : ℕ) (p : ℕ → Bool) {r : ℕ} → r ≡ lowest n p → r ≤ n

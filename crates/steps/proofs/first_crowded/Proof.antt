@@ -1,9 +1,9 @@
 -- Only a serial job has steps that overlap; there the lowest that a later one overlaps.
 use native.Mathlib.Omega.{arith}
-use Rattle.schedule.proofs.Overlap.{found-within, crowded-lowest, none-crowded}
+use Rattle.steps.proofs.Overlap.{found-within, crowded-lowest, none-crowded}
 use borrow.Author.Needs.{needs}
-use Rattle.schedule.proofs.steps.first_crowded.Statement.{statement}
-use Rattle.schedule.proofs.steps.first_crowded.Tie as tie
+use Rattle.steps.proofs.first_crowded.Statement.{statement}
+use Rattle.steps.proofs.first_crowded.Tie as tie
 
 pub first-crowded-spec : {M : Type 1} → statement M
 first-crowded-spec =

@@ -7,8 +7,8 @@ use Rattle.laws.proofs.Listed.{filled-start, filled-more, filled-end}
 use Rattle.job.specs.Model.{view}
 use Rattle.validity.specs.Ticks.{scheduleOf, finish}
 use borrow.Author.Needs.{needs}
-use Rattle.schedule.proofs.steps.list_finishes.Statement.{statement}
-use Rattle.schedule.proofs.steps.list_finishes.Tie as tie
+use Rattle.steps.proofs.list_finishes.Statement.{statement}
+use Rattle.steps.proofs.list_finishes.Tie as tie
 
 pub list-finishes-spec : {M : Type 1} → statement M
 list-finishes-spec =

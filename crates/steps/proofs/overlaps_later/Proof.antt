@@ -5,11 +5,11 @@ use native.Mathlib.Omega.{arith}
 use denote.Ref.{now}
 use Rattle.laws.specs.Search.{any}
 use Rattle.validity.specs.Ticks.{scheduleOf}
-use Rattle.schedule.specs.Overlap.{overlapLater}
-use Rattle.schedule.proofs.Overlap.{overlap-next, none-later}
+use Rattle.steps.specs.Overlap.{overlapLater}
+use Rattle.steps.proofs.Overlap.{overlap-next, none-later}
 use borrow.Author.Needs.{needs}
-use Rattle.schedule.proofs.steps.overlaps_later.Statement.{statement}
-use Rattle.schedule.proofs.steps.overlaps_later.Tie as tie
+use Rattle.steps.proofs.overlaps_later.Statement.{statement}
+use Rattle.steps.proofs.overlaps_later.Tie as tie
 
 pub overlaps-later-spec : {M : Type 1} → statement M
 overlaps-later-spec =

@@ -9,7 +9,7 @@ ghost use Rattle.job.specs.Model.{view};
 ghost use Rattle.validity.specs.Ticks.{scheduleOf};
 ghost use Rattle.validity.specs.Checks as spec;
 ghost use Rattle.validity.specs.Ticks.{finish as finishOf};
-ghost use Rattle.schedule.specs.Overlap.{overlapLater, overlapped};
+ghost use Rattle.steps.specs.Overlap.{overlapLater, overlapped};
 use job::layout::Job;
 use job::records::step_fixed;
 use job::records::step_start;

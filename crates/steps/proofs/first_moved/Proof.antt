@@ -7,8 +7,8 @@ use Rattle.job.specs.Model.{view}
 use Rattle.validity.specs.Ticks.{scheduleOf}
 use Rattle.validity.specs.Checks.{moved}
 use borrow.Author.Needs.{needs}
-use Rattle.schedule.proofs.steps.first_moved.Statement.{statement}
-use Rattle.schedule.proofs.steps.first_moved.Tie as tie
+use Rattle.steps.proofs.first_moved.Statement.{statement}
+use Rattle.steps.proofs.first_moved.Tie as tie
 
 pub first-moved-spec : {M : Type 1} → statement M
 first-moved-spec =

@@ -1,0 +1,2 @@
+-- An overlap by the later steps alone.
+mod Overlap

@@ -1,0 +1,2 @@
+-- When two steps overlap.
+pub mod Overlap
