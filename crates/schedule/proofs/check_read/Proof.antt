@@ -1,4 +1,5 @@
 -- The points in the order of their ticks, then the refusals.
+use native.Mathlib.Omega.{arith}
 use Rattle.schedule.proofs.Reading.{read-in-range, read-lies}
 use borrow.Author.Needs.{needs}
 use Rattle.schedule.proofs.check_read.Statement.{statement}
@@ -14,8 +15,15 @@ check-read-spec =
     (λ c. search needs) (λ c. search needs) (λ c. search needs)
     (λ c κs.
     let r = c .before .before .before .before .before .before .before .pre in
-    let w = read-in-range r in
-    let l = read-lies r in search needs)
+    let w = read-in-range r in (
+      w,
+      record {
+        listed = omega (arith, w .conditionCount, w .effectCount, w .useCount);
+        sorted = omega (arith, w .conditionCount, w .effectCount, w .useCount);
+        grouped = omega (arith, w .factCount, w .levelCount);
+      },
+      read-lies r,
+    ))
     (λ c. search needs) (λ c. search needs)
     (λ c κs.
     let listed = c .before .before .before .before .before in

@@ -1,4 +1,5 @@
 -- The points in the order of their ticks, then the refusals.
+use native.Mathlib.Omega.{arith}
 use Rattle.schedule.proofs.Reading.{read-in-range, read-lies}
 use borrow.Author.Needs.{needs}
 use Rattle.schedule.proofs.check_small.Statement.{statement}
@@ -11,9 +12,8 @@ check-small-spec =
     (λ c. search needs) (λ c. search needs) (λ c. search needs)
     (λ c κs.
     let p = c .before .before .before .before .before .pre in
-    let w = read-in-range (p .0) in
-    let l = read-lies (p .0) in
-    let few = p .1 in search needs)
+    let few = p .1 in
+    (read-in-range (p .0), record { listed = few .points; sorted = few .points; grouped = omega (arith, few .groups) }, read-lies (p .0)))
     (λ c. search needs) (λ c. search needs)
     (λ c κs.
     let listed = c .before .before .before .before .before in
