@@ -3,6 +3,7 @@
 ghost use mathlib.Core.Path.{_≡_};
 ghost use Prim.Native.Nat.{_<_};
 ghost use Rattle.job.specs.Model.{view};
+ghost use Rattle.little_endian.specs.Bytes.{u32Values};
 use crate::layout::CONDITION;
 use crate::layout::EFFECT;
 use crate::layout::FACT;
@@ -20,19 +21,19 @@ pub fn fact_initial(s: &[u8], job: Job, k: u16) -> u16
 }
 
 pub fn level_initial(s: &[u8], job: Job, k: u16) -> usize
-    ensures { λ r. ⌜ (r ≡ view job (now (s .entry)) .levelInitial k) × (r < 4294967296) ⌝ }
+    ensures { λ r. ⌜ (r ≡ view job (now (s .entry)) .levelInitial k) × (r < u32Values) ⌝ }
 {
     little_endian::biased_at(s, job.at.levels as usize + WIDTHS[LEVEL] * k as usize)
 }
 
 pub fn level_least(s: &[u8], job: Job, k: u16) -> usize
-    ensures { λ r. ⌜ (r ≡ view job (now (s .entry)) .levelLeast k) × (r < 4294967296) ⌝ }
+    ensures { λ r. ⌜ (r ≡ view job (now (s .entry)) .levelLeast k) × (r < u32Values) ⌝ }
 {
     little_endian::biased_at(s, job.at.levels as usize + WIDTHS[LEVEL] * k as usize + 4)
 }
 
 pub fn level_most(s: &[u8], job: Job, k: u16) -> usize
-    ensures { λ r. ⌜ (r ≡ view job (now (s .entry)) .levelMost k) × (r < 4294967296) ⌝ }
+    ensures { λ r. ⌜ (r ≡ view job (now (s .entry)) .levelMost k) × (r < u32Values) ⌝ }
 {
     little_endian::biased_at(s, job.at.levels as usize + WIDTHS[LEVEL] * k as usize + 8)
 }
@@ -45,13 +46,13 @@ pub struct Level {
 }
 
 pub fn step_start(s: &[u8], job: Job, k: u16) -> usize
-    ensures { λ r. ⌜ (r ≡ view job (now (s .entry)) .start k) × (r < 4294967296) ⌝ }
+    ensures { λ r. ⌜ (r ≡ view job (now (s .entry)) .start k) × (r < u32Values) ⌝ }
 {
     little_endian::u32_at(s, job.at.steps as usize + WIDTHS[STEP] * k as usize)
 }
 
 pub fn step_length(s: &[u8], job: Job, k: u16) -> usize
-    ensures { λ r. ⌜ (r ≡ view job (now (s .entry)) .stepLength k) × (r < 4294967296) ⌝ }
+    ensures { λ r. ⌜ (r ≡ view job (now (s .entry)) .stepLength k) × (r < u32Values) ⌝ }
 {
     little_endian::u32_at(s, job.at.steps as usize + WIDTHS[STEP] * k as usize + 4)
 }
@@ -81,7 +82,7 @@ pub fn condition_fact(s: &[u8], job: Job, k: u16) -> u16
 }
 
 pub fn condition_from(s: &[u8], job: Job, k: u16) -> usize
-    ensures { λ r. ⌜ (r ≡ view job (now (s .entry)) .conditionFrom k) × (r < 4294967296) ⌝ }
+    ensures { λ r. ⌜ (r ≡ view job (now (s .entry)) .conditionFrom k) × (r < u32Values) ⌝ }
 {
     little_endian::u32_at(
         s,
@@ -90,7 +91,7 @@ pub fn condition_from(s: &[u8], job: Job, k: u16) -> usize
 }
 
 pub fn condition_to(s: &[u8], job: Job, k: u16) -> usize
-    ensures { λ r. ⌜ (r ≡ view job (now (s .entry)) .conditionTo k) × (r < 4294967296) ⌝ }
+    ensures { λ r. ⌜ (r ≡ view job (now (s .entry)) .conditionTo k) × (r < u32Values) ⌝ }
 {
     little_endian::u32_at(
         s,
@@ -120,7 +121,7 @@ pub fn effect_fact(s: &[u8], job: Job, k: u16) -> u16
 }
 
 pub fn effect_at(s: &[u8], job: Job, k: u16) -> usize
-    ensures { λ r. ⌜ (r ≡ view job (now (s .entry)) .effectAt k) × (r < 4294967296) ⌝ }
+    ensures { λ r. ⌜ (r ≡ view job (now (s .entry)) .effectAt k) × (r < u32Values) ⌝ }
 {
     little_endian::u32_at(s, job.at.effects as usize + WIDTHS[EFFECT] * k as usize + 4)
 }
@@ -144,13 +145,13 @@ pub fn use_level(s: &[u8], job: Job, k: u16) -> u16
 }
 
 pub fn use_at(s: &[u8], job: Job, k: u16) -> usize
-    ensures { λ r. ⌜ (r ≡ view job (now (s .entry)) .useAt k) × (r < 4294967296) ⌝ }
+    ensures { λ r. ⌜ (r ≡ view job (now (s .entry)) .useAt k) × (r < u32Values) ⌝ }
 {
     little_endian::u32_at(s, job.at.uses as usize + WIDTHS[USE] * k as usize + 4)
 }
 
 pub fn use_amount(s: &[u8], job: Job, k: u16) -> usize
-    ensures { λ r. ⌜ (r ≡ view job (now (s .entry)) .useAmount k) × (r < 4294967296) ⌝ }
+    ensures { λ r. ⌜ (r ≡ view job (now (s .entry)) .useAmount k) × (r < u32Values) ⌝ }
 {
     little_endian::biased_at(s, job.at.uses as usize + WIDTHS[USE] * k as usize + 8)
 }
@@ -171,7 +172,7 @@ pub fn goal_value(s: &[u8], job: Job, k: u16) -> u16
 pub const NO_DEADLINE: usize = 4294967295;
 
 pub fn goal_deadline(s: &[u8], job: Job, k: u16) -> usize
-    ensures { λ r. ⌜ (r ≡ view job (now (s .entry)) .goalDeadline k) × (r < 4294967296) ⌝ }
+    ensures { λ r. ⌜ (r ≡ view job (now (s .entry)) .goalDeadline k) × (r < u32Values) ⌝ }
 {
     little_endian::u32_at(s, job.at.goals as usize + WIDTHS[GOAL] * k as usize + 4)
 }

@@ -5,6 +5,7 @@ ghost use Prim.Native.Nat.{_+_, _*_, _<_};
 ghost use Rattle.job.specs.Layout.{stepWidth, conditionWidth, effectWidth, useWidth};
 ghost use Rattle.job.specs.Model.{view, conditionOf, effectOf, useOf};
 ghost use Rattle.job_reader.specs.Laid.{Laid};
+ghost use Rattle.little_endian.specs.Bytes.{u32Values};
 use crate::reader::JobReader;
 use job::layout::CONDITION;
 use job::layout::EFFECT;
@@ -53,7 +54,7 @@ pub fn is_laid(s: &[u8], job: Job) -> bool
 
 pub fn length_within(s: &[u8], job: Job, k: u16) -> usize
     requires { ⌜ Laid job (now s) × (k < job .count .steps) ⌝ }
-    ensures { λ r. ⌜ (r ≡ view job (now (s .entry)) .stepLength k) × (r < 4294967296) ⌝ }
+    ensures { λ r. ⌜ (r ≡ view job (now (s .entry)) .stepLength k) × (r < u32Values) ⌝ }
 {
     little_endian::u32_within(s, job.at.steps as usize + WIDTHS[STEP] * k as usize + 4)
 }

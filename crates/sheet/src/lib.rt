@@ -7,11 +7,12 @@ ghost use Rattle.laws.specs.Listed.{concatenate};
 ghost use Rattle.order_file.specs.Layout.{contentsOf};
 ghost use Rattle.sheet.specs.Text.{windowLine, orderLine, sheetText, refusedText, windowMost, orderMost, refusedMost, sheetMost};
 ghost use Rattle.sheet.specs.Put.{Put, Written};
+ghost use Rattle.little_endian.specs.Bytes.{u16Values};
 use order_file::layout;
 
 // Puts the lines of all steps.
 fn put_windows(file: &[u8], steps: usize, at: usize, out: &mut [u8]) -> usize
-    requires { ⌜ (at < 1000) × (steps < 65536) ⌝ }
+    requires { ⌜ (at < 1000) × (steps < u16Values) ⌝ }
     ensures { λ r. ⌜ Put (now (out .entry)) at (concatenate steps (windowLine (contentsOf (now (file .entry))))) (now (out .exit)) r
         × (r ≤ at + windowMost * steps) ⌝ }
 {
@@ -26,7 +27,7 @@ fn put_windows(file: &[u8], steps: usize, at: usize, out: &mut [u8]) -> usize
 
 // Puts the lines of all orders.
 fn put_orders(file: &[u8], orders: usize, at: usize, out: &mut [u8]) -> usize
-    requires { ⌜ (at < 10000000) × (orders < 65536) ⌝ }
+    requires { ⌜ (at < 10000000) × (orders < u16Values) ⌝ }
     ensures { λ r. ⌜ Put (now (out .entry)) at (concatenate orders (orderLine (contentsOf (now (file .entry))))) (now (out .exit)) r
         × (r ≤ at + orderMost * orders) ⌝ }
 {

@@ -4,6 +4,7 @@ ghost use Rattle.order_file.specs.Layout.{contentsOf};
 ghost use Rattle.order_file.specs.Contents.{gapSpan};
 ghost use Rattle.sheet.specs.Text.{latestText, gapText, headLine, windowLine, orderLine, headMost, windowMost, orderMost};
 ghost use Rattle.sheet.specs.Put.{Put};
+ghost use Rattle.little_endian.specs.Bytes.{u16Values, u32Values};
 use crate::put::put_decimal;
 use crate::put::put_field;
 use crate::put::put_word;
@@ -11,7 +12,7 @@ use order_file::layout;
 
 // Puts a latest start.
 fn put_latest(latest: usize, at: usize, out: &mut [u8]) -> usize
-    requires { ⌜ (at < 1000000000) × (latest < 4294967296) ⌝ }
+    requires { ⌜ (at < 1000000000) × (latest < u32Values) ⌝ }
     ensures { λ r. ⌜ Put (now (out .entry)) at (latestText latest) (now (out .exit)) r × (r ≤ at + 10) ⌝ }
 {
     if latest == layout::NO_LATEST as usize {
@@ -45,7 +46,7 @@ pub fn put_head(file: &[u8], at: usize, out: &mut [u8]) -> usize
 
 // Puts the line of a step.
 pub fn put_window(file: &[u8], k: usize, at: usize, out: &mut [u8]) -> usize
-    requires { ⌜ (at < 100000000) × (k < 65536) ⌝ }
+    requires { ⌜ (at < 100000000) × (k < u16Values) ⌝ }
     ensures { λ r. ⌜ Put (now (out .entry)) at (windowLine (contentsOf (now (file .entry))) k) (now (out .exit)) r × (r ≤ at + windowMost) ⌝ }
 {
     let step = put_field(b"step ", k, at, out);
@@ -57,7 +58,7 @@ pub fn put_window(file: &[u8], k: usize, at: usize, out: &mut [u8]) -> usize
 
 // Puts the line of an order.
 pub fn put_order(file: &[u8], k: usize, at: usize, out: &mut [u8]) -> usize
-    requires { ⌜ (at < 100000000) × (k < 65536) ⌝ }
+    requires { ⌜ (at < 100000000) × (k < u16Values) ⌝ }
     ensures { λ r. ⌜ Put (now (out .entry)) at (orderLine (contentsOf (now (file .entry))) k) (now (out .exit)) r × (r ≤ at + orderMost) ⌝ }
 {
     let first = put_field(b"order ", layout::first(file, k), at, out);
