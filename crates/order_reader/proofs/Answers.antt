@@ -10,7 +10,7 @@ use Rattle.verdict.specs.Verdict.{nowhere}
 use Rattle.laws.proofs.Search.{either}
 use Rattle.order_file.specs.Contents.{Contents}
 use Rattle.order_file.specs.Layout.{contentsOf}
-use Rattle.order_reader.specs.WellFormed.{wellFormed}
+use Rattle.order_check.specs.WellFormed.{wellFormed}
 use Rattle.order_reader.specs.Alike.{alikeContents}
 use Rattle.order_reader.specs.Answers.{noOrderFile, headerOf, headerRead, headerNumber, headerPlace, headerValues, HeaderPromise}
 use Rattle.order_reader.specs.Answers.{recordOf, recordThere, recordRead, recordNumber, recordPlace, recordValues, RecordPromise}

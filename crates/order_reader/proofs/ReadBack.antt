@@ -8,7 +8,7 @@ use borrow.Author.Tests.{lt-ltb, le-ltb}
 use Rattle.order_file.specs.Contents.{Contents, signedGap}
 use Rattle.order_file.specs.Layout.{fileEdition, windowsAt, ordersAt, linksAt, contentsOf}
 use Rattle.order_file.specs.Encode.{encode}
-use Rattle.order_reader.specs.WellFormed.{wellFormed}
+use Rattle.order_check.specs.WellFormed.{wellFormed}
 use Rattle.order_file.specs.Within.{Within}
 use Rattle.order_reader.specs.Answers.{headerOf, headerRead, recordCount, recordOf, recordThere, recordRead, recordValues}
 use Rattle.order_reader.specs.ReadBack.{ReadBack}
@@ -16,7 +16,7 @@ use Rattle.order_reader.specs.declared.HeaderRead.the-variants.{Header}
 use Rattle.order_reader.specs.declared.RecordRead.the-variants.{Window, Order, Link, Broken}
 use Rattle.order_file.proofs.RoundTrip.{round-trip, edition-back, steps-back, orders-back, links-back, rounds-back}
 use Rattle.order_file.proofs.RoundTrip.{windows-at-back, orders-at-back, links-at-back}
-use Rattle.order_reader.proofs.WellFormed.{encode-well-formed}
+use Rattle.order_check.proofs.WellFormed.{encode-well-formed}
 
 -- a record of a number not counted is not there
 record-missing : (b : List ℕ) (table k : ℕ) → recordCount (contentsOf b) table ≤ k → recordRead b table k ≡ Broken

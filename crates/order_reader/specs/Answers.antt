@@ -9,7 +9,7 @@ use Rattle.verdict.specs.Verdict.{nowhere}
 use Rattle.little_endian.specs.Bytes.{u16At, u32At}
 use Rattle.order_file.specs.Contents.{Contents, signedGap}
 use Rattle.order_file.specs.Layout.{contentsOf}
-use Rattle.order_reader.specs.WellFormed.{wellFormed}
+use Rattle.order_check.specs.WellFormed.{wellFormed}
 use Rattle.order_reader.specs.Alike.{alikeContents}
 use Rattle.order_reader.specs.declared.HeaderRead.{HeaderRead}
 use Rattle.order_reader.specs.declared.HeaderRead.the-variants as header

@@ -1,5 +1,4 @@
--- When bytes are an order file, and what the reader and the alike test answer.
-pub mod WellFormed
+-- What the reader and the alike test answer.
 pub mod Alike
 pub mod Answers
 pub mod ReadBack

@@ -1,5 +1,4 @@
 // Order files: the reader of a header and of one record, and the test whether two files are alike.
-mod checks;
 mod compare;
 pub mod numbers;
 
@@ -55,7 +54,7 @@ pub enum AlikeAnswer {
 pub fn read_header(file: &[u8]) -> HeaderRead
     ensures { λ r. ⌜ HeaderPromise (now (file .entry)) r ⌝ }
 {
-    if checks::well_formed(file) {
+    if order_check::well_formed(file) {
         HeaderRead::Header {
             edition: little_endian::u16_at(file, 0) as u16,
             steps: little_endian::u16_at(file, 2) as u16,
@@ -125,7 +124,7 @@ pub fn read_record(file: &[u8], table: u32, number: u32) -> RecordRead
     ensures { λ r. ⌜ RecordPromise (now (file .entry)) table number r ⌝ }
 {
     let k = number as usize;
-    if checks::well_formed(file) & (k < record_count(file, table)) {
+    if order_check::well_formed(file) & (k < record_count(file, table)) {
         record_of(file, table, k)
     } else {
         RecordRead::Broken
@@ -136,10 +135,10 @@ pub fn read_record(file: &[u8], table: u32, number: u32) -> RecordRead
 pub fn alike(a: &[u8], b: &[u8]) -> AlikeAnswer
     ensures { λ r. ⌜ AlikePromise (now (a .entry)) (now (b .entry)) r ⌝ }
 {
-    if !checks::well_formed(a) {
+    if !order_check::well_formed(a) {
         return AlikeAnswer::FirstBroken;
     }
-    if !checks::well_formed(b) {
+    if !order_check::well_formed(b) {
         return AlikeAnswer::SecondBroken;
     }
     if compare::same_contents(a, b) {

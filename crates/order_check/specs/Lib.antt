@@ -1,0 +1,2 @@
+-- When bytes are an order file.
+pub mod WellFormed

@@ -1,8 +1,0 @@
-use Rattle.order_reader.specs.WellFormed.{countsHold}
-use borrow.Author.Needs.{needs}
-use Rattle.order_reader.proofs.checks.counts_hold.Statement.{statement}
-use Rattle.order_reader.proofs.checks.counts_hold.Tie as tie
-
-pub counts-hold-spec : {M : Type 1} → statement M
-unfolding countsHold
-counts-hold-spec = tie.close (tie.spec (λ c κs. search needs) (λ c κs. search needs) (λ c κs. search needs) (λ c. cc))

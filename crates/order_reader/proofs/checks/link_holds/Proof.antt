@@ -1,8 +1,0 @@
-use Rattle.order_reader.specs.WellFormed.{linkHolds}
-use borrow.Author.Needs.{needs}
-use Rattle.order_reader.proofs.checks.link_holds.Statement.{statement}
-use Rattle.order_reader.proofs.checks.link_holds.Tie as tie
-
-pub link-holds-spec : {M : Type 1} → statement M
-unfolding linkHolds
-link-holds-spec = tie.close (tie.spec (λ c κs. search needs) (λ c. search needs) (λ c. cc))
