@@ -3,7 +3,7 @@ ghost use mathlib.Core.Path.{_≡_};
 ghost use lib.ListN.{length};
 ghost use Rattle.validity.specs.Checks.{jobCheck, scheduleCheck};
 ghost use Rattle.validity.specs.Promise.{JobPromise, SchedulePromise};
-ghost use Rattle.order_reader.specs.Answers.{headerRead, recordRead, alikeAnswer, HeaderPromise, RecordPromise, AlikePromise};
+ghost use Rattle.order_answers.specs.Answers.{headerRead, recordRead, alikeAnswer, HeaderPromise, RecordPromise, AlikePromise};
 ghost use Rattle.partialize.specs.Partialization.{answerTo, bufferAfter};
 ghost use Rattle.partialize.specs.Demands.{Promise};
 ghost use Rattle.packing.specs.Packed.{packedVerdict, packedAnswer, packedAlike, packedHeader, packedRecord};

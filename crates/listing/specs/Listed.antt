@@ -6,10 +6,10 @@ use lib.Dec.{eqb}
 use lib.IntN.{ℤ, pos, negsuc}
 use lib.ListN.{length, take, drop}
 use Rattle.little_endian.specs.Bytes.{u32Values}
-use Rattle.order_reader.specs.declared.HeaderRead.{HeaderRead}
-use Rattle.order_reader.specs.Answers.{headerNumber, headerValues, recordValues}
-use Rattle.order_reader.specs.declared.RecordRead.{RecordRead}
-use Rattle.order_reader.specs.declared.RecordRead.the-variants as recorded
+use Rattle.order_answers.specs.declared.HeaderRead.{HeaderRead}
+use Rattle.order_answers.specs.Answers.{headerNumber, headerValues, recordValues}
+use Rattle.order_answers.specs.declared.RecordRead.{RecordRead}
+use Rattle.order_answers.specs.declared.RecordRead.the-variants as recorded
 
 -- the numbers cut to the list's length, followed by the rest of the list
 unfoldable pub filled : List ℕ → List ℕ → List ℕ

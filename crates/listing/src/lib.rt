@@ -2,8 +2,8 @@
 ghost use mathlib.Core.Path.{_≡_};
 ghost use lib.ListN.{set};
 ghost use Rattle.listing.specs.Listed as spec;
-use order_reader::HeaderRead;
-use order_reader::RecordRead;
+use order_answers::HeaderRead;
+use order_answers::RecordRead;
 
 // Puts a number at an entry, if the list has that entry.
 fn put(at: usize, n: u32, list: &mut [u32])

@@ -4,7 +4,7 @@ ghost use mathlib.Core.Path.{_≡_};
 ghost use Prim.Native.Nat.{_<_};
 ghost use Rattle.laws.specs.Search.{all};
 ghost use Rattle.order_file.specs.Layout.{contentsOf};
-ghost use Rattle.order_reader.specs.Alike.{sameCounts, sameWindow, sameOrder, alikeContents};
+ghost use Rattle.order_answers.specs.Alike.{sameCounts, sameWindow, sameOrder, alikeContents};
 
 // As many steps and as many orders.
 fn same_counts(a: &[u8], b: &[u8]) -> bool

@@ -2,53 +2,15 @@
 mod compare;
 pub mod numbers;
 
+use order_answers::AlikeAnswer;
+use order_answers::HeaderRead;
+use order_answers::RecordRead;
 use order_file::layout;
 ghost use mathlib.Core.Path.{_≡_};
 ghost use Prim.Native.Nat.{_<_};
 ghost use Rattle.order_file.specs.Layout.{contentsOf};
 ghost use Rattle.order_file.specs.Contents.{gapSpan, signedGap};
-ghost use Rattle.order_reader.specs.Answers.{recordCount, recordOf, HeaderPromise, RecordPromise, AlikePromise};
-
-// What reading the header finds.
-pub enum HeaderRead {
-    Header {
-        edition: u16,
-        steps: u16,
-        orders: u16,
-        links: u16,
-        rounds: u32,
-        windows_at: u32,
-        orders_at: u32,
-        links_at: u32,
-    },
-    // The bytes are no order file.
-    Broken,
-}
-
-// What reading one record finds.
-pub enum RecordRead {
-    Window {
-        limit: u32,
-        latest: u32,
-        earliest: u32,
-    },
-    Order {
-        first: u16,
-        second: u16,
-        gap: i32,
-    },
-    Link(u16),
-    // The bytes are no order file, or the record is not there.
-    Broken,
-}
-
-// Whether two order files are alike, or which of them is none.
-pub enum AlikeAnswer {
-    Alike,
-    Different,
-    FirstBroken,
-    SecondBroken,
-}
+ghost use Rattle.order_answers.specs.Answers.{recordCount, recordOf, HeaderPromise, RecordPromise, AlikePromise};
 
 // All of the header's numbers.
 pub fn read_header(file: &[u8]) -> HeaderRead

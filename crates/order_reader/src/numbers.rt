@@ -1,11 +1,11 @@
 // The paper's number and place of each answer, and the numbers of a header.
-use crate::AlikeAnswer;
-use crate::HeaderRead;
-use crate::RecordRead;
+use order_answers::AlikeAnswer;
+use order_answers::HeaderRead;
+use order_answers::RecordRead;
 use verdict::NOWHERE;
 ghost use mathlib.Core.Path.{_≡_};
-ghost use Rattle.order_reader.specs.Answers.{headerNumber, headerPlace, headerValues, recordNumber, recordPlace};
-ghost use Rattle.order_reader.specs.Answers.{alikeNumber, alikePlace, alikeYes};
+ghost use Rattle.order_answers.specs.Answers.{headerNumber, headerPlace, headerValues, recordNumber, recordPlace};
+ghost use Rattle.order_answers.specs.Answers.{alikeNumber, alikePlace, alikeYes};
 
 // The refusal of a file that is no order file.
 const BROKEN: u16 = 16;

@@ -3,10 +3,10 @@ use Prim.Native.Nat.{ℕ, _+_, _*_, _^_}
 use mathlib.Core.Bool.{cond}
 use Rattle.verdict.specs.declared.Verdict.{Verdict}
 use Rattle.verdict.specs.Verdict as verdict
-use Rattle.order_reader.specs.declared.HeaderRead.{HeaderRead}
-use Rattle.order_reader.specs.declared.RecordRead.{RecordRead}
-use Rattle.order_reader.specs.declared.AlikeAnswer.{AlikeAnswer}
-use Rattle.order_reader.specs.Answers.{headerNumber, headerPlace, recordNumber, recordPlace, alikeYes, alikeNumber, alikePlace}
+use Rattle.order_answers.specs.declared.HeaderRead.{HeaderRead}
+use Rattle.order_answers.specs.declared.RecordRead.{RecordRead}
+use Rattle.order_answers.specs.declared.AlikeAnswer.{AlikeAnswer}
+use Rattle.order_answers.specs.Answers.{headerNumber, headerPlace, recordNumber, recordPlace, alikeYes, alikeNumber, alikePlace}
 use Rattle.partialize.specs.declared.answer.Answer.{Answer}
 use Rattle.partialize.specs.Answer as loosened
 

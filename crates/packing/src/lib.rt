@@ -1,9 +1,9 @@
 // An answer as one number.
 ghost use mathlib.Core.Path.{_≡_};
 ghost use Rattle.packing.specs.Packed as spec;
-use order_reader::AlikeAnswer;
-use order_reader::HeaderRead;
-use order_reader::RecordRead;
+use order_answers::AlikeAnswer;
+use order_answers::HeaderRead;
+use order_answers::RecordRead;
 use order_reader::numbers;
 use partialize::answer;
 use partialize::answer::Answer;

@@ -28,7 +28,7 @@ use Rattle.order_file.specs.Agree.{Agree}
 use Rattle.orders.specs.Satisfies.{Satisfies, SatisfiesFile}
 use Rattle.order_file.proofs.RoundTrip.{round-trip}
 use Rattle.order_check.proofs.WellFormed.{encode-well-formed}
-use Rattle.order_reader.proofs.ReadBack.{encoded-read-back}
+use Rattle.order_answers.proofs.ReadBack.{encoded-read-back}
 use Rattle.validity.proofs.EndState.{valid-ends}
 use Rattle.validity.proofs.Accepted.{schedule-promise}
 use Rattle.partialize.specs.declared.answer.Answer.{Answer}

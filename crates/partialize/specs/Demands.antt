@@ -19,7 +19,7 @@ use Rattle.order_file.specs.Contents.{Contents, gapBias}
 use Rattle.order_file.specs.Agree.{Agree}
 use Rattle.order_file.specs.Layout.{contentsOf}
 use Rattle.order_check.specs.WellFormed.{wellFormed}
-use Rattle.order_reader.specs.ReadBack.{ReadBack}
+use Rattle.order_answers.specs.ReadBack.{ReadBack}
 use Rattle.orders.specs.Supporter.{LinksSupported}
 use Rattle.orders.specs.Gaps.{gapOf}
 use Rattle.orders.specs.Satisfies.{SatisfiesFile}

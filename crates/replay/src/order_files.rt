@@ -2,7 +2,7 @@
 use crate::fields::read_field;
 use crate::fields::read_number;
 use crate::lines;
-use order_reader::RecordRead;
+use order_answers::RecordRead;
 use order_reader::numbers;
 
 // The table of the links, whose records have one number; those of the others have three.

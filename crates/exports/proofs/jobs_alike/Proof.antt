@@ -1,6 +1,6 @@
 use borrow.Author.Needs.{needs}
 use denote.Ref.{now}
-use Rattle.order_reader.specs.Answers.{AlikePromise}
+use Rattle.order_answers.specs.Answers.{AlikePromise}
 use Rattle.packing.specs.Packed.{packedAlike}
 use Rattle.exports.proofs.Carried.{carried}
 use Rattle.exports.proofs.jobs_alike.Statement.{statement}

@@ -1,7 +1,7 @@
 use mathlib.Core.Path.{ap, _∙_}
 use borrow.Author.Needs.{needs}
 use denote.Ref.{now}
-use Rattle.order_reader.specs.Answers.{HeaderPromise}
+use Rattle.order_answers.specs.Answers.{HeaderPromise}
 use Rattle.packing.specs.Packed.{packedHeader}
 use Rattle.listing.specs.Listed.{filled, headerList}
 use Rattle.exports.proofs.Carried.{carried}

@@ -1,7 +1,7 @@
 use mathlib.Core.Path.{ap, _∙_}
 use borrow.Author.Needs.{needs}
 use denote.Ref.{now}
-use Rattle.order_reader.specs.Answers.{RecordPromise}
+use Rattle.order_answers.specs.Answers.{RecordPromise}
 use Rattle.packing.specs.Packed.{packedRecord}
 use Rattle.listing.specs.Listed.{filled, recordList}
 use Rattle.exports.proofs.Carried.{carried}

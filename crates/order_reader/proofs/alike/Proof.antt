@@ -1,5 +1,5 @@
 use mathlib.Core.Bool.{true, false}
-use Rattle.order_reader.proofs.Answers.{first-broken, second-broken, both-compared}
+use Rattle.order_answers.proofs.Answers.{first-broken, second-broken, both-compared}
 use borrow.Author.Needs.{needs}
 use Rattle.order_reader.proofs.alike.Statement.{statement}
 use Rattle.order_reader.proofs.alike.Tie as tie

@@ -1,6 +1,6 @@
 use mathlib.Core.Path.{sym, _∙_}
-use Rattle.order_reader.specs.Answers.{headerOf, headerRead}
-use Rattle.order_reader.proofs.Answers.{header-promise}
+use Rattle.order_answers.specs.Answers.{headerOf, headerRead}
+use Rattle.order_answers.proofs.Answers.{header-promise}
 use borrow.Author.Needs.{needs}
 use Rattle.order_reader.proofs.read_header.Statement.{statement}
 use Rattle.order_reader.proofs.read_header.Tie as tie

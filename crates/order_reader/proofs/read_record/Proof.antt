@@ -5,8 +5,8 @@ use borrow.Author.Tests.{ltb-true}
 use native.Mathlib.Omega.{arith}
 use denote.Ref.{now}
 use lib.Dec.{ltb}
-use Rattle.order_reader.specs.Answers.{recordRead, recordThere}
-use Rattle.order_reader.proofs.Answers.{record-promise}
+use Rattle.order_answers.specs.Answers.{recordRead, recordThere}
+use Rattle.order_answers.proofs.Answers.{record-promise}
 use Rattle.laws.proofs.Search.{and-r}
 use Rattle.order_reader.proofs.read_record.Statement.{statement}
 use Rattle.order_reader.proofs.read_record.Tie as tie

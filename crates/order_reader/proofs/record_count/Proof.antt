@@ -1,5 +1,5 @@
 use borrow.Author.Tests.{eq-eqb, ne-eqb}
-use Rattle.order_reader.specs.Answers.{recordCount}
+use Rattle.order_answers.specs.Answers.{recordCount}
 use borrow.Author.Needs.{needs}
 use native.Mathlib.Omega.{arith}
 use Rattle.order_reader.proofs.record_count.Statement.{statement}

@@ -1,7 +1,7 @@
 use borrow.Author.Tests.{eq-eqb, ne-eqb}
 use mir.Syntax.{w32}
 use mir.Facts.{toZ-ofZ}
-use Rattle.order_reader.specs.Answers.{recordOf}
+use Rattle.order_answers.specs.Answers.{recordOf}
 use borrow.Author.Needs.{needs}
 use Rattle.order_reader.proofs.record_of.Statement.{statement}
 use Rattle.order_reader.proofs.record_of.Tie as tie

@@ -1,4 +1,4 @@
-use Rattle.order_reader.specs.Alike.{alikeContents}
+use Rattle.order_answers.specs.Alike.{alikeContents}
 use borrow.Author.Needs.{needs}
 use Rattle.order_reader.proofs.compare.same_contents.Statement.{statement}
 use Rattle.order_reader.proofs.compare.same_contents.Tie as tie

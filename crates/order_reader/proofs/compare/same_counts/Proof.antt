@@ -1,4 +1,4 @@
-use Rattle.order_reader.specs.Alike.{sameCounts}
+use Rattle.order_answers.specs.Alike.{sameCounts}
 use borrow.Author.Needs.{needs}
 use Rattle.order_reader.proofs.compare.same_counts.Statement.{statement}
 use Rattle.order_reader.proofs.compare.same_counts.Tie as tie

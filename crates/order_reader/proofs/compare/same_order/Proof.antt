@@ -1,4 +1,4 @@
-use Rattle.order_reader.specs.Alike.{sameOrder}
+use Rattle.order_answers.specs.Alike.{sameOrder}
 use borrow.Author.Needs.{needs}
 use Rattle.order_reader.proofs.compare.same_order.Statement.{statement}
 use Rattle.order_reader.proofs.compare.same_order.Tie as tie

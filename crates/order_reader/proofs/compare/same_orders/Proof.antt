@@ -1,6 +1,6 @@
 use Prim.Native.Nat.{_-_}
 use Rattle.order_file.specs.Layout.{contentsOf}
-use Rattle.order_reader.specs.Alike.{sameOrder}
+use Rattle.order_answers.specs.Alike.{sameOrder}
 use Rattle.order_check.proofs.Passed.{Passed, passed-start, passed-more, passed-found, passed-end}
 use borrow.Author.Needs.{needs}
 use native.Mathlib.Omega.{arith}

@@ -1,4 +1,4 @@
-use Rattle.order_reader.specs.Alike.{sameWindow}
+use Rattle.order_answers.specs.Alike.{sameWindow}
 use borrow.Author.Needs.{needs}
 use Rattle.order_reader.proofs.compare.same_window.Statement.{statement}
 use Rattle.order_reader.proofs.compare.same_window.Tie as tie

@@ -1,6 +1,6 @@
 use mathlib.Core.Path.{sym, ap}
 use borrow.Author.Needs.{needs}
-use Rattle.order_reader.specs.Answers.{headerValues}
+use Rattle.order_answers.specs.Answers.{headerValues}
 use Rattle.order_reader.proofs.numbers.header_values.Statement.{statement}
 use Rattle.order_reader.proofs.numbers.header_values.Tie as tie
 

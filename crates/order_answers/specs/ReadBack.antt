@@ -5,9 +5,9 @@ use mathlib.Core.List.{List, [], _∷_}
 use lib.IntN.{pos}
 use Rattle.order_file.specs.Contents.{Contents, signedGap}
 use Rattle.order_file.specs.Layout.{fileEdition, windowsAt, ordersAt, linksAt}
-use Rattle.order_reader.specs.Answers.{headerRead, recordCount, recordRead, recordValues}
-use Rattle.order_reader.specs.declared.HeaderRead.the-variants.{Header}
-use Rattle.order_reader.specs.declared.RecordRead.the-variants.{Window, Order, Link, Broken}
+use Rattle.order_answers.specs.Answers.{headerRead, recordCount, recordRead, recordValues}
+use Rattle.order_answers.specs.declared.HeaderRead.the-variants.{Header}
+use Rattle.order_answers.specs.declared.RecordRead.the-variants.{Window, Order, Link, Broken}
 
 pub record ReadBack (c : Contents) (file : List ℕ) : Type 0 where
   -- the edition, the counts, the rounds, and where the windows, the orders and the links begin

@@ -10,10 +10,10 @@ use Rattle.order_file.specs.Layout.{fileEdition, windowsAt, ordersAt, linksAt, 
 use Rattle.order_file.specs.Encode.{encode}
 use Rattle.order_check.specs.WellFormed.{wellFormed}
 use Rattle.order_file.specs.Within.{Within}
-use Rattle.order_reader.specs.Answers.{headerOf, headerRead, recordCount, recordOf, recordThere, recordRead, recordValues}
-use Rattle.order_reader.specs.ReadBack.{ReadBack}
-use Rattle.order_reader.specs.declared.HeaderRead.the-variants.{Header}
-use Rattle.order_reader.specs.declared.RecordRead.the-variants.{Window, Order, Link, Broken}
+use Rattle.order_answers.specs.Answers.{headerOf, headerRead, recordCount, recordOf, recordThere, recordRead, recordValues}
+use Rattle.order_answers.specs.ReadBack.{ReadBack}
+use Rattle.order_answers.specs.declared.HeaderRead.the-variants.{Header}
+use Rattle.order_answers.specs.declared.RecordRead.the-variants.{Window, Order, Link, Broken}
 use Rattle.order_file.proofs.RoundTrip.{round-trip, edition-back, steps-back, orders-back, links-back, rounds-back}
 use Rattle.order_file.proofs.RoundTrip.{windows-at-back, orders-at-back, links-at-back}
 use Rattle.order_check.proofs.WellFormed.{encode-well-formed}

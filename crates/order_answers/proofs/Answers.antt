@@ -11,15 +11,15 @@ use Rattle.laws.proofs.Search.{either}
 use Rattle.order_file.specs.Contents.{Contents}
 use Rattle.order_file.specs.Layout.{contentsOf}
 use Rattle.order_check.specs.WellFormed.{wellFormed}
-use Rattle.order_reader.specs.Alike.{alikeContents}
-use Rattle.order_reader.specs.Answers.{noOrderFile, headerOf, headerRead, headerNumber, headerPlace, headerValues, HeaderPromise}
-use Rattle.order_reader.specs.Answers.{recordOf, recordThere, recordRead, recordNumber, recordPlace, recordValues, RecordPromise}
-use Rattle.order_reader.specs.Answers.{alikeAnswer, alikeNumber, alikePlace, alikeYes, AlikePromise}
-use Rattle.order_reader.specs.declared.HeaderRead.{HeaderRead}
-use Rattle.order_reader.specs.declared.RecordRead.{RecordRead}
-use Rattle.order_reader.specs.declared.RecordRead.the-variants.{Broken}
-use Rattle.order_reader.specs.declared.AlikeAnswer.{AlikeAnswer}
-use Rattle.order_reader.specs.declared.AlikeAnswer.the-variants.{Alike, Different, FirstBroken, SecondBroken}
+use Rattle.order_answers.specs.Alike.{alikeContents}
+use Rattle.order_answers.specs.Answers.{noOrderFile, headerOf, headerRead, headerNumber, headerPlace, headerValues, HeaderPromise}
+use Rattle.order_answers.specs.Answers.{recordOf, recordThere, recordRead, recordNumber, recordPlace, recordValues, RecordPromise}
+use Rattle.order_answers.specs.Answers.{alikeAnswer, alikeNumber, alikePlace, alikeYes, AlikePromise}
+use Rattle.order_answers.specs.declared.HeaderRead.{HeaderRead}
+use Rattle.order_answers.specs.declared.RecordRead.{RecordRead}
+use Rattle.order_answers.specs.declared.RecordRead.the-variants.{Broken}
+use Rattle.order_answers.specs.declared.AlikeAnswer.{AlikeAnswer}
+use Rattle.order_answers.specs.declared.AlikeAnswer.the-variants.{Alike, Different, FirstBroken, SecondBroken}
 
 -- the number, the place and the values follow from the answer
 pub header-promise : (b : List ℕ) (r : HeaderRead) → r ≡ headerRead b → HeaderPromise b r

@@ -10,13 +10,13 @@ use Rattle.little_endian.specs.Bytes.{u16At, u32At}
 use Rattle.order_file.specs.Contents.{Contents, signedGap}
 use Rattle.order_file.specs.Layout.{contentsOf}
 use Rattle.order_check.specs.WellFormed.{wellFormed}
-use Rattle.order_reader.specs.Alike.{alikeContents}
-use Rattle.order_reader.specs.declared.HeaderRead.{HeaderRead}
-use Rattle.order_reader.specs.declared.HeaderRead.the-variants as header
-use Rattle.order_reader.specs.declared.RecordRead.{RecordRead}
-use Rattle.order_reader.specs.declared.RecordRead.the-variants as recorded
-use Rattle.order_reader.specs.declared.AlikeAnswer.{AlikeAnswer}
-use Rattle.order_reader.specs.declared.AlikeAnswer.the-variants.{Alike, Different, FirstBroken, SecondBroken}
+use Rattle.order_answers.specs.Alike.{alikeContents}
+use Rattle.order_answers.specs.declared.HeaderRead.{HeaderRead}
+use Rattle.order_answers.specs.declared.HeaderRead.the-variants as header
+use Rattle.order_answers.specs.declared.RecordRead.{RecordRead}
+use Rattle.order_answers.specs.declared.RecordRead.the-variants as recorded
+use Rattle.order_answers.specs.declared.AlikeAnswer.{AlikeAnswer}
+use Rattle.order_answers.specs.declared.AlikeAnswer.the-variants.{Alike, Different, FirstBroken, SecondBroken}
 
 -- the refusal of a file that is no order file, or of a record that is not there
 abbrev pub noOrderFile : ℕ
