@@ -8,4 +8,7 @@ unfolding ascends
 ascends-at-spec =
     tie.close
     (tie.spec (λ c κs. search needs) (λ c. search needs) (λ c κs. search needs) (λ c κs. search needs) (λ c. search needs)
-    (λ c κs. search needs) (λ c. cc))
+    (λ c κs. search needs)
+    (λ c.
+    let firsts = c .before .before in
+    simp (firsts .before .first .ensures .0, firsts .first2 .ensures .0, c .before .second .ensures .0, c .second2 .ensures .0)))

@@ -5,4 +5,4 @@ use Rattle.order_check.proofs.link_holds.Tie as tie
 
 pub link-holds-spec : {M : Type 1} → statement M
 unfolding linkHolds
-link-holds-spec = tie.close (tie.spec (λ c κs. search needs) (λ c. search needs) (λ c. cc))
+link-holds-spec = tie.close (tie.spec (λ c κs. search needs) (λ c. search needs) (λ c. simp (c .link .ensures .0)))

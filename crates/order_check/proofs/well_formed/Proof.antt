@@ -1,8 +1,4 @@
-use mathlib.Core.Path.{_≡_}
-use mathlib.Core.Bool.{true, false, _&&_}
-use denote.Ref.{now}
-use Rattle.order_file.specs.Layout.{contentsOf}
-use Rattle.order_check.specs.WellFormed.{layoutHolds, lengthHolds, countsHold, wellFormed}
+use Rattle.order_check.specs.WellFormed.{wellFormed}
 use borrow.Author.Needs.{needs}
 use Rattle.order_check.proofs.well_formed.Statement.{statement}
 use Rattle.order_check.proofs.well_formed.Tie as tie
@@ -14,11 +10,19 @@ well-formed-spec =
     (tie.spec (λ c κs. search needs) (λ c κs. search needs) (λ c κs. search needs) (λ c κs. search needs) (λ c κs. search needs)
     (λ c κs. search needs) (λ c κs. search needs) (λ c κs. search needs)
     (λ c.
-    let test = c .before .before .before .before .before in
-    let b = now (test .before .before .before .before .before .args .file) in
-    let e : (layoutHolds b && lengthHolds b && countsHold (contentsOf b)) ≡ true = cc in
-    simp e (cc))
+    let links = c .before .before in
+    let test = links .before .before .before in
+    let laid = test .before in
+    let e = simp (laid .before .before .layout-holds .ensures, laid .before .length-holds .ensures, laid .counts-hold .ensures) at (test .if1 .taken) in
+    simp (
+      e,
+      links .before .before .orders-hold .ensures,
+      links .before .orders-ascend .ensures,
+      links .links-hold .ensures,
+      c .before .rounds-hold .ensures,
+      c .windows-hold .ensures,
+    ))
     (λ c.
-    let b = now (c .before .before .before .before .before .args .file) in
-    let e : (layoutHolds b && lengthHolds b && countsHold (contentsOf b)) ≡ false = cc in
+    let laid = c .before in
+    let e = simp (laid .before .before .layout-holds .ensures, laid .before .length-holds .ensures, laid .counts-hold .ensures) at (c .if1 .left) in
     simp e))
