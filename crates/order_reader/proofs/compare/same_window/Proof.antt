@@ -7,4 +7,7 @@ pub same-window-spec : {M : Type 1} → statement M
 unfolding sameWindow
 same-window-spec =
     tie.close
-    (tie.spec (λ c κs. search needs) (λ c κs. search needs) (λ c κs. search needs) (λ c κs. search needs) (λ c. cc))
+    (tie.spec (λ c κs. search needs) (λ c κs. search needs) (λ c κs. search needs) (λ c κs. search needs)
+    (λ c.
+    let limits = c .before .before in
+    simp (limits .before .limit .ensures .0, limits .limit2 .ensures .0, c .before .latest .ensures .0, c .latest2 .ensures .0)))
