@@ -1,6 +1,4 @@
--- What passes refusals 1 to 7 is well formed; the tests of refusal 7, and when it passes.
+-- What passes refusals 1 to 7 is well formed, and what their numbers and places say.
 pub mod WellFormed
 pub mod Refused
-pub mod Steps
-pub mod Unopposed
-pub mod Laid
+pub mod Decides

@@ -23,12 +23,14 @@ use Rattle.job.specs.declared.layout.Table.the-variants.{Facts, Levels, Steps, 
 use Rattle.job.specs.declared.layout.Counts.{Counts}
 use Rattle.job.specs.Layout.{edition, headerWidth, highest, countsOf, countList, positionsOf, countTooHigh}
 use Rattle.job.specs.Model.{Model, modelOf}
-use Rattle.form.specs.Header.{layoutAgrees, headerCheck}
-use Rattle.form.specs.Ranges.{countIn, recordBroken}
-use Rattle.form.specs.Against.{bothWays, usesTwice, opposesOwn, setBefore, usedBefore, opposesAny, bothWaysStep, usesTwiceStep, opposesOwnStep}
-use Rattle.form.specs.Refusals.{tableCheck, recordCheck, againstStep, stepCheck, formCheck}
+use Rattle.records.specs.Header.{layoutAgrees, headerCheck}
+use Rattle.records.specs.Ranges.{countIn, recordBroken}
+use Rattle.records.specs.Records.{tableCheck, recordCheck}
+use Rattle.records.proofs.Ranged.{table-zero, tables, counts}
+use Rattle.against.specs.Against.{bothWays, usesTwice, opposesOwn, setBefore, usedBefore, opposesAny, bothWaysStep, usesTwiceStep, opposesOwnStep}
+use Rattle.against.specs.Against.{againstStep, stepCheck}
+use Rattle.form.specs.Refusals.{formCheck}
 use Rattle.form.specs.Refused.{tableNumber, FirstOutOfRange, SetsBothWays, UsesOneTwice, OpposesItsOwn, AgainstItself, FirstAgainst, FormRefusal}
-use Rattle.form.proofs.WellFormed.{table-zero, tables, counts}
 
 -- refusals 1 to 7 in turn
 abbrev formStep : List ℕ → ℕ → Verdict

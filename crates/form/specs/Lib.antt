@@ -1,7 +1,3 @@
--- When a job file is well formed: refusals 1 to 7.
-pub mod Header
-pub mod Ranges
-pub mod Against
-pub mod Keys
+-- When a job file is well formed, and what a refusal of its form says.
 pub mod Refusals
 pub mod Refused

@@ -20,12 +20,14 @@ use Rattle.laws.proofs.Search.{either, last-or-below}
 use Rattle.laws.proofs.Nth.{nth-facts, nth-is}
 use Rattle.verdict.specs.declared.Verdict.the-variants.{Accepted}
 use Rattle.job.specs.Layout.{countsOf, tableAt, positionsOf, jobOf, countTooHigh}
-use Rattle.form.specs.Header.{layoutAgrees, headerCheck}
+use Rattle.records.specs.Header.{layoutAgrees, headerCheck}
 use Rattle.job.specs.Model.{Model, modelOf}
 use Rattle.verdict.specs.Verdict.{_then_, refuseIf, refuseLowest}
-use Rattle.form.specs.Ranges.{factOk, levelOk, stepOk, conditionOk, effectOk, useOk, goalOk}
-use Rattle.form.specs.Against.{bothWays, usesTwice, opposesOwn, setBefore, usedBefore, opposesAny, bothWaysStep, usesTwiceStep, opposesOwnStep}
-use Rattle.form.specs.Refusals.{tableCheck, recordCheck, againstStep, stepCheck, formCheck}
+use Rattle.records.specs.Ranges.{factOk, levelOk, stepOk, conditionOk, effectOk, useOk, goalOk}
+use Rattle.records.specs.Records.{tableCheck, recordCheck}
+use Rattle.against.specs.Against.{bothWays, usesTwice, opposesOwn, setBefore, usedBefore, opposesAny, bothWaysStep, usesTwiceStep, opposesOwnStep}
+use Rattle.against.specs.Against.{againstStep, stepCheck}
+use Rattle.form.specs.Refusals.{formCheck}
 use Rattle.validity.specs.Ticks.{planned}
 use Rattle.validity.specs.Seen.{givenAt, lastGiven, seen, afterAll}
 use Rattle.validity.specs.Levels.{risesBefore, fallsBefore}

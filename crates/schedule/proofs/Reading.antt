@@ -9,10 +9,13 @@ use Rattle.job.specs.declared.layout.Job.{Job}
 use Rattle.job_reader.specs.Laid.{Laid}
 use Rattle.job.specs.Model.{Model, view}
 use Rattle.job.specs.WellFormed.{WellFormed, Ranged}
-use Rattle.form.specs.Refusals.{stepCheck, formCheck}
-use Rattle.form.proofs.WellFormed.{ranged, well-formed}
-use Rattle.form.proofs.Laid.{passed-laid}
-use Rattle.form.proofs.Unopposed.{steps-pass, form-passes, records-passed}
+use Rattle.records.proofs.Ranged.{ranged}
+use Rattle.records.proofs.Laid.{passed-laid}
+use Rattle.against.specs.Against.{stepCheck}
+use Rattle.against.proofs.Unopposed.{steps-pass}
+use Rattle.form.specs.Refusals.{formCheck}
+use Rattle.form.proofs.WellFormed.{well-formed}
+use Rattle.form.proofs.Decides.{form-passes, records-passed}
 use Rattle.validity.specs.Ticks.{effectTick}
 use Rattle.schedule.specs.Opened.{Read}
 use Rattle.schedule.specs.Timed.{Clear}

@@ -4,11 +4,12 @@ use mathlib.Core.Path.{_≡_, sym, ap, _∙_}
 use mathlib.Core.List.{List}
 use Rattle.verdict.specs.Verdict.{number}
 use Rattle.job.specs.Layout.{jobOf}
-use Rattle.form.specs.declared.Form.{Form}
+use Rattle.records.specs.declared.Form.{Form}
+use Rattle.records.proofs.Ranged.{read-ranged}
+use Rattle.records.proofs.Laid.{read-laid}
 use Rattle.form.specs.Refusals.{formCheck, FormPromise}
 use Rattle.form.proofs.WellFormed.{well-formed}
-use Rattle.form.proofs.Laid.{read-laid}
-use Rattle.form.proofs.Unopposed.{read-ranged, read-refused, read-passed}
+use Rattle.form.proofs.Decides.{read-refused, read-passed}
 use borrow.Author.Needs.{needs}
 use Rattle.form.proofs.read_form.Statement.{statement}
 use Rattle.form.proofs.read_form.Tie as tie

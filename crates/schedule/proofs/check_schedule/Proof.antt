@@ -5,7 +5,7 @@ use Rattle.verdict.specs.Verdict.{number, _then_}
 use Rattle.verdict.proofs.Chain.{then-refused}
 use Rattle.job.specs.declared.layout.Job.{Job}
 use Rattle.job.specs.Model.{view}
-use Rattle.form.proofs.Unopposed.{read-refused}
+use Rattle.form.proofs.Decides.{read-refused}
 use Rattle.validity.specs.Checks.{startsCheck, scheduleCheck}
 use Rattle.validity.proofs.Accepted.{schedule-promise}
 use Rattle.schedule.specs.Opened.{Read}

@@ -1,0 +1,3 @@
+-- The tests of refusal 7, and when it passes.
+pub mod Steps
+pub mod Unopposed

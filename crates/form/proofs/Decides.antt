@@ -1,0 +1,35 @@
+-- What refusals 1 to 6 leave of the form check to refusal 7.
+use Prim.Native.Nat.{ℕ}
+use mathlib.Core.Path.{_≡_, sym, ap, _∙_}
+use mathlib.Core.List.{List}
+use Rattle.verdict.specs.Verdict.{number, _then_}
+use Rattle.verdict.proofs.Chain.{then-refused, then-accepted, zero-then}
+use Rattle.job.specs.declared.layout.Job.{Job}
+use Rattle.job.specs.Model.{view, modelOf}
+use Rattle.records.specs.declared.Form.{Form}
+use Rattle.records.specs.Header.{headerCheck}
+use Rattle.records.specs.Records.{recordCheck, RecordsPromise}
+use Rattle.against.specs.Against.{stepCheck}
+use Rattle.form.specs.Refusals.{formCheck}
+
+-- refusals 1 to 6 pass, so refusal 7 decides; or one of them stands
+module _ (s : List ℕ) where
+  pub form-passes : number (headerCheck s then recordCheck (modelOf s)) ≡ 0 → number (stepCheck (modelOf s)) ≡ 0 → number (formCheck s) ≡ 0
+  unfolding formCheck
+  form-passes = zero-then _ _
+
+  pub records-passed : number (headerCheck s then recordCheck (modelOf s)) ≡ 0 → stepCheck (modelOf s) ≡ formCheck s
+  unfolding formCheck
+  records-passed = then-accepted _ _
+
+  pub records-refused : (number (headerCheck s then recordCheck (modelOf s)) ≡ 0 → ⊥) → (headerCheck s then recordCheck (modelOf s)) ≡ formCheck s
+  unfolding formCheck
+  records-refused = then-refused _ _
+
+-- the same of records that were read: the verdict of the form check with and without refusal 7
+module _ {s : List ℕ} {r : Form} (p : RecordsPromise s r) where
+  pub read-refused : (number (r .verdict) ≡ 0 → ⊥) → r .verdict ≡ formCheck s
+  read-refused n = p .verdict ∙ records-refused s (λ z. n (ap number (p .verdict) ∙ z))
+
+  pub read-passed : number (r .verdict) ≡ 0 → stepCheck (view (r .job) s) ≡ formCheck s
+  read-passed z = ap (λ (j : Job). stepCheck (view j s)) (p .job) ∙ records-passed s (sym (ap number (p .verdict)) ∙ z)
