@@ -6,10 +6,10 @@ use Rattle.verdict.specs.Verdict.{number, _then_}
 use Rattle.verdict.proofs.Chain.{then-refused, then-accepted, zero-then}
 use Rattle.job.specs.declared.layout.Job.{Job}
 use Rattle.job.specs.Model.{view, modelOf}
-use Rattle.records.specs.declared.Form.{Form}
-use Rattle.records.specs.Header.{headerCheck}
-use Rattle.records.specs.Records.{recordCheck, RecordsPromise}
-use Rattle.against.specs.Against.{stepCheck}
+use Rattle.record_check.specs.declared.Form.{Form}
+use Rattle.record_check.specs.Header.{headerCheck}
+use Rattle.record_check.specs.Records.{recordCheck, RecordsPromise}
+use Rattle.self_check.specs.Against.{stepCheck}
 use Rattle.form.specs.Refusals.{formCheck}
 
 -- refusals 1 to 6 pass, so refusal 7 decides; or one of them stands

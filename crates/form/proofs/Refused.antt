@@ -23,12 +23,12 @@ use Rattle.job.specs.declared.layout.Table.the-variants.{Facts, Levels, Steps, 
 use Rattle.job.specs.declared.layout.Counts.{Counts}
 use Rattle.job.specs.Layout.{edition, headerWidth, highest, countsOf, countList, positionsOf, countTooHigh}
 use Rattle.job.specs.Model.{Model, modelOf}
-use Rattle.records.specs.Header.{layoutAgrees, headerCheck}
-use Rattle.records.specs.Ranges.{countIn, recordBroken}
-use Rattle.records.specs.Records.{tableCheck, recordCheck}
-use Rattle.records.proofs.Ranged.{table-zero, tables, counts}
-use Rattle.against.specs.Against.{bothWays, usesTwice, opposesOwn, setBefore, usedBefore, opposesAny, bothWaysStep, usesTwiceStep, opposesOwnStep}
-use Rattle.against.specs.Against.{againstStep, stepCheck}
+use Rattle.record_check.specs.Header.{layoutAgrees, headerCheck}
+use Rattle.record_check.specs.Ranges.{countIn, recordBroken}
+use Rattle.record_check.specs.Records.{tableCheck, recordCheck}
+use Rattle.record_check.proofs.Ranged.{table-zero, tables, counts}
+use Rattle.self_check.specs.Against.{bothWays, usesTwice, opposesOwn, setBefore, usedBefore, opposesAny, bothWaysStep, usesTwiceStep, opposesOwnStep}
+use Rattle.self_check.specs.Against.{againstStep, stepCheck}
 use Rattle.form.specs.Refusals.{formCheck}
 use Rattle.form.specs.Refused.{tableNumber, FirstOutOfRange, SetsBothWays, UsesOneTwice, OpposesItsOwn, AgainstItself, FirstAgainst, FormRefusal}
 

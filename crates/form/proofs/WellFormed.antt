@@ -15,10 +15,10 @@ use Rattle.job.specs.declared.layout.Table.the-variants.{Levels, Steps, Effects
 use Rattle.job.specs.Layout.{mostGoals, countsOf, jobOf}
 use Rattle.job.specs.Model.{Model, modelOf}
 use Rattle.job.specs.WellFormed.{WellFormed, Ranged}
-use Rattle.records.specs.Ranges.{recordOk, countIn}
-use Rattle.records.proofs.Ranged.{tables, counts, header, ranged, level-in, step-in, effect-in, use-in, goal-in}
-use Rattle.against.specs.Against.{bothWays, usesTwice, opposesOwn, setBefore, usedBefore, opposesAny, bothWaysStep, usesTwiceStep, opposesOwnStep}
-use Rattle.against.specs.Against.{againstStep, stepCheck}
+use Rattle.record_check.specs.Ranges.{recordOk, countIn}
+use Rattle.record_check.proofs.Ranged.{tables, counts, header, ranged, level-in, step-in, effect-in, use-in, goal-in}
+use Rattle.self_check.specs.Against.{bothWays, usesTwice, opposesOwn, setBefore, usedBefore, opposesAny, bothWaysStep, usesTwiceStep, opposesOwnStep}
+use Rattle.self_check.specs.Against.{againstStep, stepCheck}
 use Rattle.form.specs.Refusals.{formCheck}
 
 -- where three tests of four pass and not all four do, the fourth fails

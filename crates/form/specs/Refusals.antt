@@ -7,10 +7,10 @@ use Rattle.verdict.specs.Verdict.{number, _then_}
 use Rattle.job.specs.Layout.{jobOf}
 use Rattle.job.specs.Model.{modelOf}
 use Rattle.job.specs.WellFormed.{WellFormed}
-use Rattle.records.specs.declared.Form.{Form}
-use Rattle.records.specs.Header.{headerCheck}
-use Rattle.records.specs.Records.{recordCheck}
-use Rattle.against.specs.Against.{stepCheck}
+use Rattle.record_check.specs.declared.Form.{Form}
+use Rattle.record_check.specs.Header.{headerCheck}
+use Rattle.record_check.specs.Records.{recordCheck}
+use Rattle.self_check.specs.Against.{stepCheck}
 
 -- refusals 1 to 7
 unfoldable pub formCheck : List ℕ → Verdict

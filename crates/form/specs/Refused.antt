@@ -12,8 +12,8 @@ use Rattle.job.specs.declared.layout.Table.{Table}
 use Rattle.job.specs.declared.layout.Table.the-variants.{Facts, Levels, Steps, Conditions, Effects, Uses, Goals}
 use Rattle.job.specs.Layout.{edition, headerWidth, highest, countsOf, countList, positionsOf}
 use Rattle.job.specs.Model.{Model, modelOf}
-use Rattle.records.specs.Header.{layoutAgrees}
-use Rattle.records.specs.Ranges.{countIn, recordOk}
+use Rattle.record_check.specs.Header.{layoutAgrees}
+use Rattle.record_check.specs.Ranges.{countIn, recordOk}
 
 -- the tables in their order
 abbrev pub tableNumber : Table → ℕ

@@ -5,8 +5,8 @@ ghost use Rattle.form.specs.Refusals.{formCheck, FormPromise};
 ghost use Rattle.form.specs.Refused.{FormRefusal};
 ghost use Rattle.verdict.specs.Verdict.{number as numberOf};
 ghost use Rattle.job.specs.WellFormed.{WellFormed};
-use records::Form;
-use records::read_records;
+use record_check::Form;
+use record_check::read_records;
 use verdict::Verdict;
 use verdict::number;
 
@@ -20,7 +20,7 @@ pub fn read_form(s: &[u8]) -> Form
         return form;
     }
     let job = form.job;
-    let verdict = against::check_steps(s, job);
+    let verdict = self_check::check_steps(s, job);
     Form { verdict, job }
 }
 

@@ -20,13 +20,13 @@ use Rattle.laws.proofs.Search.{either, last-or-below}
 use Rattle.laws.proofs.Nth.{nth-facts, nth-is}
 use Rattle.verdict.specs.declared.Verdict.the-variants.{Accepted}
 use Rattle.job.specs.Layout.{countsOf, tableAt, positionsOf, jobOf, countTooHigh}
-use Rattle.records.specs.Header.{layoutAgrees, headerCheck}
+use Rattle.record_check.specs.Header.{layoutAgrees, headerCheck}
 use Rattle.job.specs.Model.{Model, modelOf}
 use Rattle.verdict.specs.Verdict.{_then_, refuseIf, refuseLowest}
-use Rattle.records.specs.Ranges.{factOk, levelOk, stepOk, conditionOk, effectOk, useOk, goalOk}
-use Rattle.records.specs.Records.{tableCheck, recordCheck}
-use Rattle.against.specs.Against.{bothWays, usesTwice, opposesOwn, setBefore, usedBefore, opposesAny, bothWaysStep, usesTwiceStep, opposesOwnStep}
-use Rattle.against.specs.Against.{againstStep, stepCheck}
+use Rattle.record_check.specs.Ranges.{factOk, levelOk, stepOk, conditionOk, effectOk, useOk, goalOk}
+use Rattle.record_check.specs.Records.{tableCheck, recordCheck}
+use Rattle.self_check.specs.Against.{bothWays, usesTwice, opposesOwn, setBefore, usedBefore, opposesAny, bothWaysStep, usesTwiceStep, opposesOwnStep}
+use Rattle.self_check.specs.Against.{againstStep, stepCheck}
 use Rattle.form.specs.Refusals.{formCheck}
 use Rattle.validity.specs.Ticks.{planned}
 use Rattle.validity.specs.Seen.{givenAt, lastGiven, seen, afterAll}

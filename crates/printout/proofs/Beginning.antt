@@ -19,7 +19,7 @@ use Rattle.verdict.specs.Verdict.{number, place, _then_, refuseIf}
 use Rattle.verdict.proofs.Chain.{then-refused, first-refused, then-zero, refuse-zero}
 use Rattle.job.specs.declared.layout.Counts.{Counts}
 use Rattle.job.specs.Layout.{edition, headerWidth, countsOf, countList, highest, tableAt, positionsOf, countTooHigh}
-use Rattle.records.specs.Header.{layoutAgrees, headerCheck}
+use Rattle.record_check.specs.Header.{layoutAgrees, headerCheck}
 use Rattle.form.specs.Refusals.{formCheck}
 use Rattle.validity.specs.Checks.{jobCheck}
 use Rattle.partialize.specs.Partialization.{accepts}

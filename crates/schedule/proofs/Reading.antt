@@ -9,10 +9,10 @@ use Rattle.job.specs.declared.layout.Job.{Job}
 use Rattle.job_reader.specs.Laid.{Laid}
 use Rattle.job.specs.Model.{Model, view}
 use Rattle.job.specs.WellFormed.{WellFormed, Ranged}
-use Rattle.records.proofs.Ranged.{ranged}
-use Rattle.records.proofs.Laid.{passed-laid}
-use Rattle.against.specs.Against.{stepCheck}
-use Rattle.against.proofs.Unopposed.{steps-pass}
+use Rattle.record_check.proofs.Ranged.{ranged}
+use Rattle.record_check.proofs.Laid.{passed-laid}
+use Rattle.self_check.specs.Against.{stepCheck}
+use Rattle.self_check.proofs.Unopposed.{steps-pass}
 use Rattle.form.specs.Refusals.{formCheck}
 use Rattle.form.proofs.WellFormed.{well-formed}
 use Rattle.form.proofs.Decides.{form-passes, records-passed}

@@ -8,9 +8,9 @@ use Rattle.job.specs.Layout.{jobOf}
 use Rattle.job_reader.specs.Laid.{Laid}
 use Rattle.job.specs.Model.{view, modelOf}
 use Rattle.job.specs.WellFormed.{Ranged}
-use Rattle.records.specs.declared.Form.{Form}
-use Rattle.records.specs.Header.{headerCheck}
-use Rattle.records.specs.Records.{recordCheck}
+use Rattle.record_check.specs.declared.Form.{Form}
+use Rattle.record_check.specs.Header.{headerCheck}
+use Rattle.record_check.specs.Records.{recordCheck}
 use Rattle.validity.specs.Ticks.{scheduleOf, plannedStarts}
 use Rattle.validity.specs.Promise.{JobPromise}
 use Rattle.points.specs.Points.{PointsKnown}

@@ -6,7 +6,7 @@ ghost use Rattle.job.specs.Model.{view};
 ghost use Rattle.job.specs.WellFormed.{Ranged};
 ghost use Rattle.verdict.specs.declared.Verdict.the-variants.{Accepted};
 ghost use Rattle.verdict.specs.Verdict.{_then_};
-ghost use Rattle.against.specs.Against.{stepCheck};
+ghost use Rattle.self_check.specs.Against.{stepCheck};
 ghost use Rattle.validity.specs.declared.Rule.the-variants.{FixedSteps};
 ghost use Rattle.validity.specs.Ticks.{scheduleOf};
 ghost use Rattle.validity.specs.Checks.{ruleCheck, timingCheck, countCheck, startsCheck};
@@ -25,7 +25,7 @@ use points::words::MOST_GROUPS;
 use points::words::MOST_POINTS;
 use points::words::is_small;
 use points::words::list_points;
-use records::Form;
+use record_check::Form;
 use values::conditions;
 use values::effects;
 use values::goals;
@@ -124,7 +124,7 @@ fn check_named(s: &[u8], job: Job, starts: &[u32], points: &[u64], begins: &[u16
     requires { ⌜ Ordered (now s) job (now starts) (now points) (now begins) ⌝ }
     ensures { λ r. ⌜ r ≡ (stepCheck (view job (now (s .entry))) then startsCheck (view job (now (s .entry))) (now (starts .entry))) ⌝ }
 {
-    let v = against::check_steps(s, job);
+    let v = self_check::check_steps(s, job);
     if number(v) != 0 {
         return v;
     }
@@ -174,7 +174,7 @@ fn check_read(s: &[u8], job: Job, starts: &[u32]) -> Verdict
 pub fn open_job(s: &[u8]) -> Form
     ensures { λ r. ⌜ Opened (now (s .entry)) r ⌝ }
 {
-    records::read_records(s)
+    record_check::read_records(s)
 }
 
 // The job check of a file that 1 to 6 pass, whose points at its written starts are in order: for whoever needs them as well.
@@ -204,7 +204,7 @@ pub fn check_job(s: &[u8]) -> Verdict
 pub fn check_schedule(s: &[u8], starts: &[u32]) -> Verdict
     ensures { λ r. ⌜ SchedulePromise (now (s .entry)) (now (starts .entry)) r ⌝ }
 {
-    let form = records::read_records(s);
+    let form = record_check::read_records(s);
     let v = form.verdict;
     if number(v) != 0 {
         return v;

@@ -4,9 +4,9 @@ use mathlib.Core.Path.{_≡_, sym, ap, _∙_}
 use mathlib.Core.List.{List}
 use Rattle.verdict.specs.Verdict.{number}
 use Rattle.job.specs.Layout.{jobOf}
-use Rattle.records.specs.declared.Form.{Form}
-use Rattle.records.proofs.Ranged.{read-ranged}
-use Rattle.records.proofs.Laid.{read-laid}
+use Rattle.record_check.specs.declared.Form.{Form}
+use Rattle.record_check.proofs.Ranged.{read-ranged}
+use Rattle.record_check.proofs.Laid.{read-laid}
 use Rattle.form.specs.Refusals.{formCheck, FormPromise}
 use Rattle.form.proofs.WellFormed.{well-formed}
 use Rattle.form.proofs.Decides.{read-refused, read-passed}

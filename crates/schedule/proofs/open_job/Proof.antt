@@ -2,8 +2,8 @@
 use mathlib.Core.Path.{sym, ap, _∙_}
 use Rattle.verdict.specs.Verdict.{number}
 use Rattle.verdict.proofs.Chain.{then-refused}
-use Rattle.records.proofs.Ranged.{read-ranged}
-use Rattle.records.proofs.Laid.{read-laid}
+use Rattle.record_check.proofs.Ranged.{read-ranged}
+use Rattle.record_check.proofs.Laid.{read-laid}
 use Rattle.form.proofs.Decides.{read-refused}
 use Rattle.validity.specs.Checks.{jobCheck}
 use Rattle.validity.proofs.Accepted.{job-promise}

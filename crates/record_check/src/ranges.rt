@@ -1,0 +1,183 @@
+// Refusal 6: a record that breaks its ranges or names what is not counted.
+ghost use mathlib.Core.Path.{_≡_};
+ghost use mathlib.Core.List.{List};
+ghost use Prim.Native.Nat.{ℕ, _≤_, _<_};
+ghost use Rattle.laws.specs.Search.{lowest};
+ghost use Rattle.job_reader.specs.Laid.{Laid};
+ghost use Rattle.job.specs.Model.{view};
+ghost use Rattle.record_check.specs.Ranges.{factOk, levelInRange, levelOk, stepOk, conditionOk, effectOk, useOk, goalOk, recordOk, recordBroken, countIn};
+ghost use Rattle.record_check.specs.Records.{tableCheck, recordCheck};
+ghost use Rattle.verdict.specs.Verdict.{_then_};
+use job::layout::HIGHEST_AMOUNT;
+use job::layout::HIGHEST_LEVEL;
+use job::layout::Job;
+use job::layout::LAST_DEADLINE;
+use job::layout::LAST_START;
+use job::layout::LONGEST;
+use job::layout::LOWEST_AMOUNT;
+use job::layout::LOWEST_LEVEL;
+use job::layout::Table;
+use job::records::NO_DEADLINE;
+use job_reader::laid::*;
+use job_reader::reader::fact_at;
+use job_reader::reader::goal_at;
+use job_reader::reader::level_at;
+use job_reader::reader::step_at;
+use little_endian::SIGN_BIAS;
+use verdict::Verdict;
+use verdict::number;
+
+fn fact_ok(s: &[u8], job: Job, k: u16) -> bool
+    ensures { λ r. ⌜ r ≡ factOk (view job (now (s .entry))) k ⌝ }
+{
+    fact_at(s, job, k) <= 1
+}
+
+fn level_in_range(n: usize) -> bool
+    ensures { λ r. ⌜ r ≡ levelInRange n ⌝ }
+{
+    (LOWEST_LEVEL <= n) & (n <= HIGHEST_LEVEL)
+}
+
+fn level_ok(s: &[u8], job: Job, k: u16) -> bool
+    ensures { λ r. ⌜ r ≡ levelOk (view job (now (s .entry))) k ⌝ }
+{
+    let level = level_at(s, job, k);
+    level_in_range(level.initial)
+        & level_in_range(level.least)
+        & level_in_range(level.most)
+        & (level.least <= level.initial)
+        & (level.initial <= level.most)
+}
+
+fn step_ok(s: &[u8], job: Job, k: u16) -> bool
+    ensures { λ r. ⌜ r ≡ stepOk (view job (now (s .entry))) k ⌝ }
+{
+    let step = step_at(s, job, k);
+    (step.start <= LAST_START) & (step.length <= LONGEST) & (step.fixed <= 1)
+}
+
+fn condition_ok(s: &[u8], job: Job, k: u16) -> bool
+    requires { ⌜ Laid job (now s) × (k < job .count .conditions) ⌝ }
+    ensures { λ r. ⌜ r ≡ conditionOk (view job (now (s .entry))) k ⌝ }
+{
+    let c = condition_of(s, job, k);
+    if job.count.steps <= c.step {
+        return false;
+    }
+    (c.fact < job.count.facts)
+        & (c.from <= c.to)
+        & (c.to <= length_within(s, job, c.step))
+        & (c.value <= 1)
+}
+
+fn effect_ok(s: &[u8], job: Job, k: u16) -> bool
+    requires { ⌜ Laid job (now s) × (k < job .count .effects) ⌝ }
+    ensures { λ r. ⌜ r ≡ effectOk (view job (now (s .entry))) k ⌝ }
+{
+    let e = effect_of(s, job, k);
+    if job.count.steps <= e.step {
+        return false;
+    }
+    (e.fact < job.count.facts) & (e.at <= length_within(s, job, e.step)) & (e.value <= 1)
+}
+
+fn use_ok(s: &[u8], job: Job, k: u16) -> bool
+    requires { ⌜ Laid job (now s) × (k < job .count .uses) ⌝ }
+    ensures { λ r. ⌜ r ≡ useOk (view job (now (s .entry))) k ⌝ }
+{
+    let u = use_of(s, job, k);
+    if job.count.steps <= u.step {
+        return false;
+    }
+    (u.level < job.count.levels)
+        & (u.at <= length_within(s, job, u.step))
+        & (LOWEST_AMOUNT <= u.amount)
+        & (u.amount <= HIGHEST_AMOUNT)
+        & (u.amount != SIGN_BIAS)
+}
+
+fn goal_ok(s: &[u8], job: Job, k: u16) -> bool
+    ensures { λ r. ⌜ r ≡ goalOk (view job (now (s .entry))) k ⌝ }
+{
+    let goal = goal_at(s, job, k);
+    (goal.fact < job.count.facts)
+        & (goal.value <= 1)
+        & ((goal.deadline <= LAST_DEADLINE) | (goal.deadline == NO_DEADLINE))
+}
+
+fn record_ok(s: &[u8], job: Job, table: Table, k: u16) -> bool
+    requires { ⌜ Laid job (now s) × (k < countIn (view job (now s)) table) ⌝ }
+    ensures { λ r. ⌜ r ≡ recordOk (view job (now (s .entry))) table k ⌝ }
+{
+    match table {
+        Table::Facts => fact_ok(s, job, k),
+        Table::Levels => level_ok(s, job, k),
+        Table::Steps => step_ok(s, job, k),
+        Table::Conditions => condition_ok(s, job, k),
+        Table::Effects => effect_ok(s, job, k),
+        Table::Uses => use_ok(s, job, k),
+        Table::Goals => goal_ok(s, job, k),
+    }
+}
+
+fn count_in(job: Job, table: Table) -> u16
+    ensures { λ r. ⌜ ((s : List ℕ) → r ≡ countIn (view job s) table) ⌝ }
+{
+    match table {
+        Table::Facts => job.count.facts,
+        Table::Levels => job.count.levels,
+        Table::Steps => job.count.steps,
+        Table::Conditions => job.count.conditions,
+        Table::Effects => job.count.effects,
+        Table::Uses => job.count.uses,
+        Table::Goals => job.count.goals,
+    }
+}
+
+// The lowest of the first n records of a table that is broken, or n.
+fn first_broken(s: &[u8], job: Job, table: Table, n: u16) -> u16
+    requires { ⌜ Laid job (now s) × (n ≤ countIn (view job (now s)) table) ⌝ }
+    ensures { λ r. ⌜ r ≡ lowest n (recordBroken (view job (now (s .entry))) table) ⌝ }
+{
+    let mut k = 0;
+    while k < n {
+        if !record_ok(s, job, table, k) {
+            return k;
+        }
+        k += 1;
+    }
+    k
+}
+
+fn table_after(before: Verdict, s: &[u8], job: Job, table: Table) -> Verdict
+    requires { ⌜ Laid job (now s) ⌝ }
+    ensures { λ r. ⌜ r ≡ (before then tableCheck (view job (now (s .entry))) table) ⌝ }
+{
+    if number(before) != 0 {
+        return before;
+    }
+    let n = count_in(job, table);
+    let k = first_broken(s, job, table, n);
+    if k < n {
+        Verdict::RecordOutOfRange(k)
+    } else {
+        Verdict::Accepted
+    }
+}
+
+// Refusal 6: the tables in their order, in each the lowest broken record. They lie within the bytes where refusal 5 passed.
+pub fn check_records(s: &[u8], job: Job) -> Verdict
+    ensures { λ r. ⌜ (Laid job (now (s .entry)) → r ≡ recordCheck (view job (now (s .entry)))) ⌝ }
+{
+    if !is_laid(s, job) {
+        return Verdict::LayoutDisagrees;
+    }
+    let v = table_after(Verdict::Accepted, s, job, Table::Facts);
+    let v = table_after(v, s, job, Table::Levels);
+    let v = table_after(v, s, job, Table::Steps);
+    let v = table_after(v, s, job, Table::Conditions);
+    let v = table_after(v, s, job, Table::Effects);
+    let v = table_after(v, s, job, Table::Uses);
+    table_after(v, s, job, Table::Goals)
+}
