@@ -33,7 +33,9 @@ module _ (m : Model) (k j : ℕ) {x y : ℕ} where
 
   pub both-ways-rest :
       x ≡ m .effectAt k → y ≡ m .effectAt j → x ≡ y
-      → (eqb (m .effectStep k) (m .effectStep j) && eqb (m .effectFact k) (m .effectFact j) && not (eqb (m .effectValue k) (m .effectValue j))) ≡ bothWays m k j
+      → (eqb (m .effectStep k) (m .effectStep j) && eqb (m .effectFact k) (m .effectFact j)
+      && not (eqb (m .effectValue k) (m .effectValue j)))
+      ≡ bothWays m k j
   unfolding bothWays
   both-ways-rest p q e = simp (eq-eqb (m .effectAt k) (m .effectAt j) (sym p ∙ e ∙ q), and-true)
 
@@ -58,7 +60,12 @@ module _ (m : Model) (k j : ℕ) {x y : ℕ} where
   pub opposes-rest :
       {v w : ℕ} → v ≡ m .effectFact k → w ≡ m .conditionFact j → v ≡ w
       → x ≡ m .effectValue k → y ≡ m .conditionValue j → (x ≡ y → ⊥)
-      → (eqb (m .effectStep k) (m .conditionStep j) && leb (m .conditionFrom j) (m .effectAt k) && ltb (m .effectAt k) (m .conditionTo j)) ≡ opposesOwn m k j
+      → (eqb (m .effectStep k) (m .conditionStep j) && leb (m .conditionFrom j) (m .effectAt k) && ltb (m .effectAt k) (m .conditionTo j))
+      ≡ opposesOwn m k j
   unfolding opposesOwn
   opposes-rest a b d p q n =
-      simp (eq-eqb (m .effectFact k) (m .conditionFact j) (sym a ∙ d ∙ b), ne-eqb (m .effectValue k) (m .conditionValue j) (λ e. n (p ∙ e ∙ sym q)), and-true)
+      simp (
+        eq-eqb (m .effectFact k) (m .conditionFact j) (sym a ∙ d ∙ b),
+        ne-eqb (m .effectValue k) (m .conditionValue j) (λ e. n (p ∙ e ∙ sym q)),
+        and-true,
+      )

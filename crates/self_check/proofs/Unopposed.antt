@@ -48,7 +48,8 @@ module _ (m : Model) where
       denied (c .1) (h e f l (omega arith) (eqb-true _ _ (a .0)) (eqb-true _ _ (a .1)) (eqb-true _ _ (b .1))))))
 
   one-use-passes :
-      ((u v : ℕ) → u < m .uses → v < m .uses → m .useStep u ≡ m .useStep v → m .useLevel u ≡ m .useLevel v → m .useAt u ≡ m .useAt v → u ≡ v)
+      ((u v : ℕ) → u < m .uses → v < m .uses → m .useStep u ≡ m .useStep v → m .useLevel u ≡ m .useLevel v → m .useAt u ≡ m .useAt v
+      → u ≡ v)
       → usesTwiceStep m ≡ m .steps
   unfolding usesTwiceStep usedBefore usesTwice
   one-use-passes h =
@@ -83,7 +84,8 @@ pub steps-pass :
     → ((e f : ℕ) → e < m .effects → f < m .effects → m .effectStep e ≡ m .effectStep f → m .effectFact e ≡ m .effectFact f
     → m .effectAt e ≡ m .effectAt f
     → m .effectValue e ≡ m .effectValue f)
-    → ((u v : ℕ) → u < m .uses → v < m .uses → m .useStep u ≡ m .useStep v → m .useLevel u ≡ m .useLevel v → m .useAt u ≡ m .useAt v → u ≡ v)
+    → ((u v : ℕ) → u < m .uses → v < m .uses → m .useStep u ≡ m .useStep v → m .useLevel u ≡ m .useLevel v → m .useAt u ≡ m .useAt v
+    → u ≡ v)
     → ((e c : ℕ) → e < m .effects → c < m .conditions → m .effectStep e ≡ m .conditionStep c → m .effectFact e ≡ m .conditionFact c
     → m .conditionFrom c ≤ m .effectAt e
     → m .effectAt e < m .conditionTo c

@@ -20,4 +20,5 @@ check-steps-spec =
     (λ c κs. search needs) (λ c κs. search needs) (λ c κs. search needs) (λ c κs. search needs)
     (λ c.
     let d = c .before in
-    c .refuse-if .ensures ∙ accepted-then _ ∙ rw (d .lower .ensures, d .before .uses-against .ensures, d .before .before .effects-against .ensures, lowest-of)))
+    c .refuse-if .ensures ∙ accepted-then _
+    ∙ rw (d .lower .ensures, d .before .uses-against .ensures, d .before .before .effects-against .ensures, lowest-of)))

@@ -15,7 +15,8 @@ pub overlaps-later-spec : {M : Type 1} → statement M
 overlaps-later-spec =
     tie.close
     (tie.spec
-    (λ starts finishes n i start end found₀ k₀ found k. (i < k) × (k ≤ n) × (found ≡ any k (overlapLater (scheduleOf starts) (scheduleOf finishes) i)))
+    (λ starts finishes n i start end found₀ k₀ found k.
+    (i < k) × (k ≤ n) × (found ≡ any k (overlapLater (scheduleOf starts) (scheduleOf finishes) i)))
     (λ starts finishes n i start end found₀ k₀ found k. n - k)
     (λ c. search needs)
     (λ c. let p = c .before .before .before .pre in omega (arith, p .0, p .1))
@@ -33,7 +34,9 @@ overlaps-later-spec =
     (λ c. omega (arith, c .before .loop-test .taken, c .before .before .before .before .before .before .before .before .pre .1))
     (λ c κs. search needs)
     (λ c. search needs)
-    (λ c. omega (arith, c .before .before .before .loop-test .taken, c .before .before .before .before .before .before .before .before .before .before .pre .2))
+    (λ c.
+    let d = c .before .before .before in
+    omega (arith, d .loop-test .taken, d .before .before .before .before .before .before .before .pre .2))
     (λ c. search needs)
     (λ c. omega (arith, c .before .before .before .loop-test .taken))
     (λ c.

@@ -20,7 +20,9 @@ sums-at-spec =
     (λ c. search needs)
     (λ c. let i = c .before .before .before .loop .inv in omega (arith, i .given .1 .ends, c .before .if1 .taken))
     (λ c κs. search needs)
-    (λ c. let i = c .before .before .before .before .before .loop .inv in gathering-ends i (λ _. omega (arith, c .before .tick-of2 .ensures .0, c .if2 .taken)))
+    (λ c.
+    let i = c .before .before .before .before .before .loop .inv in
+    gathering-ends i (λ _. omega (arith, c .before .tick-of2 .ensures .0, c .if2 .taken)))
     (λ c κs. search needs)
     (λ c κs.
     let i = c .before .before .before .before .before .before .loop .inv in
