@@ -172,4 +172,4 @@ check-file-spec 𝓤 H 𝓜 𝓖 𝓡 =
     (tables 𝓤 H 𝓜 𝓡 code.env .C) (tables 𝓤 H 𝓜 𝓡 code.env .Λ) #records·tables·check-file code.function (code.unfolded 𝓤 H 𝓜 𝓡)
     (meets 𝓤 H (𝓖 .A) (givenOf 𝓤 H 𝓜 𝓖) (𝓜 .mem) (𝓡 .run) (tablesOf 𝓤 H 𝓜 (tables 𝓤 H 𝓜 𝓡 code.env))
     (cited 𝓤 H (Check 𝓤 H (𝓖 .A) (𝓜 .mem) (𝓡 .run)) 𝓜 𝓡 code.env #records·tables·check-tables check-tables-def.routine
-    code.calls-records·tables·check-tables (check-tables-thm.met 𝓤 H 𝓜 𝓖 𝓡)))
+    code.calls-record-check·tables·check-tables (check-tables-thm.met 𝓤 H 𝓜 𝓖 𝓡)))
