@@ -27,12 +27,12 @@ use order_file::table::higher;
 use points::ticks::finish;
 use points::ticks::start_of;
 use rows::origin::Fact;
-use rows::origin::OTHER;
 use rows::origin::SAME;
 use rows::origin::raise;
 use rows::origin::strictly;
 use rows::raise_among;
 use rows::raise_conditions;
+use rows::raise_setters;
 use timeline::word::begin_at;
 
 // How many values a start has.
@@ -83,7 +83,7 @@ fn fill_opposing(job: Job, starts: &[u32], points: &[u64], begins: &[u16], gaps:
     while f < n {
         let low = begin_at(begins, f);
         let high = begin_at(begins, f + 1);
-        raise_among(steps, starts, points, low, high, OTHER, gaps);
+        raise_setters(steps, starts, points, low, high, gaps);
         f += 1;
     }
 }

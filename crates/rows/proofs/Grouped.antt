@@ -13,7 +13,6 @@ use lib.Seq.{getD-set-same, getD-set-other}
 use Rattle.laws.proofs.Search.{and-both, contrary}
 use Rattle.job.specs.Model.{Model, longest}
 use Rattle.timeline.specs.Words.{wordStep, wordValue, wordNumber, wordTick, stepAt, valueAt, tickAt, valueSpan}
-use Rattle.timeline.specs.Placed.{Parted}
 use Rattle.orders.specs.Gaps.{strictly}
 use Rattle.order_file.specs.Table.{gapIn, gapOfEntry, Gaps, rowWidth, tableSize, entryBias, tableBias, emptyLimit}
 use Rattle.order_file.specs.Contents.{stepLimit, mostGap}
@@ -102,18 +101,20 @@ module _ (n : ℕ) (x : ℕ → ℕ) (origin : Origin) (word : ℕ) where
       (λ i k v a o. (gapOfEntry entry, omega (arith, o .4, made), (o .2, there ∙ o .3, refl)))
 
 module _ (x : ℕ → ℕ) (points : List ℕ) where
-  -- the leads of what is noted say the same as the points from the origin's tick on
-  ahead-after :
-      (n low high noted : ℕ) (origin : Origin) (leads before after : List ℕ) → Group n x points low high → n ≤ stepLimit
-      → Parted points low high (origin .tick) noted
+  -- the leads of what is noted say the same as the points from the origin's tick on, if nothing before is from that tick on, and all that is
+  -- noted of the origin's value is
+  pub ahead-after :
+      (n low high noted : ℕ) (origin : Origin) (leads before after : List ℕ) → Group n x points low high → n ≤ stepLimit → low ≤ noted
+      → ((p : ℕ) → low ≤ p → p < noted → tickAt points p < origin .tick)
+      → ((p : ℕ) → noted ≤ p → p < high → valueAt points p ≡ origin .value → origin .tick ≤ tickAt points p)
       → Leads x points noted high leads
       → Reached n (Ahead origin leads) before after
       → Reached n (After x points low high origin) before after
-  ahead-after n low high noted origin leads before after group few parts noting w =
+  ahead-after n low high noted origin leads before after group few begins early late noting w =
       reached-is n (Ahead origin leads) (After x points low high origin) before after w
       (λ i k gap a o.
       let f = noting .found (leadPlace (origin .value) k) (o .1) in
-      let from : low ≤ f .0 = omega (arith, parts .from, f .1) in
+      let from : low ≤ f .0 = omega (arith, begins, f .1) in
       let step : stepAt points (f .0) < n = group .step (f .0) from (f .2) in
       let near : offsetAt x points (f .0) ≤ longest = group .near (f .0) from (f .2) in
       let under : k < n = a .1 in
@@ -124,7 +125,7 @@ module _ (x : ℕ → ℕ) (points : List ℕ) where
         f .2,
         (
           value,
-          parts .after (f .0) (f .1) (f .2),
+          late (f .0) (f .1) (f .2) value,
           o .0,
           omega (arith, f .3, value),
           omega (arith, o .2, f .4),
@@ -144,7 +145,7 @@ module _ (x : ℕ → ℕ) (points : List ℕ) where
       within : (p : ℕ) → low ≤ p → origin .tick ≤ tickAt points p → noted ≤ p
       within p a b =
           elim (decLt p noted) [
-            | yes l ↦ absurd (omega (arith, parts .before p a l))
+            | yes l ↦ absurd (omega (arith, early p a l))
             | no l ↦ omega arith
           ]
 
@@ -185,7 +186,7 @@ module _ (x : ℕ → ℕ) (points : List ℕ) where
       after-given n low high before now e (after-later n low high p origin before now group a b (omega (arith, ap (λ o. o .tick) e)) w)
 
   -- Leads: of nothing, and with one more point.
-  leads-start : (noted high : ℕ) → high ≤ noted → Leads x points noted high (replicate (valueSpan * rowWidth) 0)
+  pub leads-start : (noted high : ℕ) → high ≤ noted → Leads x points noted high (replicate (valueSpan * rowWidth) 0)
   leads-start noted high h =
       record {
         size = length-replicate {A = ℕ} (valueSpan * rowWidth) 0;
@@ -217,7 +218,20 @@ module _ (x : ℕ → ℕ) (points : List ℕ) where
             omega (arith, f .4, group .near (f .0) (omega (arith, f .1)) (f .2));
       }
 
-  leads-more :
+  -- those of a group of n steps lead to these
+  pub leads-below :
+      (n low noted high : ℕ) (leads : List ℕ) → Group n x points low high → low ≤ noted → Leads x points noted high leads → LeadsKnown n leads
+  leads-below n low noted high leads group from w =
+      record {
+        each = leads-known n low noted high leads group from w;
+        below =
+            λ value step small l.
+            let f = w .found (leadPlace value step) l in
+            let inside : stepAt points (f .0) < n = group .step (f .0) (omega (arith, from, f .1)) (f .2) in
+            omega (arith, f .3);
+      }
+
+  pub leads-more :
       (p high : ℕ) (leads : List ℕ) → 0 < p → p ≤ high → stepAt points (p - 1) < rowWidth → Leads x points p high leads
       → Leads x points (p - 1) high (leadsWith x (getD points (p - 1) 0) leads)
   leads-more p high leads some end low w =
@@ -346,15 +360,7 @@ module _ {n : ℕ} {x : ℕ → ℕ} {points : List ℕ} {origin : ℕ → Origi
 
     module _ {now : List ℕ} {next : ℕ} (back : NotedBack x points low high (o .tick) next now) where
       pub rowing-known : LeadsKnown n now
-      rowing-known =
-          record {
-            each = leads-known x points n low next high now group (back .parts .from) (back .ahead);
-            below =
-                λ value step small l.
-                let f = back .ahead .found (leadPlace value step) l in
-                let inside : stepAt points (f .0) < n = group .step (f .0) (omega (arith, back .parts .from, f .1)) (f .2) in
-                omega (arith, f .3);
-          }
+      rowing-known = leads-below x points n low next high now group (back .parts .from) (back .ahead)
 
       pub rowing-more :
           {raised : List ℕ} → ((r s : ℕ) → begin ≤ r → r < s → s < end → origin (getD points r 0) .tick ≤ origin (getD points s 0) .tick)
@@ -372,7 +378,8 @@ module _ {n : ℕ} {x : ℕ → ℕ} {points : List ℕ} {origin : ℕ → Origi
             reached =
                 within-down _ _ _ _ _ p (p - 1) _ (omega arith) upto (w .reached)
                 (after-given x points n low high gaps raised e
-                (ahead-after x points n low high next o now gaps raised group few (back .parts) (back .ahead) r));
+                (ahead-after x points n low high next o now gaps raised group few (back .parts .from) (back .parts .before)
+                (λ q a b v. back .parts .after q a b) (back .ahead) r));
           }
 
 -- the row of an origin's step, and the leads of its value

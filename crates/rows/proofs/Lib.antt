@@ -3,4 +3,5 @@ pub mod Row
 pub mod Raised
 pub mod Reached
 pub mod Grouped
+pub mod Setters
 pub mod Beside

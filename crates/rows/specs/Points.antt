@@ -40,6 +40,11 @@ pub record Group (n : ℕ) (x : ℕ → ℕ) (points : List ℕ) (low high : ℕ
   pub begun : (p : ℕ) → low ≤ p → p < high → x (stepAt points p) ≤ tickAt points p
   pub near : (p : ℕ) → low ≤ p → p < high → offsetAt x points p ≤ longest
 
+-- of its points with different values the one that stands behind is later
+abbrev pub ValuesApart : List ℕ → ℕ → ℕ → Type 0
+ValuesApart points low high =
+    (p q : ℕ) → low ≤ p → p < q → q < high → (valueAt points p ≡ valueAt points q → ⊥) → tickAt points p < tickAt points q
+
 -- a point that orders can lead to
 pub record Notable (x : ℕ → ℕ) (word : ℕ) : Type 0 where
   pub step : wordStep word < rowWidth

@@ -3,7 +3,7 @@ ghost use Prim.Native.Nat.{_≤_};
 ghost use Rattle.job.specs.Model.{view};
 ghost use Rattle.validity.specs.Ticks.{scheduleOf};
 ghost use Rattle.order_file.specs.Table.{Gaps};
-ghost use Rattle.rows.specs.Points.{Group, FactKnown, Reached, FactOrder, FromPoints};
+ghost use Rattle.rows.specs.Points.{Group, ValuesApart, FactKnown, Reached, FactOrder, FromPoints};
 ghost use Rattle.order_file.specs.Contents.{stepLimit};
 
 pub mod origin;
@@ -18,9 +18,31 @@ use pairs::pair_among;
 use pairs::pair_conditions;
 use rows::row_conditions;
 use rows::row_points;
+use rows::row_setters;
 
 // From how many points on a row is cheaper than the pairs.
 const MANY: usize = 8;
+
+// Orders the setters of a fact among themselves: each before the later ones of the other value.
+pub fn raise_setters(
+    n: usize,
+    starts: &[u32],
+    points: &[u64],
+    low: usize,
+    high: usize,
+    gaps: &mut [u32],
+)
+    requires { ⌜ Gaps (now gaps) × (n ≤ stepLimit) × Group n (scheduleOf (now starts)) (now points) low high
+        × ValuesApart (now points) low high ⌝ }
+    ensures { λ _. ⌜ Reached n (FromPoints (scheduleOf (now (starts .entry))) (now (points .entry)) low high 1)
+        (now (gaps .entry)) (now (gaps .exit)) ⌝ }
+{
+    if high - low < MANY {
+        pair_among(starts, points, low, high, OTHER, gaps);
+    } else {
+        row_setters(n, starts, points, low, high, gaps);
+    }
+}
 
 // Orders the points of a group among themselves: each before the later ones of the other value or of the same, by `turn`.
 pub fn raise_among(

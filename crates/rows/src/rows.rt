@@ -6,11 +6,12 @@ ghost use lib.ListN.{getD};
 ghost use Rattle.job.specs.Model.{view};
 ghost use Rattle.validity.specs.Ticks.{scheduleOf};
 ghost use Rattle.order_file.specs.Table.{Gaps, rowWidth};
-ghost use Rattle.rows.specs.Points.{OriginKnown, Group, FactKnown, Reached, FromTo, FromConditions};
+ghost use Rattle.rows.specs.Points.{OriginKnown, Group, ValuesApart, FactKnown, Reached, FromPoints, FromTo, FromConditions};
 ghost use Rattle.rows.specs.Points.{Notable, Noting, NotedBack, leadsWith, LeadKnown, LeadsKnown, RowKnown, Rowed, dueAt, Ahead};
 ghost use Rattle.order_file.specs.Contents.{stepLimit};
 use crate::origin::AT_START;
 use crate::origin::Fact;
+use crate::origin::OTHER;
 use crate::origin::Origin;
 use crate::origin::Span;
 use crate::origin::last_origin;
@@ -103,6 +104,32 @@ fn raise_row(n: usize, origin: Origin, leads: &[u32; LEADS], gaps: &mut [u32])
         raise_whole(row, ahead, at, leads, gaps);
     } else {
         raise_part(n, row, ahead, at, leads, gaps);
+    }
+}
+
+// Each setter of a fact before the later ones of the other value: the latest setter first, by a row. As what stands behind it and has the
+// other value is later, no tick is looked at.
+pub fn row_setters(
+    n: usize,
+    starts: &[u32],
+    points: &[u64],
+    low: usize,
+    high: usize,
+    gaps: &mut [u32],
+)
+    requires { ⌜ Gaps (now gaps) × (n ≤ stepLimit) × Group n (scheduleOf (now starts)) (now points) low high
+        × ValuesApart (now points) low high ⌝ }
+    ensures { λ _. ⌜ Reached n (FromPoints (scheduleOf (now (starts .entry))) (now (points .entry)) low high 1)
+        (now (gaps .entry)) (now (gaps .exit)) ⌝ }
+{
+    let mut leads = [NO_LEAD; LEADS];
+    let mut p = high;
+    while low < p {
+        p -= 1;
+        let word = points[p];
+        let origin = point_origin(starts, word, OTHER);
+        raise_row(n, origin, &leads, gaps);
+        note(starts, word, &mut leads);
     }
 }
 

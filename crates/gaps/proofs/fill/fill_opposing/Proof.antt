@@ -5,6 +5,7 @@ use native.Mathlib.Omega.{arith}
 use borrow.Author.Needs.{needs}
 use denote.Ref.{now}
 use Rattle.validity.specs.Ticks.{scheduleOf}
+use Rattle.points.proofs.Placed.{valid-one-value, placed-apart}
 use Rattle.rows.specs.Points.{Reached, Among}
 use Rattle.rows.proofs.Reached.{within-up, within-all, within-empty}
 use Rattle.gaps.proofs.Rules.{given-points, OpposingOrder, opposing-known, opposing-raised}
@@ -41,7 +42,8 @@ fill-opposing-spec =
       l .loop .inv .1 .whole (d .pre .2),
       d .pre .1 .form .stepCount,
       rw (low .begin-at .ensures .0, high .begin-at2 .ensures .0) (opposing-known (d .pre .1) _ (test .loop-test .taken)),
-      omega arith,
+      rw (low .begin-at .ensures .0, high .begin-at2 .ensures .0)
+          (placed-apart (d .pre .1 .known) _ (test .loop-test .taken) (valid-one-value (d .pre .1 .form) (d .pre .1 .valid))),
     ))
     (λ c.
     let test = c .before .before .before .before .before .before in
@@ -58,7 +60,7 @@ fill-opposing-spec =
       omega (arith, test .loop-test .taken),
       within-up _ _ _ _ _ _ _ (omega arith) (l .loop .inv .1)
           (given-points _ (scheduleOf (now (a .starts))) (now (a .points)) _ _ 1 (low .begin-at .ensures .0) (high .begin-at2 .ensures .0)
-          (raised .raise-among .ensures)),
+          (raised .raise-setters .ensures)),
     ))
     (λ c.
     let l = c .before in
