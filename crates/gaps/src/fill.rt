@@ -5,6 +5,7 @@ ghost use mathlib.Core.List.{List};
 ghost use lib.ListN.{length};
 ghost use Rattle.job.specs.Model.{view};
 ghost use Rattle.job.specs.WellFormed.{WellFormed};
+ghost use Rattle.job_reader.specs.Laid.{Laid};
 ghost use Rattle.validity.specs.Ticks.{scheduleOf};
 ghost use Rattle.orders.specs.Gaps.{supportOrder, supportGap, opposingGap, conditionGap, levelGap, serialFirst, serialGap, gapOf};
 ghost use Rattle.order_file.specs.Contents.{stepLimit};
@@ -14,11 +15,9 @@ ghost use Rattle.rows.specs.Raised.{EntryKnown, Raised};
 ghost use Rattle.gaps.specs.Rules.{Cleared, SupportKnown, RaisedByLinks, ValidPoints, serialRow, entryFrom, laterGap};
 ghost use Rattle.gaps.specs.Rules.{factAt};
 use job::layout::Job;
-use job::records::condition_from;
-use job::records::condition_step;
-use job::records::effect_at;
-use job::records::effect_step;
 use job::records::step_length;
+use job_reader::laid::condition_of;
+use job_reader::laid::effect_of;
 use order_file::layout::INITIAL_STATE;
 use order_file::table::ENTRY_BIAS;
 use order_file::table::NO_ORDER;
@@ -40,7 +39,7 @@ const START_SPAN: usize = 4294967296;
 
 // Rule 1 for condition c, by its link.
 fn raise_support(s: &[u8], job: Job, links: &[u16], c: u16, gaps: &mut [u32])
-    requires { ⌜ SupportKnown (view job (now s)) (now links) (now gaps) × (c < job .count .conditions) ⌝ }
+    requires { ⌜ SupportKnown (view job (now s)) (now links) (now gaps) × (c < job .count .conditions) × Laid job (now s) ⌝ }
     ensures { λ _. ⌜ RaisedByLinks (view job (now (s .entry))) (now (links .entry)) (λ m x i k. supportOrder m x i k c) (now (gaps .entry))
         (now (gaps .exit)) ⌝ }
     ensures { λ _. ⌜ Gaps (now (gaps .exit)) ⌝ }
@@ -49,18 +48,19 @@ fn raise_support(s: &[u8], job: Job, links: &[u16], c: u16, gaps: &mut [u32])
     if link == INITIAL_STATE {
         return;
     }
-    let entry = strictly(effect_at(s, job, link), condition_from(s, job, c));
+    let condition = condition_of(s, job, c);
+    let effect = effect_of(s, job, link);
     raise(
-        effect_step(s, job, link),
-        condition_step(s, job, c),
-        entry,
+        effect.step,
+        condition.step,
+        strictly(effect.at, condition.from),
         gaps,
     )
 }
 
 // Rule 1.
 fn fill_support(s: &[u8], job: Job, links: &[u16], gaps: &mut [u32])
-    requires { ⌜ SupportKnown (view job (now s)) (now links) (now gaps) ⌝ }
+    requires { ⌜ SupportKnown (view job (now s)) (now links) (now gaps) × Laid job (now s) ⌝ }
     ensures { λ _. ⌜ RaisedByLinks (view job (now (s .entry))) (now (links .entry)) supportGap (now (gaps .entry)) (now (gaps .exit)) ⌝ }
 {
     let n = job.count.conditions;
@@ -266,7 +266,7 @@ pub fn fill_gaps(
     links: &[u16],
     gaps: &mut [u32],
 )
-    requires { ⌜ Fillable (view job (now s)) (scheduleOf (now starts)) (now points) (now begins) (now links) (now gaps) ⌝ }
+    requires { ⌜ Fillable (view job (now s)) (scheduleOf (now starts)) (now points) (now begins) (now links) (now gaps) × Laid job (now s) ⌝ }
     ensures { λ _. ⌜ TableOf (job .count .steps) (gapOf (view job (now (s .entry))) (scheduleOf (now (starts .entry)))) (now (gaps .exit)) ⌝ }
 {
     fill_support(s, job, links, gaps);

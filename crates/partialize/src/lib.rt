@@ -1,5 +1,6 @@
 // Loosening: an order file from a sound job.
 ghost use Rattle.job.specs.Model.{view};
+ghost use Rattle.job_reader.specs.Laid.{Laid};
 ghost use Rattle.validity.specs.Ticks.{scheduleOf};
 ghost use Rattle.orders.specs.File.{fileOf};
 ghost use Rattle.schedule.specs.Opened.{Planned};
@@ -71,7 +72,7 @@ fn file_schedule(
     begins: &[u16],
     out: &mut [u8],
 ) -> Answer
-    requires { ⌜ ValidPoints (view job (now s)) (scheduleOf (now starts)) (now points) (now begins) ⌝ }
+    requires { ⌜ ValidPoints (view job (now s)) (scheduleOf (now starts)) (now points) (now begins) × Laid job (now s) ⌝ }
     ensures { λ r. ⌜ Filing (fileOf (view job (now (s .entry))) (scheduleOf (now (starts .entry)))) (now (out .entry)) (now (out .exit)) r ⌝ }
 {
     let mut links = [0u16; MOST_LINKS];

@@ -28,7 +28,7 @@ file-schedule-spec =
     (λ c. search needs)
     (λ c κs.
     let start = c .before .before .before .before .before .before in
-    let p = start .pre in
+    let p = start .pre .0 in
     record {
       form = p .form;
       some = (scheduleOf (now (start .args .starts)), p .known, p .valid);
@@ -37,22 +37,24 @@ file-schedule-spec =
     (λ c. search needs) (λ c. search needs)
     (λ c κs.
     let start = c .before .before .before .before .before .before .before .before .before .before in
-    let p = start .pre in
-    let f = c .before .before .before .find-links .ensures (scheduleOf (now (start .args .starts))) (p .known) (p .valid) in
-    record {
-      form = p .form;
-      known = p .known;
-      valid = p .valid;
-      linked = record { each = f .below };
-      room = omega (arith, f .size, length-replicate {A = ℕ} linkLimit 0, p .form .conditionCount, p .form .goalCount);
-      size = refl;
-      empty = zeros;
-    })
+    let p = start .pre .0 in
+    let f = c .before .before .before .find-links .ensures (scheduleOf (now (start .args .starts))) (p .known) (p .valid) in (
+      record {
+        form = p .form;
+        known = p .known;
+        valid = p .valid;
+        linked = record { each = f .below };
+        room = omega (arith, f .size, length-replicate {A = ℕ} linkLimit 0, p .form .conditionCount, p .form .goalCount);
+        size = refl;
+        empty = zeros;
+      },
+      start .pre .1,
+    ))
     (λ c. search needs) (λ c. search needs)
     (λ c κs.
     let filled = c .before .before .before .before in
     record {
-      form = c .before .before .before .before .before .before .before .before .before .before .before .before .before .before .before .pre .form;
+      form = c .before .before .before .before .before .before .before .before .before .before .before .before .before .before .before .pre .0 .form;
       table = filled .fill-gaps .ensures .whole;
       linkCount = search needs;
       rows = none-from _ _ _ (filled .fill-gaps .ensures);
@@ -61,7 +63,7 @@ file-schedule-spec =
     (λ c.
     let linked = c .before .before .before .before .before .before .before .before .before .before .before in
     let start = linked .before .before .before .before .before .before .before in
-    let p = start .pre in
+    let p = start .pre .0 in
     let x = scheduleOf (now (start .args .starts)) in
     c .before .before .file-found .ensures x (record { each = linked .find-links .ensures x (p .known) (p .valid) .below })
     (c .before .before .before .before .before .before .before .fill-gaps .ensures)))

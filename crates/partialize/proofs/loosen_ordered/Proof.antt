@@ -1,5 +1,6 @@
 -- The check of the planned starts, then their file.
 use mathlib.Core.Path.{sym, _∙_}
+use Rattle.schedule.proofs.Reading.{read-lies}
 use Rattle.partialize.specs.Partialization.{looseOf}
 use Rattle.partialize.proofs.Promised.{refused-promise, filed-promise}
 use borrow.Author.Needs.{needs}
@@ -16,12 +17,14 @@ loosen-ordered-spec =
     (λ c κs.
     let p = c .before .before .before .before .before .before .before .before .before .pre in
     let checked = c .before .before .before in
-    let sound = checked .check-planned .ensures .sound (sym (c .before .before .number .ensures) ∙ c .before .if1 .left) in
-    record {
-      form = rw (p .read .header) (sound .wellFormed);
-      known = p .known;
-      valid = rw (p .written, p .read .header) (sound .valid);
-    })
+    let sound = checked .check-planned .ensures .sound (sym (c .before .before .number .ensures) ∙ c .before .if1 .left) in (
+      record {
+        form = rw (p .read .header) (sound .wellFormed);
+        known = p .known;
+        valid = rw (p .written, p .read .header) (sound .valid);
+      },
+      read-lies (p .read),
+    ))
     (λ c. search needs)
     (λ c.
     let p = c .before .before .before .before .before .before .before .before .before .before .before .before .pre in

@@ -15,17 +15,19 @@ fill-gaps-spec =
     (tie.spec
     (λ c κs.
     let d = c .before .before .before .before .before .before .before in
-    let w = d .pre in
-    record {
-      form = w .form;
-      named = valid-named _ _ _ (w .linked) (w .form) (w .valid);
-      room = w .room;
-      whole = empty-gaps _ (w .size) (w .empty);
-    })
+    let w = d .pre .0 in (
+      record {
+        form = w .form;
+        named = valid-named _ _ _ (w .linked) (w .form) (w .valid);
+        room = w .room;
+        whole = empty-gaps _ (w .size) (w .empty);
+      },
+      d .pre .1,
+    ))
     (λ c κs.
     let support = c .before .before .before in
     let d = support .before .before .before .before .before .before .before .before in
-    let w = d .pre in
+    let w = d .pre .0 in
     let none = empty-gaps _ (w .size) (w .empty) in
     let whole1 = support .fill-support .ensures _ (w .linked) .whole none in
     (now (d .args .s), record { form = w .form; known = w .known; valid = w .valid }, whole1))
@@ -33,7 +35,7 @@ fill-gaps-spec =
     let opposing = c .before .before .before in
     let support = opposing .before .before .before .before in
     let d = support .before .before .before .before .before .before .before .before in
-    let w = d .pre in
+    let w = d .pre .0 in
     let known : ValidPoints _ _ _ _ = record { form = w .form; known = w .known; valid = w .valid } in
     let none = empty-gaps _ (w .size) (w .empty) in
     let whole1 = support .fill-support .ensures _ (w .linked) .whole none in
@@ -44,7 +46,7 @@ fill-gaps-spec =
     let opposing = conditions .before .before .before .before in
     let support = opposing .before .before .before .before in
     let d = support .before .before .before .before .before .before .before .before in
-    let w = d .pre in
+    let w = d .pre .0 in
     let known : ValidPoints _ _ _ _ = record { form = w .form; known = w .known; valid = w .valid } in
     let none = empty-gaps _ (w .size) (w .empty) in
     let whole1 = support .fill-support .ensures _ (w .linked) .whole none in
@@ -57,7 +59,7 @@ fill-gaps-spec =
     let opposing = conditions .before .before .before .before in
     let support = opposing .before .before .before .before in
     let d = support .before .before .before .before .before .before .before .before in
-    let w = d .pre in
+    let w = d .pre .0 in
     let known : ValidPoints _ _ _ _ = record { form = w .form; known = w .known; valid = w .valid } in
     let none = empty-gaps _ (w .size) (w .empty) in
     let whole1 = support .fill-support .ensures _ (w .linked) .whole none in
@@ -72,7 +74,7 @@ fill-gaps-spec =
     let opposing = conditions .before .before .before .before in
     let support = opposing .before .before .before .before in
     let d = support .before .before .before .before .before .before .before .before in
-    let w = d .pre in
+    let w = d .pre .0 in
     let known : ValidPoints _ _ _ _ = record { form = w .form; known = w .known; valid = w .valid } in
     let none = empty-gaps _ (w .size) (w .empty) in
     let whole1 = support .fill-support .ensures _ (w .linked) .whole none in
@@ -88,7 +90,7 @@ fill-gaps-spec =
     let opposing = conditions .before .before .before .before in
     let support = opposing .before .before .before .before in
     let d = support .before .before .before .before .before .before .before .before in
-    let w = d .pre in
+    let w = d .pre .0 in
     let known : ValidPoints _ _ _ _ = record { form = w .form; known = w .known; valid = w .valid } in
     let none = empty-gaps _ (w .size) (w .empty) in
     let whole1 = support .fill-support .ensures _ (w .linked) .whole none in
@@ -105,7 +107,7 @@ fill-gaps-spec =
     let opposing = conditions .before .before .before .before in
     let support = opposing .before .before .before .before in
     let d = support .before .before .before .before .before .before .before .before in
-    let w = d .pre in
+    let w = d .pre .0 in
     let known : ValidPoints _ _ _ _ = record { form = w .form; known = w .known; valid = w .valid } in
     table-of _ _ _ _ _ (w .form .stepCount)
     (raised-then _ _ _ _ _ _

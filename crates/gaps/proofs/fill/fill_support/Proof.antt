@@ -18,11 +18,12 @@ fill-support-spec =
     (λ s job links gaps₀ n c₀ gaps c.
     (c ≤ n) × Gaps gaps × RaisedByLinks (view job s) links (λ m x i k. largest c (supportOrder m x i k)) gaps₀ gaps)
     (λ s job links gaps₀ n c₀ gaps c. n - c)
-    (λ c. (omega arith, c .before .before .before .pre .whole, λ x l. raised-start _ _ _))
+    (λ c. (omega arith, c .before .before .before .pre .0 .whole, λ x l. raised-start _ _ _))
     (λ c κs.
     let d = c .before .before .before .before .before .before in (
-      record { form = d .pre .form; named = d .pre .named; room = d .pre .room; whole = c .before .before .loop .inv .1 },
+      record { form = d .pre .0 .form; named = d .pre .0 .named; room = d .pre .0 .room; whole = c .before .before .loop .inv .1 },
       c .before .loop-test .taken,
+      d .pre .1,
     ))
     (λ c. omega arith)
     (λ c. omega arith)
@@ -32,5 +33,5 @@ fill-support-spec =
       λ x l. raised-more _ _ _ _ _ _
           (c .before .before .before .before .before .loop .inv .2 x l) (c .before .before .raise-support .ensures .0 x l),
     ))
-    (λ c. omega (arith, c .before .loop .inv .1 .size, c .before .before .before .before .before .pre .whole .size))
+    (λ c. omega (arith, c .before .loop .inv .1 .size, c .before .before .before .before .before .pre .0 .whole .size))
     (λ c. λ x l. raised-end _ _ _ _ _ _ (c .before .loop .inv .2 x l) (c .before .loop .inv .0) (c .loop-test .left)))
