@@ -17,7 +17,7 @@ use Rattle.orders.proofs.Near.{counted-le}
 use Rattle.order_file.specs.Table.{gapIn, gapOfEntry, Gaps, rowWidth, tableSize, tableBias, emptyLimit, noOrder}
 use Rattle.order_file.specs.Contents.{stepLimit, mostGap}
 use Rattle.rows.specs.Raised.{single, Raised}
-use Rattle.rows.proofs.Raised.{single-at, single-off, raised-one}
+use Rattle.rows.proofs.Raised.{single-at, single-off}
 use Rattle.gaps.specs.Table.{TableOf}
 use Rattle.gaps.specs.Rules.{Cleared}
 
@@ -52,14 +52,6 @@ module _ (n : ℕ) (order : ℕ → ℕ → ℕ → ℕ) (before : List ℕ) whe
       → Raised n (λ i k. largest (j + 1) (order i k)) before after
   unfolding largest
   raised-more j mid after v w = rw add-one (raised-then n (λ i k. largest j (order i k)) (λ i k. order i k j) before mid after v w)
-
-  pub raised-order :
-      (j a b gap : ℕ) (mid after : List ℕ) → Raised n (λ i k. largest j (order i k)) before mid → n ≤ stepLimit → a < n → b < n
-      → Raised rowWidth (single a b gap) mid after
-      → ((i k : ℕ) → single a b gap i k ≡ order i k j)
-      → Raised n (λ i k. largest (j + 1) (order i k)) before after
-  raised-order j a b gap mid after v m h l w e =
-      raised-more j mid after v (raised-one n (λ i k. order i k j) a b gap mid after m h l w e)
 
   pub raised-end :
       (count j : ℕ) (after : List ℕ) → Raised n (λ i k. largest j (order i k)) before after → j ≤ count → count ≤ j

@@ -1,24 +1,24 @@
--- Rule 5 as a row: a step that takes time is before every step that starts when it finishes or later.
+-- Rule 5 as a row: a step is before every step that starts later and not before it finishes; and ties, if it takes no time.
 use Prim.Native.Nat.{ℕ, _+_, _*_, _≤_, _<_, max}
 use mathlib.Core.Path.{_≡_, refl, sym, ap, ap₂, subst, _∙_}
-use mathlib.Core.Bool.{Bool, true, false, _&&_, _||_, cond}
+use mathlib.Core.Bool.{Bool, true, false, _&&_, cond}
 use mathlib.Core.List.{List}
 use native.Mathlib.Decide.{ℕ-discrete, decLt, decLe}
 use native.Mathlib.Omega.{arith}
-use borrow.Author.Tests.{eqb-false, leb-false, eq-eqb, ne-eqb, le-leb, lt-leb}
+use borrow.Author.Tests.{eq-eqb, ne-eqb, le-leb, lt-leb}
 use lib.Dec.{eqb, leb}
 use lib.ListN.{length, getD}
+use Rattle.laws.specs.Fold.{largest}
 use Rattle.laws.proofs.Fold.{largest-ge, largest-le}
-use Rattle.laws.proofs.Search.{or-both}
 use Rattle.laws.proofs.Chosen.{eqb-same}
 use Rattle.job.specs.Model.{Model}
 use Rattle.validity.specs.Ticks.{finish}
 use Rattle.orders.specs.Gaps.{serialGap}
-use Rattle.order_file.specs.Table.{gapIn, gapOfEntry, rowWidth, tableSize, tableBias, emptyLimit}
+use Rattle.order_file.specs.Table.{gapIn, gapOfEntry, rowWidth, tableSize, entryBias, tableBias, emptyLimit}
 use Rattle.order_file.specs.Contents.{stepLimit, mostGap, gapBias}
 use Rattle.rows.specs.Raised.{single}
 use Rattle.rows.specs.Raised.{EntryKnown, Raised}
-use Rattle.gaps.specs.Rules.{serialRow, entryFrom, laterGap}
+use Rattle.gaps.specs.Rules.{tieGap, tieRow, serialRow, entryFrom, laterGap}
 use Rattle.rows.specs.Points.{Rowed}
 use Rattle.rows.proofs.Raised.{single-is, single-off}
 use Rattle.gaps.proofs.Filled.{single-le}
@@ -92,46 +92,114 @@ module _ (n i end entry k : ℕ) (x : ℕ → ℕ) (before now : List ℕ) (few 
         rest = λ a b h q d. ap gapOfEntry (w .rest (rowWidth * a + b) (λ j l e. d (omega arith) (omega arith)));
       }
 
--- what the code's test of a step says
-pub takes-time : (length span end : ℕ) → (eqb length 0 || leb span end) ≡ false → (0 < length) × (end < span)
-takes-time length span end e =
-    let tests = or-both (eqb length 0) (leb span end) e in
-    (omega (arith, eqb-false length 0 (tests .0)), leb-false span end (tests .1))
-
--- what takes time and is over when another step starts cannot start when that is over
-serial-own :
-    (m : Model) (x : ℕ → ℕ) (i b : ℕ) → m .serial ≡ 1 → 0 < m .stepLength i
-    → serialGap m x i b ≡ cond (leb (finish m x i) (x b)) (m .stepLength i + gapBias) 0
-unfolding serialGap
-serial-own m x i b serial takes =
-    elim (decLe (finish m x i) (x b)) [
-      | yes late ↦ rw (eq-eqb _ _ serial, le-leb _ _ late, lt-leb (finish m x b) (x i) (omega arith)) refl
-      | no early ↦ rw (eq-eqb _ _ serial, lt-leb (finish m x i) (x b) (omega arith)) refl
-    ]
-
--- the row of a step of a serial job that takes time
-pub serial-row :
-    (m : Model) (x : ℕ → ℕ) (i a b : ℕ) → m .serial ≡ 1 → 0 < m .stepLength i → b < m .steps
-    → laterGap x i (finish m x i) (m .stepLength i + gapBias) a b ≡ serialRow m x i a b
-serial-row m x i a b serial takes h =
+-- a row from one step has its gaps, and no other
+row-is :
+    (n : ℕ) (gap : ℕ → ℕ → ℕ) (i a b : ℕ) → b < n → largest n (λ k. single i k (gap i k) a b) ≡ cond (eqb i a) (gap i b) 0
+row-is n gap i a b h =
+    let row : ℕ = largest n (λ k. single i k (gap i k) a b) in
     elim (ℕ-discrete i a) [
       | yes s ↦
-          let at : single i b (serialGap m x i b) a b ≡ serialGap m x i b = single-is i b (serialGap m x i b) a b s refl in
-          let own : serialGap m x a b ≡ serialGap m x i b = ap (λ c. serialGap m x c b) (sym s) in
-          ap (λ t. cond (t && leb (finish m x i) (x b)) (m .stepLength i + gapBias) 0) (eq-eqb i a s)
-          ∙ sym (serial-own m x i b serial takes)
-          ∙ omega (
+          let at : single i b (gap i b) a b ≡ gap i b = single-is i b (gap i b) a b s refl in
+          let own : gap a b ≡ gap i b = ap (λ c. gap c b) (sym s) in
+          let is : row ≡ gap i b =
+          omega (
             arith,
             at,
             own,
-            largest-ge (λ k. single i k (serialGap m x i k) a b) (m .steps) b h,
-            largest-le (λ k. single i k (serialGap m x i k) a b) (m .steps) (serialGap m x a b) (λ k _. single-le (m .steps) (serialGap m x) a b i k),
+            largest-ge (λ k. single i k (gap i k) a b) n b h,
+            largest-le (λ k. single i k (gap i k) a b) n (gap a b) (λ k _. single-le n gap a b i k),
           )
+          in
+          is ∙ sym (ap (λ t. cond t (gap i b) 0) (eq-eqb i a s))
       | no s ↦
-          ap (λ t. cond (t && leb (finish m x i) (x b)) (m .stepLength i + gapBias) 0) (ne-eqb i a s)
-          ∙ omega (
+          let is : row ≡ 0 =
+          omega (
             arith,
-            largest-le (λ k. single i k (serialGap m x i k) a b) (m .steps) 0
-                (λ k _. omega (arith, single-off i k (serialGap m x i k) a b (λ r _. s r))),
+            largest-le (λ k. single i k (gap i k) a b) n 0 (λ k _. omega (arith, single-off i k (gap i k) a b (λ r _. s r))),
           )
+          in
+          is ∙ sym (ap (λ t. cond t (gap i b) 0) (ne-eqb i a s))
     ]
+
+-- of the row of another step there is nothing
+of-own : (t u : Bool) (v w gap : ℕ) → max (cond u v 0) w ≡ gap → max (cond (t && u) v 0) (cond t w 0) ≡ cond t gap 0
+of-own true u v w gap e = e
+of-own false u v w gap e = refl
+
+none-of : (t : Bool) (gap : ℕ) → gap ≡ 0 → cond t gap 0 ≡ 0
+none-of true gap e = e
+none-of false gap e = refl
+
+-- what the code's test of two starts says
+pub apart-none : (m : Model) (x : ℕ → ℕ) (i k : ℕ) → (x k ≡ x i → ⊥) → (a b : ℕ) → single i k (tieGap m x i k) a b ≡ 0
+apart-none m x i k apart a b = none-of (eqb i a && eqb k b) (tieGap m x i k) (ap (λ t. cond t (serialGap m x i k) 0) (ne-eqb _ _ apart))
+
+pub together-gap : (m : Model) (x : ℕ → ℕ) (i k : ℕ) → x k ≡ x i → serialGap m x i k ≡ tieGap m x i k
+together-gap m x i k same = sym (ap (λ t. cond t (serialGap m x i k) 0) (eq-eqb _ _ same))
+
+-- the gaps of i to the steps that start later, and not before it finishes
+abbrev pub laterOf : Model → (ℕ → ℕ) → ℕ → ℕ → ℕ → ℕ
+laterOf m x i = laterGap x i (x i + max (m .stepLength i) 1) (m .stepLength i + gapBias)
+
+pub later-is :
+    (m : Model) (x : ℕ → ℕ) (i : ℕ) {start length wait : ℕ} → start ≡ x i → length ≡ m .stepLength i → wait ≡ max length 1
+    → (a b : ℕ) → laterGap x i (start + wait) (gapOfEntry (length + entryBias)) a b ≡ laterOf m x i a b
+later-is m x i {start} {length} {wait} s l w a b =
+    let end : start + wait ≡ x i + max (m .stepLength i) 1 = omega (arith, s, l, w) in
+    let gap : gapOfEntry (length + entryBias) ≡ m .stepLength i + gapBias = omega (arith, l) in
+    ap₂ (λ f v. laterGap x i f v a b) end gap
+
+module _ (m : Model) (x : ℕ → ℕ) (i : ℕ) (serial : m .serial ≡ 1) where
+  -- what starts later cannot finish by the start of i, and what starts earlier cannot be after it
+  serial-own :
+      (b : ℕ) → max (cond (leb (x i + max (m .stepLength i) 1) (x b)) (m .stepLength i + gapBias) 0) (tieGap m x i b) ≡ serialGap m x i b
+  unfolding serialGap
+  serial-own b =
+      elim (ℕ-discrete (x b) (x i)) [
+        | yes same ↦ rw (eq-eqb _ _ same, lt-leb (x i + max (m .stepLength i) 1) (x b) (omega arith)) (omega arith)
+        | no apart ↦
+            elim (decLe (finish m x i) (x b)) [
+              | yes late ↦
+                  rw (
+                    ne-eqb _ _ apart,
+                    eq-eqb _ _ serial,
+                    le-leb _ _ late,
+                    le-leb (x i + max (m .stepLength i) 1) (x b) (omega arith),
+                    lt-leb (finish m x b) (x i) (omega arith),
+                  )
+                  (omega arith)
+              | no early ↦
+                  rw (
+                    ne-eqb _ _ apart,
+                    eq-eqb _ _ serial,
+                    lt-leb (finish m x i) (x b) (omega arith),
+                    lt-leb (x i + max (m .stepLength i) 1) (x b) (omega arith),
+                  )
+                  refl
+            ]
+      ]
+
+  -- a step that takes time is not before any that starts with it
+  tie-none : (b : ℕ) → 0 < m .stepLength i → tieGap m x i b ≡ 0
+  unfolding serialGap
+  tie-none b takes =
+      elim (ℕ-discrete (x b) (x i)) [
+        | yes same ↦ rw (eq-eqb _ _ same, eq-eqb _ _ serial, lt-leb (finish m x i) (x b) (omega arith)) refl
+        | no apart ↦ rw (ne-eqb _ _ apart) refl
+      ]
+
+  -- the row of a step of a serial job: what starts later, and the ties
+  pub serial-row : (a b : ℕ) → b < m .steps → max (laterOf m x i a b) (tieRow m x i a b) ≡ serialRow m x i a b
+  serial-row a b h =
+      ap (max (laterOf m x i a b)) (row-is (m .steps) (tieGap m x) i a b h)
+      ∙ of-own (eqb i a) (leb (x i + max (m .stepLength i) 1) (x b)) _ _ _ (serial-own b)
+      ∙ sym (row-is (m .steps) (serialGap m x) i a b h)
+
+  -- of one that takes time there are no ties
+  pub serial-row-timed : (a b : ℕ) → 0 < m .stepLength i → b < m .steps → laterOf m x i a b ≡ serialRow m x i a b
+  serial-row-timed a b takes h =
+      omega (
+        arith,
+        serial-row a b h,
+        row-is (m .steps) (tieGap m x) i a b h ∙ none-of (eqb i a) (tieGap m x i b) (tie-none b takes),
+      )

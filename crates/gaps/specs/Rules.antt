@@ -49,11 +49,18 @@ factAt begins facts f =
       until = getD begins (facts + f + 1) 0;
     }
 
--- rule 5 of one step: its gaps to all others
+-- rule 5 between steps that start together
+abbrev pub tieGap : Model → (ℕ → ℕ) → ℕ → ℕ → ℕ
+tieGap m x i k = cond (eqb (x k) (x i)) (serialGap m x i k) 0
+
+-- rule 5 of one step: its gaps to those that start with it, and to all others
+abbrev pub tieRow : Model → (ℕ → ℕ) → ℕ → ℕ → ℕ → ℕ
+tieRow m x i a b = largest (m .steps) (λ k. single i k (tieGap m x i k) a b)
+
 abbrev pub serialRow : Model → (ℕ → ℕ) → ℕ → ℕ → ℕ → ℕ
 serialRow m x i a b = largest (m .steps) (λ k. single i k (serialGap m x i k) a b)
 
--- the entry to a step that starts at `start`, from one that finishes at `end`
+-- the entry to a step that starts at `start`, if that is `end` or later
 abbrev pub entryFrom : ℕ → ℕ → ℕ → ℕ
 entryFrom end entry start = cond (leb end start) entry noOrder
 

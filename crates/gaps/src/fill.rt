@@ -3,16 +3,16 @@ ghost use mathlib.Core.Path.{_≡_};
 ghost use Prim.Native.Nat.{ℕ, _+_, _≤_, _<_, min};
 ghost use mathlib.Core.List.{List};
 ghost use lib.ListN.{length};
-ghost use Rattle.job.specs.Model.{view};
+ghost use Rattle.job.specs.Model.{view, lastStart};
 ghost use Rattle.job.specs.WellFormed.{WellFormed};
 ghost use Rattle.job_reader.specs.Laid.{Laid};
 ghost use Rattle.validity.specs.Ticks.{scheduleOf};
 ghost use Rattle.orders.specs.Gaps.{supportOrder, supportGap, opposingGap, conditionGap, levelGap, serialFirst, serialGap, gapOf};
 ghost use Rattle.order_file.specs.Contents.{stepLimit};
 ghost use Rattle.order_file.specs.Table.{gapOfEntry, Gaps, rowWidth, tableSize};
-ghost use Rattle.gaps.specs.Table.{Fillable, TableOf};
-ghost use Rattle.rows.specs.Raised.{EntryKnown, Raised};
-ghost use Rattle.gaps.specs.Rules.{Cleared, SupportKnown, RaisedByLinks, ValidPoints, serialRow, entryFrom, laterGap};
+ghost use Rattle.gaps.specs.Table.{Writable, Fillable, TableOf};
+ghost use Rattle.rows.specs.Raised.{single, EntryKnown, Raised};
+ghost use Rattle.gaps.specs.Rules.{Cleared, SupportKnown, RaisedByLinks, ValidPoints, tieGap, tieRow, serialRow, entryFrom, laterGap};
 ghost use Rattle.gaps.specs.Rules.{factAt};
 use job::layout::Job;
 use job::records::step_length;
@@ -33,9 +33,6 @@ use rows::raise_among;
 use rows::raise_conditions;
 use rows::raise_setters;
 use timeline::word::begin_at;
-
-// How many values a start has.
-const START_SPAN: usize = 4294967296;
 
 // Rule 1 for condition c, by its link.
 fn raise_support(s: &[u8], job: Job, links: &[u16], c: u16, gaps: &mut [u32])
@@ -162,17 +159,28 @@ fn serial_entry(s: &[u8], job: Job, starts: &[u32], i: u16, k: u16) -> u32
     }
 }
 
-// Rule 5 for the steps after step i, one by one.
-fn pair_serial(s: &[u8], job: Job, starts: &[u32], i: u16, gaps: &mut [u32])
+// Rule 5 from step i to step k, if they start together.
+fn raise_tie(s: &[u8], job: Job, starts: &[u32], i: u16, k: u16, gaps: &mut [u32])
+    requires { ⌜ WellFormed (view job (now s)) × Gaps (now gaps) × (i < job .count .steps) × (k < job .count .steps) ⌝ }
+    ensures { λ _. ⌜ Raised (job .count .steps) (single i k (tieGap (view job (now (s .entry))) (scheduleOf (now (starts .entry))) i k))
+        (now (gaps .entry)) (now (gaps .exit)) ⌝ }
+{
+    if start_of(starts, k) != start_of(starts, i) {
+        return;
+    }
+    raise(i, k, serial_entry(s, job, starts, i, k), gaps)
+}
+
+// Rule 5 for the steps that start with step i.
+fn raise_ties(s: &[u8], job: Job, starts: &[u32], i: u16, gaps: &mut [u32])
     requires { ⌜ WellFormed (view job (now s)) × Gaps (now gaps) × (i < job .count .steps) ⌝ }
-    ensures { λ _. ⌜ Raised (job .count .steps) (serialRow (view job (now (s .entry))) (scheduleOf (now (starts .entry))) i)
+    ensures { λ _. ⌜ Raised (job .count .steps) (tieRow (view job (now (s .entry))) (scheduleOf (now (starts .entry))) i)
         (now (gaps .entry)) (now (gaps .exit)) ⌝ }
 {
     let n = job.count.steps;
     let mut k = 0;
     while k < n {
-        let entry = serial_entry(s, job, starts, i, k);
-        raise(i, k, entry, gaps);
+        raise_tie(s, job, starts, i, k, gaps);
         k += 1;
     }
 }
@@ -183,7 +191,7 @@ fn lower(a: usize, b: usize) -> usize
     if b < a { b } else { a }
 }
 
-// The entry to a step that starts at `start`, from one that finishes at `end`.
+// The entry to a step that starts at `start`, if that is `end` or later.
 fn entry_from(end: u32, entry: u32, start: u32) -> u32
     ensures { λ r. ⌜ r ≡ entryFrom end entry start ⌝ }
 {
@@ -204,32 +212,27 @@ fn row_later(n: usize, starts: &[u32], i: u16, end: u32, entry: u32, gaps: &mut 
     }
 }
 
-// Rule 5 for the steps after step i. A step that takes time is before all that start when it finishes or later, as none of them finishes by
-// its start; of two that take none each may do so.
+// Rule 5 for the steps after step i: those that start later, and not before it finishes, as none of them finishes by its start; and, if it
+// takes no time, some that start with it.
 fn raise_serial(s: &[u8], job: Job, starts: &[u32], i: u16, gaps: &mut [u32])
-    requires { ⌜ WellFormed (view job (now s)) × Gaps (now gaps) × (i < job .count .steps) × (job .serial ≡ 1) ⌝ }
+    requires { ⌜ WellFormed (view job (now s)) × Gaps (now gaps) × (i < job .count .steps) × (job .serial ≡ 1)
+        × (scheduleOf (now starts) i ≤ lastStart) ⌝ }
     ensures { λ _. ⌜ Raised (job .count .steps) (serialRow (view job (now (s .entry))) (scheduleOf (now (starts .entry))) i)
         (now (gaps .entry)) (now (gaps .exit)) ⌝ }
 {
-    let length = step_length(s, job, i);
-    let end = finish(s, job, starts, i);
-    if (length == 0) | (START_SPAN <= end) {
-        pair_serial(s, job, starts, i, gaps);
-    } else {
-        row_later(
-            job.count.steps as usize,
-            starts,
-            i,
-            end as u32,
-            length as u32 + ENTRY_BIAS,
-            gaps,
-        );
+    let n = job.count.steps as usize;
+    let length = step_length(s, job, i) as u32;
+    let end = start_of(starts, i) as u32 + higher(length, 1);
+    row_later(n, starts, i, end, length + ENTRY_BIAS, gaps);
+    if length != 0 {
+        return;
     }
+    raise_ties(s, job, starts, i, gaps)
 }
 
 // Rule 5.
 fn fill_serial(s: &[u8], job: Job, starts: &[u32], gaps: &mut [u32])
-    requires { ⌜ WellFormed (view job (now s)) × Gaps (now gaps) ⌝ }
+    requires { ⌜ WellFormed (view job (now s)) × Gaps (now gaps) × Writable (view job (now s)) (scheduleOf (now starts)) ⌝ }
     ensures { λ _. ⌜ Raised (job .count .steps) (serialGap (view job (now (s .entry))) (scheduleOf (now (starts .entry))))
         (now (gaps .entry)) (now (gaps .exit)) ⌝ }
 {

@@ -5,6 +5,7 @@ ghost use Rattle.validity.specs.Ticks.{scheduleOf};
 ghost use Rattle.orders.specs.File.{fileOf};
 ghost use Rattle.schedule.specs.Opened.{Planned};
 ghost use Rattle.points.specs.Words.{Small};
+ghost use Rattle.gaps.specs.Table.{Writable};
 ghost use Rattle.gaps.specs.Rules.{ValidPoints};
 ghost use Rattle.partialize.specs.Formed.{Formed};
 ghost use Rattle.partialize.specs.Holds.{Fileable, Filing, FiledOf};
@@ -72,7 +73,8 @@ fn file_schedule(
     begins: &[u16],
     out: &mut [u8],
 ) -> Answer
-    requires { ⌜ ValidPoints (view job (now s)) (scheduleOf (now starts)) (now points) (now begins) × Laid job (now s) ⌝ }
+    requires { ⌜ ValidPoints (view job (now s)) (scheduleOf (now starts)) (now points) (now begins) × Laid job (now s)
+        × Writable (view job (now s)) (scheduleOf (now starts)) ⌝ }
     ensures { λ r. ⌜ Filing (fileOf (view job (now (s .entry))) (scheduleOf (now (starts .entry)))) (now (out .entry)) (now (out .exit)) r ⌝ }
 {
     let mut links = [0u16; MOST_LINKS];

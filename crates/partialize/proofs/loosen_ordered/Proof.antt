@@ -1,11 +1,26 @@
 -- The check of the planned starts, then their file.
-use mathlib.Core.Path.{sym, _∙_}
+use Prim.Native.Nat.{ℕ}
+use mathlib.Core.Path.{_≡_, sym, ap, _∙_}
+use mathlib.Core.List.{List}
+use native.Mathlib.Omega.{arith}
+use lib.ListN.{getD}
+use Rattle.laws.proofs.Listed.{getD-tabulate}
+use Rattle.job.specs.Model.{Model}
+use Rattle.job.specs.WellFormed.{WellFormed}
+use Rattle.validity.specs.Ticks.{plannedStarts, scheduleOf}
+use Rattle.gaps.specs.Table.{Writable}
 use Rattle.schedule.proofs.Reading.{read-lies}
 use Rattle.partialize.specs.Partialization.{looseOf}
 use Rattle.partialize.proofs.Promised.{refused-promise, filed-promise}
 use borrow.Author.Needs.{needs}
 use Rattle.partialize.proofs.loosen_ordered.Statement.{statement}
 use Rattle.partialize.proofs.loosen_ordered.Tie as tie
+
+-- written starts are such as a job can write
+written-writable : (m : Model) (starts : List ℕ) → starts ≡ plannedStarts m → WellFormed m → Writable m (scheduleOf starts)
+written-writable m starts e form k h =
+    let start : scheduleOf starts k ≡ m .start k = ap (λ (l : List ℕ). getD l k 0) e ∙ getD-tabulate (m .start) (m .steps) k 0 h in
+    omega (arith, start, form .startRange k h)
 
 pub loosen-ordered-spec : {M : Type 1} → statement M
 unfolding looseOf
@@ -17,13 +32,11 @@ loosen-ordered-spec =
     (λ c κs.
     let p = c .before .before .before .before .before .before .before .before .before .pre in
     let checked = c .before .before .before in
-    let sound = checked .check-planned .ensures .sound (sym (c .before .before .number .ensures) ∙ c .before .if1 .left) in (
-      record {
-        form = rw (p .read .header) (sound .wellFormed);
-        known = p .known;
-        valid = rw (p .written, p .read .header) (sound .valid);
-      },
+    let sound = checked .check-planned .ensures .sound (sym (c .before .before .number .ensures) ∙ c .before .if1 .left) in
+    let form : WellFormed _ = rw (p .read .header) (sound .wellFormed) in (
+      record { form = form; known = p .known; valid = rw (p .written, p .read .header) (sound .valid) },
       read-lies (p .read),
+      written-writable _ _ (p .written) form,
     ))
     (λ c. search needs)
     (λ c.

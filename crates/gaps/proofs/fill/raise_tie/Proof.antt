@@ -1,0 +1,41 @@
+-- The test decides.
+use mathlib.Core.Path.{sym, ap, _∙_}
+use native.Mathlib.Omega.{arith}
+use borrow.Author.Needs.{needs}
+use denote.Ref.{now}
+use Rattle.job.specs.Model.{view}
+use Rattle.validity.specs.Ticks.{scheduleOf}
+use Rattle.rows.specs.Raised.{single}
+use Rattle.rows.proofs.Raised.{raised-one}
+use Rattle.gaps.proofs.Filled.{raised-none}
+use Rattle.gaps.proofs.Serial.{apart-none, together-gap}
+use Rattle.gaps.proofs.fill.raise_tie.Statement.{statement}
+use Rattle.gaps.proofs.fill.raise_tie.Tie as tie
+
+pub raise-tie-spec : {M : Type 1} → statement M
+raise-tie-spec =
+    tie.close
+    (tie.spec
+    (λ c κs. search needs) (λ c κs. search needs)
+    (λ c.
+    let second = c .before in
+    let d = second .before .before .before .before .before in
+    raised-none _ _ _
+    (apart-none (view (d .args .job) (now (d .args .s))) (scheduleOf (now (d .args .starts))) (d .args .i) (d .args .k)
+    (λ e. c .if1 .taken (second .before .start-of .ensures .0 ∙ e ∙ sym (second .start-of2 .ensures .0)))))
+    (λ c κs. let d = c .before .before .before .before .before .before in (d .pre .0, d .pre .2))
+    (λ c κs.
+    let entry = c .before in
+    let d = entry .before .before .before .before .before .before .before in
+    let few = d .pre .0 .stepCount in
+    (d .pre .1, omega (arith, few, d .pre .2), omega (arith, few, d .pre .3), entry .serial-entry .ensures .1))
+    (λ c. search needs)
+    (λ c.
+    let raised = c .before .before in
+    let entry = raised .before .before in
+    let test = entry .before in
+    let second = test .before in
+    let d = second .before .before .before .before .before in
+    let same = sym (second .before .start-of .ensures .0) ∙ test .if1 .left ∙ second .start-of2 .ensures .0 in
+    raised-one _ _ _ _ _ _ _ (d .pre .0 .stepCount) (d .pre .2) (d .pre .3) (raised .raise .ensures)
+    (λ a b. ap (λ v. single (d .args .i) (d .args .k) v a b) (entry .serial-entry .ensures .0 ∙ together-gap (view (d .args .job) (now (d .args .s))) (scheduleOf (now (d .args .starts))) (d .args .i) (d .args .k) same))))
