@@ -26,7 +26,6 @@ use order_file::table::higher;
 use points::ticks::finish;
 use points::ticks::start_of;
 use rows::origin::Fact;
-use rows::origin::SAME;
 use rows::origin::raise;
 use rows::origin::strictly;
 use rows::raise_among;
@@ -134,7 +133,7 @@ fn fill_levels(job: Job, starts: &[u32], points: &[u64], begins: &[u16], gaps: &
         let used = facts + facts + l;
         let low = begin_at(begins, used);
         let high = begin_at(begins, used + 1);
-        raise_among(steps, starts, points, low, high, SAME, gaps);
+        raise_among(steps, starts, points, low, high, gaps);
         l += 1;
     }
 }

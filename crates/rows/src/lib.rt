@@ -13,6 +13,7 @@ mod rows;
 use job::layout::Job;
 use origin::Fact;
 use origin::OTHER;
+use origin::SAME;
 use origin::Span;
 use pairs::pair_among;
 use pairs::pair_conditions;
@@ -44,25 +45,24 @@ pub fn raise_setters(
     }
 }
 
-// Orders the points of a group among themselves: each before the later ones of the other value or of the same, by `turn`.
+// Orders the points of a group among themselves: each before the later ones of the same value.
 pub fn raise_among(
     n: usize,
     starts: &[u32],
     points: &[u64],
     low: usize,
     high: usize,
-    turn: u16,
     gaps: &mut [u32],
 )
-    requires { ⌜ Gaps (now gaps) × (n ≤ stepLimit) × Group n (scheduleOf (now starts)) (now points) low high × (turn ≤ 1) ⌝ }
-    ensures { λ _. ⌜ Reached n (FromPoints (scheduleOf (now (starts .entry))) (now (points .entry)) low high turn)
+    requires { ⌜ Gaps (now gaps) × (n ≤ stepLimit) × Group n (scheduleOf (now starts)) (now points) low high ⌝ }
+    ensures { λ _. ⌜ Reached n (FromPoints (scheduleOf (now (starts .entry))) (now (points .entry)) low high 0)
         (now (gaps .entry)) (now (gaps .exit)) ⌝ }
 {
     if high - low < MANY {
-        pair_among(starts, points, low, high, turn, gaps);
+        pair_among(starts, points, low, high, SAME, gaps);
     } else {
         let group = Span { low, high };
-        row_points(n, starts, points, group, group, turn, gaps);
+        row_points(n, starts, points, group, group, SAME, gaps);
     }
 }
 

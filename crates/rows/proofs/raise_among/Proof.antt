@@ -11,10 +11,10 @@ raise-among-spec =
     (λ c. c .before .before .before .pre .2 .begins)
     (λ c κs.
     let d = c .before .before .before .before .before in
-    (d .pre .0, group-wide (d .pre .2) (d .pre .1), d .pre .3))
+    (d .pre .0, group-wide (d .pre .2) (d .pre .1), omega arith))
     (λ c κs.
     let d = c .before .before .before .before .before in
-    (d .pre .0, d .pre .1, d .pre .2, d .pre .2, d .pre .3))
+    (d .pre .0, d .pre .1, d .pre .2, d .pre .2, omega arith))
     (λ c.
     let raised = c .before .before in
     let d = raised .before .before .before .before .before .before in

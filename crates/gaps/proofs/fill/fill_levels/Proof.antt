@@ -48,7 +48,6 @@ fill-levels-spec =
       l .loop .inv .1 .whole (d .pre .2),
       d .pre .1 .form .stepCount,
       rw (low .begin-at .ensures .0, high .begin-at2 .ensures .0) (level-known (d .pre .1) _ (test .loop-test .taken)),
-      omega arith,
     ))
     (λ c.
     let test = c .before .before .before .before .before .before in
