@@ -3,7 +3,7 @@ use Prim.Native.Nat.{ℕ, _+_, _*_, _≤_, _<_, max}
 use mathlib.Core.Path.{_≡_, refl, sym, ap, ap₂, subst, _∙_}
 use mathlib.Core.Bool.{Bool, true, false, _&&_, cond}
 use mathlib.Core.List.{List}
-use native.Mathlib.Decide.{ℕ-discrete, decLt, decLe}
+use native.Mathlib.Decide.{ℕ-discrete, decLe}
 use native.Mathlib.Omega.{arith}
 use borrow.Author.Tests.{eq-eqb, ne-eqb, le-leb, lt-leb}
 use lib.Dec.{eqb, leb}
@@ -36,9 +36,8 @@ gap-of-larger : (t : Bool) (u entry : ℕ) → gapOfEntry (max u (cond t entry 0
 gap-of-larger true u entry = omega arith
 gap-of-larger false u entry = omega arith
 
-module _ (n i end entry k : ℕ) (x : ℕ → ℕ) (before now : List ℕ) (few : n ≤ stepLimit) (inside : i < n) (begun : x i < end)
-    (known : EntryKnown entry) (whole : length before ≡ tableSize) (upto : k ≤ n) (none : (b : ℕ) → k ≤ b → b < n → x b ≡ 0)
-    (w : Rowed (rowWidth * i) (λ b. entryFrom end entry (x b)) before now k) where
+module _ (n i end entry : ℕ) (x : ℕ → ℕ) (before now : List ℕ) (few : n ≤ stepLimit) (inside : i < n)
+    (known : EntryKnown entry) (whole : length before ≡ tableSize) (w : Rowed (rowWidth * i) (λ b. entryFrom end entry (x b)) before now n) where
   abbrev later : ℕ → ℕ → ℕ
   later = laterGap x i end (gapOfEntry entry)
 
@@ -51,32 +50,11 @@ module _ (n i end entry k : ℕ) (x : ℕ → ℕ) (before now : List ℕ) (few 
             omega (arith, w .rest (rowWidth * a + b) (λ j r e. s (omega arith)), off)
       ]
     where
-      told : (t : Bool) → leb end (x b) ≡ t → later i b ≡ cond t (gapOfEntry entry) 0
-      told t e = ap₂ (λ u v. cond (u && v) (gapOfEntry entry) 0) (eqb-same i) e
-
-      raised : (t : Bool) → leb end (x b) ≡ t → b < k → gapIn now i b ≡ max (gapIn before i b) (cond t (gapOfEntry entry) 0)
-      raised t e r =
-          ap gapOfEntry (w .raised b r ∙ ap (λ u. max (getD before (rowWidth * i + b) 0) (cond u entry 0)) e)
-          ∙ gap-of-larger t (getD before (rowWidth * i + b) 0) entry
-
-      still : k ≤ b → gapIn now i b ≡ gapIn before i b
-      still r = ap gapOfEntry (w .rest (rowWidth * i + b) (λ j s e. absurd (omega arith)))
-
       own : gapIn now i b ≡ max (gapIn before i b) (later i b)
       own =
-          elim (decLe end (x b)) [
-            | yes late ↦
-                elim (decLt b k) [
-                  | yes r ↦ omega (arith, raised true (le-leb end (x b) late) r, told true (le-leb end (x b) late))
-                  | no r ↦ absurd (omega (arith, none b (omega arith) l))
-                ]
-            | no early ↦
-                let e : leb end (x b) ≡ false = lt-leb end (x b) (omega arith) in
-                elim (decLt b k) [
-                  | yes r ↦ omega (arith, raised false e r, told false e)
-                  | no r ↦ omega (arith, still (omega arith), told false e)
-                ]
-          ]
+          ap gapOfEntry (w .raised b l)
+          ∙ gap-of-larger (leb end (x b)) (getD before (rowWidth * i + b) 0) entry
+          ∙ ap (λ t. max (gapIn before i b) (cond (t && leb end (x b)) (gapOfEntry entry) 0)) (sym (eqb-same i))
 
   pub row-raised : Raised n (laterGap x i end (gapOfEntry entry)) before now
   row-raised =
@@ -142,10 +120,10 @@ abbrev pub laterOf : Model → (ℕ → ℕ) → ℕ → ℕ → ℕ → ℕ
 laterOf m x i = laterGap x i (x i + max (m .stepLength i) 1) (m .stepLength i + gapBias)
 
 pub later-is :
-    (m : Model) (x : ℕ → ℕ) (i : ℕ) {start length wait : ℕ} → start ≡ x i → length ≡ m .stepLength i → wait ≡ max length 1
-    → (a b : ℕ) → laterGap x i (start + wait) (gapOfEntry (length + entryBias)) a b ≡ laterOf m x i a b
-later-is m x i {start} {length} {wait} s l w a b =
-    let end : start + wait ≡ x i + max (m .stepLength i) 1 = omega (arith, s, l, w) in
+    (m : Model) (x : ℕ → ℕ) (i : ℕ) {length wait : ℕ} → length ≡ m .stepLength i → wait ≡ max length 1
+    → (a b : ℕ) → laterGap x i (x i + wait) (gapOfEntry (length + entryBias)) a b ≡ laterOf m x i a b
+later-is m x i {length} {wait} l w a b =
+    let end : x i + wait ≡ x i + max (m .stepLength i) 1 = omega (arith, l, w) in
     let gap : gapOfEntry (length + entryBias) ≡ m .stepLength i + gapBias = omega (arith, l) in
     ap₂ (λ f v. laterGap x i f v a b) end gap
 

@@ -6,20 +6,21 @@ use lib.ListN.{length, getD}
 use Rattle.job.specs.Model.{Model, lastStart}
 use Rattle.job.specs.WellFormed.{WellFormed}
 use Rattle.points.specs.Points.{PointsKnown}
+use Rattle.validity.specs.Ticks.{scheduleOf}
 use Rattle.validity.specs.Valid.{Valid}
 use Rattle.links.specs.LinkList.{LinksOf}
 use Rattle.order_file.specs.Table.{gapIn, Gaps, rowWidth, tableSize}
 
--- starts that a job can write
-abbrev pub Writable : Model → (ℕ → ℕ) → Type 0
-Writable m x = (k : ℕ) → k < m .steps → x k ≤ lastStart
+-- starts that a job can write, one for each step
+pub record Writable (m : Model) (starts : List ℕ) : Type 0 where
+  pub each : m .steps ≤ length starts
+  pub early : (k : ℕ) → k < m .steps → scheduleOf starts k ≤ lastStart
 
 -- a valid schedule whose points are listed and whose links are found, and an empty table
 pub record Fillable (m : Model) (x : ℕ → ℕ) (points begins links gaps : List ℕ) : Type 0 where
   pub form : WellFormed m
   pub known : PointsKnown m x points begins
   pub valid : Valid m x
-  pub written : Writable m x
   pub linked : LinksOf m x links
   pub room : m .conditions + m .goals ≤ length links
   pub size : length gaps ≡ tableSize

@@ -1,9 +1,9 @@
 // The table of gaps, filled rule by rule (orders, rules 1 to 5). Of several gaps for one entry the largest stays.
 ghost use mathlib.Core.Path.{_≡_};
-ghost use Prim.Native.Nat.{ℕ, _+_, _≤_, _<_, min};
+ghost use Prim.Native.Nat.{ℕ, _+_, _≤_, _<_};
 ghost use mathlib.Core.List.{List};
 ghost use lib.ListN.{length};
-ghost use Rattle.job.specs.Model.{view, lastStart};
+ghost use Rattle.job.specs.Model.{view};
 ghost use Rattle.job.specs.WellFormed.{WellFormed};
 ghost use Rattle.job_reader.specs.Laid.{Laid};
 ghost use Rattle.validity.specs.Ticks.{scheduleOf};
@@ -160,11 +160,12 @@ fn serial_entry(s: &[u8], job: Job, starts: &[u32], i: u16, k: u16) -> u32
 
 // Rule 5 from step i to step k, if they start together.
 fn raise_tie(s: &[u8], job: Job, starts: &[u32], i: u16, k: u16, gaps: &mut [u32])
-    requires { ⌜ WellFormed (view job (now s)) × Gaps (now gaps) × (i < job .count .steps) × (k < job .count .steps) ⌝ }
+    requires { ⌜ WellFormed (view job (now s)) × Gaps (now gaps) × (i < job .count .steps) × (k < job .count .steps)
+        × (job .count .steps ≤ length (now starts)) ⌝ }
     ensures { λ _. ⌜ Raised (job .count .steps) (single i k (tieGap (view job (now (s .entry))) (scheduleOf (now (starts .entry))) i k))
         (now (gaps .entry)) (now (gaps .exit)) ⌝ }
 {
-    if start_of(starts, k) != start_of(starts, i) {
+    if starts[k as usize] != starts[i as usize] {
         return;
     }
     raise(i, k, serial_entry(s, job, starts, i, k), gaps)
@@ -172,7 +173,7 @@ fn raise_tie(s: &[u8], job: Job, starts: &[u32], i: u16, k: u16, gaps: &mut [u32
 
 // Rule 5 for the steps that start with step i.
 fn raise_ties(s: &[u8], job: Job, starts: &[u32], i: u16, gaps: &mut [u32])
-    requires { ⌜ WellFormed (view job (now s)) × Gaps (now gaps) × (i < job .count .steps) ⌝ }
+    requires { ⌜ WellFormed (view job (now s)) × Gaps (now gaps) × (i < job .count .steps) × (job .count .steps ≤ length (now starts)) ⌝ }
     ensures { λ _. ⌜ Raised (job .count .steps) (tieRow (view job (now (s .entry))) (scheduleOf (now (starts .entry))) i)
         (now (gaps .entry)) (now (gaps .exit)) ⌝ }
 {
@@ -184,12 +185,6 @@ fn raise_ties(s: &[u8], job: Job, starts: &[u32], i: u16, gaps: &mut [u32])
     }
 }
 
-fn lower(a: usize, b: usize) -> usize
-    ensures { λ r. ⌜ r ≡ min a b ⌝ }
-{
-    if b < a { b } else { a }
-}
-
 // The entry to a step that starts at `start`, if that is `end` or later.
 fn entry_from(end: u32, entry: u32, start: u32) -> u32
     ensures { λ r. ⌜ r ≡ entryFrom end entry start ⌝ }
@@ -197,15 +192,14 @@ fn entry_from(end: u32, entry: u32, start: u32) -> u32
     if end <= start { entry } else { NO_ORDER }
 }
 
-// Orders those of n steps that start at `end` or later after step i, by a row. A start past the list's end counts as 0, and `end` is later.
+// Orders those of n steps that start at `end` or later after step i, by a row.
 fn row_later(n: usize, starts: &[u32], i: u16, end: u32, entry: u32, gaps: &mut [u32])
-    requires { ⌜ Gaps (now gaps) × (n ≤ stepLimit) × (i < n) × (scheduleOf (now starts) i < end) × EntryKnown entry ⌝ }
+    requires { ⌜ Gaps (now gaps) × (n ≤ stepLimit) × (i < n) × (n ≤ length (now starts)) × EntryKnown entry ⌝ }
     ensures { λ _. ⌜ Raised n (laterGap (scheduleOf (now (starts .entry))) i end (gapOfEntry entry)) (now (gaps .entry)) (now (gaps .exit)) ⌝ }
 {
     let row = WIDTH * i as usize;
-    let listed = lower(n, starts.len());
     let mut k = 0;
-    while k < listed {
+    while k < n {
         gaps[row + k] = higher(gaps[row + k], entry_from(end, entry, starts[k]));
         k += 1;
     }
@@ -215,13 +209,13 @@ fn row_later(n: usize, starts: &[u32], i: u16, end: u32, entry: u32, gaps: &mut 
 // takes no time, some that start with it.
 fn raise_serial(s: &[u8], job: Job, starts: &[u32], i: u16, gaps: &mut [u32])
     requires { ⌜ WellFormed (view job (now s)) × Gaps (now gaps) × (i < job .count .steps) × (job .serial ≡ 1)
-        × (scheduleOf (now starts) i ≤ lastStart) ⌝ }
+        × Writable (view job (now s)) (now starts) ⌝ }
     ensures { λ _. ⌜ Raised (job .count .steps) (serialRow (view job (now (s .entry))) (scheduleOf (now (starts .entry))) i)
         (now (gaps .entry)) (now (gaps .exit)) ⌝ }
 {
     let n = job.count.steps as usize;
     let length = step_length(s, job, i) as u32;
-    let end = start_of(starts, i) as u32 + higher(length, 1);
+    let end = starts[i as usize] + higher(length, 1);
     row_later(n, starts, i, end, length + ENTRY_BIAS, gaps);
     if length != 0 {
         return;
@@ -231,7 +225,7 @@ fn raise_serial(s: &[u8], job: Job, starts: &[u32], i: u16, gaps: &mut [u32])
 
 // Rule 5.
 fn fill_serial(s: &[u8], job: Job, starts: &[u32], gaps: &mut [u32])
-    requires { ⌜ WellFormed (view job (now s)) × Gaps (now gaps) × Writable (view job (now s)) (scheduleOf (now starts)) ⌝ }
+    requires { ⌜ WellFormed (view job (now s)) × Gaps (now gaps) × Writable (view job (now s)) (now starts) ⌝ }
     ensures { λ _. ⌜ Raised (job .count .steps) (serialGap (view job (now (s .entry))) (scheduleOf (now (starts .entry))))
         (now (gaps .entry)) (now (gaps .exit)) ⌝ }
 {
@@ -268,7 +262,8 @@ pub fn fill_gaps(
     links: &[u16],
     gaps: &mut [u32],
 )
-    requires { ⌜ Fillable (view job (now s)) (scheduleOf (now starts)) (now points) (now begins) (now links) (now gaps) × Laid job (now s) ⌝ }
+    requires { ⌜ Fillable (view job (now s)) (scheduleOf (now starts)) (now points) (now begins) (now links) (now gaps) × Laid job (now s)
+        × Writable (view job (now s)) (now starts) ⌝ }
     ensures { λ _. ⌜ TableOf (job .count .steps) (gapOf (view job (now (s .entry))) (scheduleOf (now (starts .entry)))) (now (gaps .exit)) ⌝ }
 {
     fill_support(s, job, links, gaps);

@@ -74,7 +74,7 @@ fn file_schedule(
     out: &mut [u8],
 ) -> Answer
     requires { ⌜ ValidPoints (view job (now s)) (scheduleOf (now starts)) (now points) (now begins) × Laid job (now s)
-        × Writable (view job (now s)) (scheduleOf (now starts)) ⌝ }
+        × Writable (view job (now s)) (now starts) ⌝ }
     ensures { λ r. ⌜ Filing (fileOf (view job (now (s .entry))) (scheduleOf (now (starts .entry)))) (now (out .entry)) (now (out .exit)) r ⌝ }
 {
     let mut links = [0u16; MOST_LINKS];

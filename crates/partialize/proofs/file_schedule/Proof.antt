@@ -43,13 +43,13 @@ file-schedule-spec =
         form = p .form;
         known = p .known;
         valid = p .valid;
-        written = start .pre .2;
         linked = record { each = f .below };
         room = omega (arith, f .size, length-replicate {A = ℕ} linkLimit 0, p .form .conditionCount, p .form .goalCount);
         size = refl;
         empty = zeros;
       },
       start .pre .1,
+      start .pre .2,
     ))
     (λ c. search needs) (λ c. search needs)
     (λ c κs.

@@ -3,8 +3,8 @@ use Prim.Native.Nat.{ℕ}
 use mathlib.Core.Path.{_≡_, sym, ap, _∙_}
 use mathlib.Core.List.{List}
 use native.Mathlib.Omega.{arith}
-use lib.ListN.{getD}
-use Rattle.laws.proofs.Listed.{getD-tabulate}
+use lib.ListN.{length, getD}
+use Rattle.laws.proofs.Listed.{length-tabulate, getD-tabulate}
 use Rattle.job.specs.Model.{Model}
 use Rattle.job.specs.WellFormed.{WellFormed}
 use Rattle.validity.specs.Ticks.{plannedStarts, scheduleOf}
@@ -17,10 +17,14 @@ use Rattle.partialize.proofs.loosen_ordered.Statement.{statement}
 use Rattle.partialize.proofs.loosen_ordered.Tie as tie
 
 -- written starts are such as a job can write
-written-writable : (m : Model) (starts : List ℕ) → starts ≡ plannedStarts m → WellFormed m → Writable m (scheduleOf starts)
-written-writable m starts e form k h =
-    let start : scheduleOf starts k ≡ m .start k = ap (λ (l : List ℕ). getD l k 0) e ∙ getD-tabulate (m .start) (m .steps) k 0 h in
-    omega (arith, start, form .startRange k h)
+written-writable : (m : Model) (starts : List ℕ) → starts ≡ plannedStarts m → WellFormed m → Writable m starts
+written-writable m starts e form =
+    record {
+      each = omega (arith, ap length e ∙ length-tabulate (m .start) (m .steps));
+      early = λ k h.
+          let start : scheduleOf starts k ≡ m .start k = ap (λ (l : List ℕ). getD l k 0) e ∙ getD-tabulate (m .start) (m .steps) k 0 h in
+          omega (arith, start, form .startRange k h);
+    }
 
 pub loosen-ordered-spec : {M : Type 1} → statement M
 unfolding looseOf

@@ -66,7 +66,7 @@ fill-gaps-spec =
     let whole2 = opposing .fill-opposing .ensures _ known .whole whole1 in
     let whole3 = conditions .fill-conditions .ensures .whole whole2 in
     let whole4 = levels .fill-levels .ensures _ known .whole whole3 in
-    (w .form, whole4, w .written))
+    (w .form, whole4, d .pre .2))
     (λ c κs.
     let serial = c .before .before .before in
     let levels = serial .before .before .before .before in

@@ -28,8 +28,7 @@ fill-serial-spec =
     let l = c .before .before in
     let test = l .before in
     let d = test .before .before .before .before .before in
-    let inside = c .before .loop-test .taken in
-    (d .pre .0, l .loop .inv .1 .whole (d .pre .1), inside, test .if1 .left, d .pre .2 _ inside))
+    (d .pre .0, l .loop .inv .1 .whole (d .pre .1), c .before .loop-test .taken, test .if1 .left, d .pre .2))
     (λ c. omega arith)
     (λ c. omega arith)
     (λ c. (omega arith, raised-more _ _ _ _ _ _ (c .before .before .before .before .before .loop .inv .1) (c .before .before .raise-serial .ensures)))

@@ -20,33 +20,30 @@ raise-serial-spec =
     (λ c. search needs)
     (λ c κs. search needs)
     (λ c. omega (arith, c .step-length .ensures .1))
-    (λ c κs. search needs)
-    (λ c. omega (arith, c .start-of .ensures .1))
+    (λ c. omega arith)
+    (λ c. let d = c .before .before .before .before .before .before in omega (arith, d .pre .2, d .pre .4 .each))
     (λ c κs.
     let length = c .before in
     let d = length .before .before .before .before .before in
     (omega (arith, length .step-length .ensures .0, d .pre .0 .lengthRange _ (d .pre .2)), omega arith))
     (λ c.
-    let start = c .before in
-    let length = start .before in
+    let length = c .before .before in
     let d = length .before .before .before .before .before in
     let near = d .pre .0 .lengthRange _ (d .pre .2) in
-    omega (arith, c .higher .ensures, start .start-of .ensures .0, d .pre .4, length .step-length .ensures .0, near))
+    omega (arith, c .higher .ensures, d .pre .4 .early _ (d .pre .2), length .step-length .ensures .0, near))
     (λ c.
     let length = c .before .before in
     let d = length .before .before .before .before .before in
     omega (arith, length .step-length .ensures .0, d .pre .0 .lengthRange _ (d .pre .2)))
     (λ c κs.
-    let wait = c .before in
-    let start = wait .before in
-    let length = start .before in
+    let length = c .before .before .before in
     let d = length .before .before .before .before .before in
     let near = d .pre .0 .lengthRange _ (d .pre .2) in
     let e = length .step-length .ensures .0 in (
       d .pre .1,
       d .pre .0 .stepCount,
       d .pre .2,
-      omega (arith, start .start-of .ensures .0, wait .higher .ensures),
+      d .pre .4 .each,
       record { most = omega (arith, e, near); low = λ h. absurd (omega (arith, e)) },
     ))
     (λ c.
@@ -56,8 +53,7 @@ raise-serial-spec =
     (λ c.
     let row = c .before .before .before in
     let wait = row .before .before in
-    let start = wait .before in
-    let length = start .before in
+    let length = wait .before .before in
     let d = length .before .before .before .before .before in
     let m = view (d .args .job) (now (d .args .s)) in
     let x = scheduleOf (now (d .args .starts)) in
@@ -65,11 +61,11 @@ raise-serial-spec =
     let e = length .step-length .ensures .0 in
     let takes : 0 < m .stepLength i = omega (arith, e, c .if1 .taken) in
     raised-is _ _ _ _ _ (row .row-later .ensures)
-    (λ a b h l. later-is m x i (start .start-of .ensures .0) e (wait .higher .ensures) a b ∙ serial-row-timed m x i (d .pre .3) a b takes l))
+    (λ a b h l. later-is m x i e (wait .higher .ensures) a b ∙ serial-row-timed m x i (d .pre .3) a b takes l))
     (λ c κs.
     let row = c .before .before .before .before in
     let d = row .before .before .before .before .before .before .before .before .before in
-    (d .pre .0, row .row-later .ensures .whole (d .pre .1), d .pre .2))
+    (d .pre .0, row .row-later .ensures .whole (d .pre .1), d .pre .2, d .pre .4 .each))
     (λ c.
     let ties = c .before .before in
     let row = ties .before .before .before .before .before in
@@ -79,14 +75,12 @@ raise-serial-spec =
     let ties = c .before .before in
     let row = ties .before .before .before .before .before in
     let wait = row .before .before in
-    let start = wait .before in
-    let length = start .before in
+    let length = wait .before .before in
     let d = length .before .before .before .before .before in
     let m = view (d .args .job) (now (d .args .s)) in
     let x = scheduleOf (now (d .args .starts)) in
     let i = d .args .i in
-    let e = length .step-length .ensures .0 in
     raised-is _ _ _ _ _ (raised-then _ _ _ _ _ _ (row .row-later .ensures) (ties .raise-ties .ensures))
     (λ a b h l.
-    ap (λ v. max v (tieRow m x i a b)) (later-is m x i (start .start-of .ensures .0) e (wait .higher .ensures) a b)
+    ap (λ v. max v (tieRow m x i a b)) (later-is m x i (length .step-length .ensures .0) (wait .higher .ensures) a b)
     ∙ serial-row m x i (d .pre .3) a b l)))

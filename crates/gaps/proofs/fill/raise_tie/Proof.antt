@@ -1,5 +1,5 @@
 -- The test decides.
-use mathlib.Core.Path.{sym, ap, _∙_}
+use mathlib.Core.Path.{ap, _∙_}
 use native.Mathlib.Omega.{arith}
 use borrow.Author.Needs.{needs}
 use denote.Ref.{now}
@@ -16,13 +16,14 @@ pub raise-tie-spec : {M : Type 1} → statement M
 raise-tie-spec =
     tie.close
     (tie.spec
-    (λ c κs. search needs) (λ c κs. search needs)
+    (λ c. omega arith)
+    (λ c. let d = c .before .before .before .before in omega (arith, d .pre .3, d .pre .4))
+    (λ c. omega arith)
+    (λ c. let d = c .before .before .before .before .before in omega (arith, d .pre .2, d .pre .4))
     (λ c.
-    let second = c .before in
-    let d = second .before .before .before .before .before in
+    let d = c .before .before .before .before .before .before in
     raised-none _ _ _
-    (apart-none (view (d .args .job) (now (d .args .s))) (scheduleOf (now (d .args .starts))) (d .args .i) (d .args .k)
-    (λ e. c .if1 .taken (second .before .start-of .ensures .0 ∙ e ∙ sym (second .start-of2 .ensures .0)))))
+    (apart-none (view (d .args .job) (now (d .args .s))) (scheduleOf (now (d .args .starts))) (d .args .i) (d .args .k) (c .if1 .taken)))
     (λ c κs. let d = c .before .before .before .before .before .before in (d .pre .0, d .pre .2))
     (λ c κs.
     let entry = c .before in
@@ -34,8 +35,9 @@ raise-tie-spec =
     let raised = c .before .before in
     let entry = raised .before .before in
     let test = entry .before in
-    let second = test .before in
-    let d = second .before .before .before .before .before in
-    let same = sym (second .before .start-of .ensures .0) ∙ test .if1 .left ∙ second .start-of2 .ensures .0 in
+    let d = test .before .before .before .before .before .before in
+    let m = view (d .args .job) (now (d .args .s)) in
+    let x = scheduleOf (now (d .args .starts)) in
     raised-one _ _ _ _ _ _ _ (d .pre .0 .stepCount) (d .pre .2) (d .pre .3) (raised .raise .ensures)
-    (λ a b. ap (λ v. single (d .args .i) (d .args .k) v a b) (entry .serial-entry .ensures .0 ∙ together-gap (view (d .args .job) (now (d .args .s))) (scheduleOf (now (d .args .starts))) (d .args .i) (d .args .k) same))))
+    (λ a b.
+    ap (λ v. single (d .args .i) (d .args .k) v a b) (entry .serial-entry .ensures .0 ∙ together-gap m x (d .args .i) (d .args .k) (test .if1 .left)))))

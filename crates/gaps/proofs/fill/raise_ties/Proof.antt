@@ -20,7 +20,7 @@ raise-ties-spec =
     (λ c. (omega arith, raised-start _ _ _))
     (λ c κs.
     let d = c .before .before .before .before .before .before in
-    (d .pre .0, c .before .before .loop .inv .1 .whole (d .pre .1), d .pre .2, c .before .loop-test .taken))
+    (d .pre .0, c .before .before .loop .inv .1 .whole (d .pre .1), d .pre .2, c .before .loop-test .taken, d .pre .3))
     (λ c. omega arith)
     (λ c. omega arith)
     (λ c. (omega arith, raised-more _ _ _ _ _ _ (c .before .before .before .before .before .loop .inv .1) (c .before .before .raise-tie .ensures)))

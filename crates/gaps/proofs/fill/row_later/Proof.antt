@@ -1,15 +1,15 @@
--- Entry by entry, as far as starts are listed; past them nothing is due.
+-- Entry by entry.
 use Prim.Native.Nat.{_+_, _*_, _-_, _≤_, max}
 use mathlib.Core.Path.{_∙_, ap}
 use native.Mathlib.Omega.{arith}
 use borrow.Author.Needs.{needs}
-use lib.ListN.{getD, List·getD-eq-default}
+use lib.ListN.{getD}
 use denote.Ref.{now}
 use Rattle.validity.specs.Ticks.{scheduleOf}
 use Rattle.order_file.specs.Table.{rowWidth}
 use Rattle.gaps.specs.Rules.{entryFrom}
 use Rattle.rows.specs.Points.{Rowed}
-use Rattle.rows.proofs.Row.{rowed-start, rowed-more}
+use Rattle.rows.proofs.Row.{rowed-start, rowed-more, rowed-all}
 use Rattle.gaps.proofs.Serial.{entry-low, row-raised}
 use Rattle.gaps.proofs.fill.row_later.Statement.{statement}
 use Rattle.gaps.proofs.fill.row_later.Tie as tie
@@ -18,36 +18,31 @@ pub row-later-spec : {M : Type 1} → statement M
 row-later-spec =
     tie.close
     (tie.spec
-    (λ n starts i end entry gaps₀ row listed k₀ gaps k. (k ≤ listed) × Rowed row (λ b. entryFrom end entry (scheduleOf starts b)) gaps₀ gaps k)
-    (λ n starts i end entry gaps₀ row listed k₀ gaps k. listed - k)
+    (λ n starts i end entry gaps₀ row k₀ gaps k. (k ≤ n) × Rowed row (λ b. entryFrom end entry (scheduleOf starts b)) gaps₀ gaps k)
+    (λ n starts i end entry gaps₀ row k₀ gaps k. n - k)
     (λ c. search needs)
-    (λ c κs. search needs)
     (λ c. (omega arith, rowed-start _ _ _))
     (λ c.
-    let made = c .before .before in
-    let d = made .before .before .before in
-    omega (arith, c .loop-test .taken, made .lower .ensures, d .pre .1, d .pre .2))
+    let d = c .before .before .before .before in
+    omega (arith, c .loop-test .taken, d .pre .1, d .pre .2))
     (λ c.
-    let made = c .before .before in
-    let d = made .before .before .before in
-    omega (arith, c .loop-test .taken, made .lower .ensures, d .pre .1, d .pre .2))
+    let d = c .before .before .before .before in
+    omega (arith, c .loop-test .taken, d .pre .1, d .pre .2))
     (λ c.
     let l = c .before .before in
-    let made = l .before in
-    let d = made .before .before .before in
-    omega (arith, c .before .loop-test .taken, made .lower .ensures, d .pre .1, d .pre .2, d .pre .0 .size, l .loop .inv .1 .size))
+    let d = l .before .before .before in
+    omega (arith, c .before .loop-test .taken, d .pre .1, d .pre .2, d .pre .0 .size, l .loop .inv .1 .size))
     (λ c.
-    let made = c .before .before .before in
-    let d = made .before .before .before in
-    search (needs, c .before .loop-test .taken, made .lower .ensures, d .pre .1))
+    let d = c .before .before .before .before .before in
+    search (needs, c .before .loop-test .taken, d .pre .1))
     (λ c.
     let test = c .before .before in
-    omega (arith, test .loop-test .taken, test .before .before .lower .ensures))
+    omega (arith, test .loop-test .taken, test .before .before .before .before .pre .3))
     (λ c κs. search needs)
     (λ c κs.
     let test = c .before .before .before in
     let l = test .before in
-    let d = l .before .before .before .before in
+    let d = l .before .before .before in
     let a = d .args in
     let place = rowWidth * a .i + l .loop .k in (
       omega (arith, l .loop .inv .1 .rest place (λ j h e. absurd (omega arith)), d .pre .0 .most place),
@@ -55,46 +50,35 @@ row-later-spec =
     ))
     (λ c.
     let test = c .before .before .before .before in
-    let made = test .before .before in
-    let d = made .before .before .before in
-    omega (arith, test .loop-test .taken, made .lower .ensures, d .pre .1, d .pre .2))
+    let d = test .before .before .before .before in
+    omega (arith, test .loop-test .taken, d .pre .1, d .pre .2))
     (λ c.
     let test = c .before .before .before .before in
-    let made = test .before .before in
-    let d = made .before .before .before in
-    omega (arith, test .loop-test .taken, made .lower .ensures, d .pre .1, d .pre .2))
+    let d = test .before .before .before .before in
+    omega (arith, test .loop-test .taken, d .pre .1, d .pre .2))
     (λ c.
     let test = c .before .before .before .before in
     let l = test .before in
-    let made = l .before in
-    let d = made .before .before .before in
-    omega (arith, test .loop-test .taken, made .lower .ensures, d .pre .1, d .pre .2, d .pre .0 .size, l .loop .inv .1 .size))
+    let d = l .before .before .before in
+    omega (arith, test .loop-test .taken, d .pre .1, d .pre .2, d .pre .0 .size, l .loop .inv .1 .size))
     (λ c.
     let test = c .before .before .before .before in
-    let made = test .before .before in
-    let d = made .before .before .before in
-    omega (arith, test .loop-test .taken, made .lower .ensures, d .pre .1))
+    let d = test .before .before .before .before in
+    omega (arith, test .loop-test .taken, d .pre .1))
     (λ c. omega (arith, c .before .before .before .before .loop-test .taken))
     (λ c.
     let entry = c .before in
     let test = entry .before .before .before in
     let l = test .before in
-    let made = l .before in
-    let d = made .before .before .before in
+    let d = l .before .before .before in
     let t = test .loop-test .taken in (
       omega (arith, t),
-      rowed-more _ _ _ _ _ (omega (arith, made .lower .ensures, d .pre .1, d .pre .2, d .pre .0 .size, t)) (l .loop .inv .1)
+      rowed-more _ _ _ _ _ (omega (arith, d .pre .1, d .pre .2, d .pre .0 .size, t)) (l .loop .inv .1)
           (c .higher .ensures ∙ ap (max (getD (l .loop .gaps) (rowWidth * d .args .i + l .loop .k) 0)) (entry .entry-from .ensures)),
     ))
+    (λ c. omega (arith, c .before .loop .inv .1 .size))
     (λ c.
     let l = c .before in
-    let d = l .before .before .before .before in
-    omega (arith, l .loop .inv .1 .size))
-    (λ c.
-    let l = c .before in
-    let made = l .before in
-    let d = made .before .before .before in
-    let i = l .loop .inv in
-    let a = d .args in
-    row-raised _ _ _ _ _ _ _ _ (d .pre .1) (d .pre .2) (d .pre .3) (d .pre .4) (d .pre .0 .size) (omega (arith, i .0, made .lower .ensures))
-    (λ b h l. List·getD-eq-default (now (a .starts)) 0 {n = b} (omega (arith, i .0, c .loop-test .left, made .lower .ensures))) (i .1)))
+    let d = l .before .before .before in
+    row-raised _ _ (d .args .end) _ (scheduleOf (now (d .args .starts))) _ _ (d .pre .1) (d .pre .2) (d .pre .4) (d .pre .0 .size)
+    (rowed-all (l .loop .inv .1) (omega (arith, l .loop .inv .0, c .loop-test .left)))))
