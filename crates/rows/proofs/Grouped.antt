@@ -231,10 +231,11 @@ module _ (x : ℕ → ℕ) (points : List ℕ) where
             omega (arith, f .3);
       }
 
+  -- of one step and value the earlier point lies no further into the step
   pub leads-more :
-      (p high : ℕ) (leads : List ℕ) → 0 < p → p ≤ high → stepAt points (p - 1) < rowWidth → Leads x points p high leads
+      (n low p high : ℕ) (leads : List ℕ) → Group n x points low high → n ≤ rowWidth → low < p → p ≤ high → Leads x points p high leads
       → Leads x points (p - 1) high (leadsWith x (getD points (p - 1) 0) leads)
-  leads-more p high leads some end low w =
+  leads-more n low p high leads group few some end w =
       record { size = length-set leads place v ∙ w .size; reaches = reaches; found = found }
     where
       placeOf : ℕ → ℕ
@@ -244,10 +245,19 @@ module _ (x : ℕ → ℕ) (points : List ℕ) where
       place = leadPlace (valueAt points (p - 1)) (stepAt points (p - 1))
 
       v : ℕ
-      v = max (getD leads place 0) (entryBias + 1 - offsetAt x points (p - 1))
+      v = entryBias + 1 - offsetAt x points (p - 1)
+
+      step : (q : ℕ) → low ≤ q → q < high → stepAt points q < rowWidth
+      step q a b = omega (arith, group .step q a b)
 
       here : getD (set leads place v) place 0 ≡ v
-      here = getD-set-same leads place v 0 (omega (arith, w .size, value-low (getD points (p - 1) 0)))
+      here = getD-set-same leads place v 0 (omega (arith, w .size, value-low (getD points (p - 1) 0), step (p - 1) (omega arith) (omega arith)))
+
+      less : (q : ℕ) → p ≤ q → q < high → placeOf q ≡ place → entryBias + 1 - offsetAt x points q ≤ v
+      less q a b s =
+          let same : stepAt points q ≡ stepAt points (p - 1) =
+          omega (arith, s, step q (omega arith) b, step (p - 1) (omega arith) (omega arith)) in
+          omega (arith, ap x same, group .rises (p - 1) q (omega arith) (omega arith) b)
 
       reaches : (q : ℕ) → p - 1 ≤ q → q < high → entryBias + 1 - offsetAt x points q ≤ getD (set leads place v) (placeOf q) 0
       reaches q a b =
@@ -255,10 +265,9 @@ module _ (x : ℕ → ℕ) (points : List ℕ) where
             | yes same ↦
                 subst (λ j. entryBias + 1 - offsetAt x points j ≤ getD (set leads place v) (placeOf j) 0) (sym same) (omega (arith, here))
             | no other ↦
-                let old : entryBias + 1 - offsetAt x points q ≤ getD leads (placeOf q) 0 = w .reaches q (omega arith) b in
                 elim (ℕ-discrete (placeOf q) place) [
-                  | yes s ↦ omega (arith, old, ap (λ j. getD (set leads place v) j 0) s, ap (λ j. getD leads j 0) s, here)
-                  | no s ↦ omega (arith, old, getD-set-other leads place (placeOf q) v 0 s)
+                  | yes s ↦ omega (arith, less q (omega arith) b s, ap (λ j. getD (set leads place v) j 0) s, here)
+                  | no s ↦ omega (arith, w .reaches q (omega arith) b, getD-set-other leads place (placeOf q) v 0 s)
                 ]
           ]
 
@@ -267,15 +276,7 @@ module _ (x : ℕ → ℕ) (points : List ℕ) where
           → (q : ℕ) × (p - 1 ≤ q) × (q < high) × (placeOf q ≡ k) × (getD (set leads place v) k 0 ≡ entryBias + 1 - offsetAt x points q)
       found k l =
           elim (ℕ-discrete k place) [
-            | yes s ↦
-                let value : getD (set leads place v) k 0 ≡ v = ap (λ j. getD (set leads place v) j 0) s ∙ here in
-                let old : getD leads k 0 ≡ getD leads place 0 = ap (λ j. getD leads j 0) s in
-                elim (decLe (getD leads place 0) (entryBias + 1 - offsetAt x points (p - 1))) [
-                  | yes r ↦ (p - 1, omega arith, omega arith, sym s, omega (arith, value))
-                  | no r ↦
-                      let o = w .found k (omega (arith, old)) in
-                      (o .0, omega (arith, o .1), o .2, o .3, omega (arith, value, old, o .4))
-                ]
+            | yes s ↦ (p - 1, omega arith, omega arith, sym s, ap (λ j. getD (set leads place v) j 0) s ∙ here)
             | no s ↦
                 let same : getD (set leads place v) k 0 ≡ getD leads k 0 = getD-set-other leads place k v 0 s in
                 let o = w .found k (omega (arith, same, l)) in
@@ -324,7 +325,7 @@ module _ {x : ℕ → ℕ} {points : List ℕ} {low high t p : ℕ} {leads : Lis
               ];
           ahead =
               subst (λ l. Leads x points (p - 1) high l) (sym e)
-              (leads-more x points p high leads (omega arith) upto (w .group .step (p - 1) (omega arith) (omega arith)) (w .ahead));
+              (leads-more x points rowWidth low p high leads (w .group) (omega arith) some upto (w .ahead));
         }
 
 -- The walk back over a range of points, whose orders begin no later than those of later points.

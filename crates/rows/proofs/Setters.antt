@@ -46,7 +46,7 @@ module _ {n : ℕ} {x : ℕ → ℕ} {points : List ℕ} {low high : ℕ} (few :
           upto = omega arith;
           led =
               subst (λ l. Leads x points (p - 1) high l) (sym noted)
-              (leads-more x points p high leads (omega arith) upto step (w .led));
+              (leads-more x points n low p high leads group few some upto (w .led));
           reached =
               within-down _ _ _ _ _ p (p - 1) _ (omega arith) upto (w .reached)
               (after-given x points n low high gaps raised e
@@ -55,9 +55,6 @@ module _ {n : ℕ} {x : ℕ → ℕ} {points : List ℕ} {low high : ℕ} (few :
       where
         upto : p ≤ high
         upto = w .upto
-
-        step : stepAt points (p - 1) < rowWidth
-        step = omega (arith, group .step (p - 1) (omega arith) (omega (arith, w .upto)))
 
         tick : o .tick ≡ tickAt points (p - 1) + 1
         tick = ap (λ o. o .tick) e

@@ -157,11 +157,9 @@ pub record Leads (x : ℕ → ℕ) (points : List ℕ) (noted high : ℕ) (leads
       → (p : ℕ) × (noted ≤ p) × (p < high) × (leadPlace (valueAt points p) (stepAt points p) ≡ k)
       × (getD leads k 0 ≡ entryBias + 1 - offsetAt x points p)
 
--- the leads with those of one more point
+-- the leads with that of one more point
 abbrev pub leadsWith : (ℕ → ℕ) → ℕ → List ℕ → List ℕ
-leadsWith x word leads =
-    set leads (leadPlace (wordValue word) (wordStep word))
-    (max (getD leads (leadPlace (wordValue word) (wordStep word)) 0) (entryBias + 1 - offsetOf x word))
+leadsWith x word leads = set leads (leadPlace (wordValue word) (wordStep word)) (entryBias + 1 - offsetOf x word)
 
 -- points of a group, those from place `noted` on noted, none of which is before tick t
 pub record Noting (x : ℕ → ℕ) (points : List ℕ) (low high noted t : ℕ) (leads : List ℕ) : Type 0 where

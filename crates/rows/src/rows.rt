@@ -34,13 +34,13 @@ const NO_LEAD: u32 = 0;
 // Of more steps than this rows are raised whole: a loop whose length the compiler knows costs less than the entries past the last step.
 const MANY_STEPS: usize = WIDTH / 2;
 
-// Notes a point: the largest lead of its value and step.
+// Notes a point. Going back in time, it lies no further into its step than what is noted of that, so its lead is the largest.
 fn note(starts: &[u32], word: u64, leads: &mut [u32; LEADS])
-    requires { ⌜ Notable (scheduleOf (now starts)) word × ((k : ℕ) → LeadKnown (getD (now leads) k 0)) ⌝ }
+    requires { ⌜ Notable (scheduleOf (now starts)) word ⌝ }
     ensures { λ _. ⌜ now (leads .exit) ≡ leadsWith (scheduleOf (now (starts .entry))) word (now (leads .entry)) ⌝ }
 {
     let k = WIDTH * value_of(word) as usize + step_of(word) as usize;
-    leads[k] = higher(leads[k], (AT_START - offset_of(starts, word)) as u32);
+    leads[k] = (AT_START - offset_of(starts, word)) as u32;
 }
 
 // Notes the points of a group back to tick t.

@@ -14,26 +14,14 @@ note-spec =
     (λ c κs. search needs)
     (λ c. search needs)
     (λ c. omega (arith, c .before .value-of .ensures .1, c .step-of .ensures .1))
-    (λ c. omega (arith, c .before .value-of .ensures .1, c .step-of .ensures .1))
-    (λ c. omega (arith, c .before .value-of .ensures .1, c .step-of .ensures .0, c .before .before .before .pre .0 .step))
-    (λ c κs. c .before .before .before .before .pre .0 .begun)
-    (λ c. omega (arith, c .offset-of .ensures, c .before .before .before .before .before .pre .0 .near))
-    (λ c. omega (arith, c .offset-of .ensures, c .before .before .before .before .before .pre .0 .near))
-    (λ c κs.
-    let step = c .before .before in
-    let value = step .before in
-    let lead = value .before .before .pre .1 (leadPlace (value .value-of .result) (step .step-of .result)) in
-    (omega (arith, lead .most), omega arith))
-    (λ c. omega (arith, c .before .before .before .before .value-of .ensures .1, c .before .before .before .step-of .ensures .1))
+    (λ c κs. c .before .before .before .pre .begun)
+    (λ c. omega (arith, c .offset-of .ensures, c .before .before .before .before .pre .near))
+    (λ c. omega (arith, c .offset-of .ensures, c .before .before .before .before .pre .near))
+    (λ c. omega (arith, c .before .before .value-of .ensures .1, c .before .step-of .ensures .1))
     (λ c. omega (
       arith,
-      c .before .before .before .before .value-of .ensures .1,
-      c .before .before .before .step-of .ensures .0,
-      c .before .before .before .before .before .before .pre .0 .step,
+      c .before .before .value-of .ensures .1,
+      c .before .step-of .ensures .0,
+      c .before .before .before .before .pre .step,
     ))
-    (λ c. rw (
-      c .higher .ensures,
-      c .before .offset-of .ensures,
-      c .before .before .before .step-of .ensures .0,
-      c .before .before .before .before .value-of .ensures .0,
-    )))
+    (λ c. rw (c .offset-of .ensures, c .before .step-of .ensures .0, c .before .before .value-of .ensures .0)))

@@ -4,7 +4,7 @@ use native.Mathlib.Omega.{arith}
 use borrow.Author.Needs.{needs}
 use Rattle.validity.specs.Ticks.{scheduleOf}
 use Rattle.rows.specs.Points.{Noting}
-use Rattle.rows.proofs.Grouped.{group-notable, leads-known, noting-found, noting-all, noting-more}
+use Rattle.rows.proofs.Grouped.{group-notable, noting-found, noting-all, noting-more}
 use Rattle.rows.proofs.rows.note_from.Statement.{statement}
 use Rattle.rows.proofs.rows.note_from.Tie as tie
 
@@ -38,7 +38,7 @@ note-from-spec =
     let d = l .before .before .before in
     let w = l .loop .inv (d .pre .0) (d .pre .1) in
     let t = test .loop-test .taken in
-    (group-notable (w .group) (omega arith) _ (omega (arith, t)) (omega (arith, t, w .upto)), leads-known _ _ _ _ _ _ _ (w .group) (w .from) (w .ahead)))
+    group-notable (w .group) (omega arith) _ (omega (arith, t)) (omega (arith, t, w .upto)))
     (λ c.
     let test = c .before .before .before .before .before in
     omega (arith, test .loop-test .taken))

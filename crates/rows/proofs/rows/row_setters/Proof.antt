@@ -52,7 +52,7 @@ row-setters-spec =
     let w = l .before .before .before .before .pre in
     let i = l .loop .inv in
     let t = test .loop-test .taken in
-    (group-notable (w .2) (w .1) _ (omega (arith, t)) (omega (arith, t, i .upto)), setting-known (w .1) (w .2) i .each))
+    group-notable (w .2) (w .1) _ (omega (arith, t)) (omega (arith, t, i .upto)))
     (λ c. omega (arith, c .before .before .before .before .before .before .before .before .before .loop-test .taken))
     (λ c.
     let raised = c .before .before .before .before in
