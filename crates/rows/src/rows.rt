@@ -2,12 +2,11 @@
 // largest lead matters.
 ghost use mathlib.Core.Path.{_≡_};
 ghost use Prim.Native.Nat.{ℕ, _≤_};
-ghost use lib.ListN.{getD};
 ghost use Rattle.job.specs.Model.{view};
 ghost use Rattle.validity.specs.Ticks.{scheduleOf};
 ghost use Rattle.order_file.specs.Table.{Gaps, rowWidth};
 ghost use Rattle.rows.specs.Points.{OriginKnown, Group, ValuesApart, FactKnown, Reached, FromPoints, FromTo, FromConditions};
-ghost use Rattle.rows.specs.Points.{Notable, Noting, NotedBack, leadsWith, LeadKnown, LeadsKnown, RowKnown, Rowed, dueAt, Ahead};
+ghost use Rattle.rows.specs.Points.{Notable, Noting, NotedBack, leadsWith, LeadsKnown, RowKnown, Rowed, dueAt, Ahead};
 ghost use Rattle.order_file.specs.Contents.{stepLimit};
 use crate::origin::AT_START;
 use crate::origin::Fact;
