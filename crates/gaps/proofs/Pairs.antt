@@ -6,12 +6,13 @@ use mathlib.Core.List.{List}
 use native.Mathlib.Omega.{arith}
 use borrow.Author.Tests.{eqb-true, eq-eqb}
 use lib.Dec.{eqb}
-use lib.ListN.{getD}
+use lib.ListN.{length, getD}
 use Rattle.laws.specs.Fold.{largest}
 use Rattle.laws.proofs.Fold.{largest-le}
 use Rattle.job.specs.Model.{Model, longest}
 use Rattle.timeline.specs.Words.{wordStep, wordValue, wordTick, valueAt, tickAt, stepAt, numberAt, valueSpan}
 use Rattle.timeline.specs.Placed.{Placed}
+use Rattle.validity.specs.Ticks.{scheduleOf}
 use Rattle.orders.specs.Gaps.{strictly}
 use Rattle.orders.proofs.Orders.{pairs-ge}
 use Rattle.rows.specs.declared.origin.Origin.{Origin}
@@ -49,17 +50,22 @@ module _ {m : Model} {x : ℕ → ℕ} {points begins : List ℕ} (l : Listed m 
       let start : x (stepAt points p) ≡ x (l .step (numberAt points p)) = ap x (o .steps p a b) in
       (omega (arith, start, o .ticks p a b, l .timed (numberAt points p)), omega (arith, start, o .ticks p a b, l .timed (numberAt points p)))
 
-  pub listed-group : Group (m .steps) x points (getD begins (l .place g) 0) (getD begins (l .place g + 1) 0)
-  listed-group =
-      let o = l .placed g h in
-      record {
-        begins = o .begins;
-        ends = o .ends;
-        rises = o .rises;
-        step = λ p a b. omega (arith, o .steps p a b, l .inside (numberAt points p) (o .holds p a b .0));
-        begun = λ p a b. listed-offset p a b .1;
-        near = λ p a b. omega (arith, listed-offset p a b .0, l .near (numberAt points p) (o .holds p a b .0));
-      }
+-- its points have a start each, if each step has one
+pub listed-group :
+    {m : Model} {starts points begins : List ℕ} (l : Listed m (scheduleOf starts) points begins) (g : ℕ) → g < l .groups
+    → m .steps ≤ length starts
+    → Group (m .steps) starts points (getD begins (l .place g) 0) (getD begins (l .place g + 1) 0)
+listed-group {points = points} l g h each =
+    let o = l .placed g h in
+    record {
+      begins = o .begins;
+      ends = o .ends;
+      rises = o .rises;
+      step = λ p a b. omega (arith, o .steps p a b, l .inside (numberAt points p) (o .holds p a b .0));
+      started = λ p a b. omega (arith, o .steps p a b, l .inside (numberAt points p) (o .holds p a b .0));
+      begun = λ p a b. listed-offset l g h p a b .1;
+      near = λ p a b. omega (arith, listed-offset l g h p a b .0, l .near (numberAt points p) (o .holds p a b .0));
+    }
 
 -- A rule orders points of the first list, from an end of them, before points of the second in the group of the same number, where values
 -- differ by `turn` and `wait` ticks lie between them. It tests that by `fits` and `sooner`.

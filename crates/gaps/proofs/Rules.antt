@@ -8,13 +8,13 @@ use native.Mathlib.Decide.{ℕ-discrete, decLt}
 use native.Mathlib.Omega.{arith}
 use borrow.Author.Tests.{eqb-true, eqb-false, not-true, ltb-true, eq-eqb, ne-eqb, lt-ltb}
 use lib.Dec.{eqb, ltb}
-use lib.ListN.{getD}
+use lib.ListN.{length, getD}
 use Rattle.laws.specs.Fold.{largest}
 use Rattle.laws.proofs.Fold.{largest-le}
 use Rattle.laws.proofs.Search.{and-both}
 use Rattle.job.specs.Model.{Model}
 use Rattle.timeline.specs.Words.{wordStep, wordValue, wordTick, numberAt, valueSpan}
-use Rattle.validity.specs.Ticks.{effectTick, firstTick, lastTick, useTick, opposes}
+use Rattle.validity.specs.Ticks.{scheduleOf, effectTick, firstTick, lastTick, useTick, opposes}
 use Rattle.points.specs.Points.{wantedGroup, usedGroup}
 use Rattle.orders.specs.Gaps.{opposingOrder, opposingGap, beforeOrder, afterOrder, conditionGap, levelOrder, levelGap}
 use Rattle.orders.proofs.Orders.{condition-ge}
@@ -31,8 +31,8 @@ use Rattle.gaps.proofs.Pairs.{Listed, Rule, listed-offset, listed-group
 
 -- The places that the code read.
 module _ {fact given : Fact} (e : fact ≡ given) where
-  pub given-known : {m : Model} {x : ℕ → ℕ} {points : List ℕ} → FactKnown m x points given → FactKnown m x points fact
-  given-known {m} {x} {points} w = subst (λ f. FactKnown m x points f) (sym e) w
+  pub given-known : {m : Model} {starts points : List ℕ} → FactKnown m starts points given → FactKnown m starts points fact
+  given-known {m} {starts} {points} w = subst (λ f. FactKnown m starts points f) (sym e) w
 
   pub given-reached :
       (n : ℕ) (m : Model) (x : ℕ → ℕ) (points before after : List ℕ) → Reached n (FactOrder m x points fact) before after
@@ -174,10 +174,6 @@ module _ {m : Model} {x : ℕ → ℕ} {points begins : List ℕ} where
         (λ g p h a b. listed-offset effectList g h p a b .0)
         (λ e f h l r d t. later-by-one _ _ t) (λ e f h l t. one-later _ _ t)
 
-    pub opposing-known : (f : ℕ) → f < m .facts → Group (m .steps) x points (getD begins f 0) (getD begins (f + 1) 0)
-    unfolding effectList
-    opposing-known f h = listed-group effectList f h
-
     pub opposing-raised :
         (before after : List ℕ) → Reached (m .steps) (Among 0 (m .facts) (OpposingOrder x points begins)) before after
         → Raised (m .steps) (opposingGap m x) before after
@@ -220,14 +216,6 @@ module _ {m : Model} {x : ℕ → ℕ} {points begins : List ℕ} where
         (λ c e. ap₂ (λ s t. s && not t) (eqb-swap (m .effectFact e) (m .conditionFact c)) (eqb-swap (m .effectValue e) (m .conditionValue c)))
         (λ g p h a b. refl) after-last
         (λ c e h l t. omega (arith, ltb-true (lastTick m x c) (effectTick m x e) t, known .form .conditionSpan c h))
-
-    pub fact-known : (f : ℕ) → f < m .facts → FactKnown m x points (factAt begins (m .facts) f)
-    unfolding conditionList
-    fact-known f h =
-        record {
-          placed = record { setters = opposing-known f h; wanted = listed-group conditionList f h; few = known .form .stepCount };
-          ended = λ p a b. to-near m (known .form) (numberAt points p) (known .known .wanted f h .holds p a b .0);
-        }
 
     condition-le :
         (i k bound : ℕ) → ((e c : ℕ) → e < m .effects → c < m .conditions → beforeOrder m x i k c e ≤ bound)
@@ -279,12 +267,26 @@ module _ {m : Model} {x : ℕ → ℕ} {points begins : List ℕ} where
           waited = λ u v h l t. one-later _ _ t;
         }
 
-    pub level-known : (l : ℕ) → l < m .levels → Group (m .steps) x points (getD begins (usedGroup m l) 0) (getD begins (usedGroup m l + 1) 0)
-    unfolding useList
-    level-known l h = listed-group useList l h
-
     pub levels-raised :
         (before after : List ℕ) → Reached (m .steps) (Among 0 (m .levels) (LevelOrder (m .facts) x points begins)) before after
         → Raised (m .steps) (levelGap m x) before after
     unfolding useList levelGap levelOrder
     levels-raised before after w = rule-raised levels-is before after (known .form .stepCount) w
+
+-- What the rules order, if each step has a start.
+module _ {m : Model} {starts points begins : List ℕ} (known : ValidPoints m (scheduleOf starts) points begins) (each : m .steps ≤ length starts) where
+  pub opposing-known : (f : ℕ) → f < m .facts → Group (m .steps) starts points (getD begins f 0) (getD begins (f + 1) 0)
+  unfolding effectList
+  opposing-known f h = listed-group (effectList known) f h each
+
+  pub fact-known : (f : ℕ) → f < m .facts → FactKnown m starts points (factAt begins (m .facts) f)
+  unfolding conditionList
+  fact-known f h =
+      record {
+        placed = record { setters = opposing-known f h; wanted = listed-group (conditionList known) f h each; few = known .form .stepCount };
+        ended = λ p a b. to-near m (known .form) (numberAt points p) (known .known .wanted f h .holds p a b .0);
+      }
+
+  pub level-known : (l : ℕ) → l < m .levels → Group (m .steps) starts points (getD begins (usedGroup m l) 0) (getD begins (usedGroup m l + 1) 0)
+  unfolding useList
+  level-known l h = listed-group (useList known) l h each

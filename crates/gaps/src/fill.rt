@@ -69,7 +69,8 @@ fn fill_support(s: &[u8], job: Job, links: &[u16], gaps: &mut [u32])
 
 // Rule 2 for each fact.
 fn fill_opposing(job: Job, starts: &[u32], points: &[u64], begins: &[u16], gaps: &mut [u32])
-    requires { ⌜ ((s : List ℕ) × ValidPoints (view job s) (scheduleOf (now starts)) (now points) (now begins) × Gaps (now gaps)) ⌝ }
+    requires { ⌜ ((s : List ℕ) × ValidPoints (view job s) (scheduleOf (now starts)) (now points) (now begins) × Gaps (now gaps)
+        × (job .count .steps ≤ length (now starts))) ⌝ }
     ensures { λ _. ⌜ ((s : List ℕ) → ValidPoints (view job s) (scheduleOf (now (starts .entry))) (now (points .entry)) (now (begins .entry))
         → Raised (job .count .steps) (opposingGap (view job s) (scheduleOf (now (starts .entry)))) (now (gaps .entry)) (now (gaps .exit))) ⌝ }
 {
@@ -106,7 +107,8 @@ fn fill_conditions(
     begins: &[u16],
     gaps: &mut [u32],
 )
-    requires { ⌜ ValidPoints (view job (now s)) (scheduleOf (now starts)) (now points) (now begins) × Gaps (now gaps) ⌝ }
+    requires { ⌜ ValidPoints (view job (now s)) (scheduleOf (now starts)) (now points) (now begins) × Gaps (now gaps)
+        × (job .count .steps ≤ length (now starts)) ⌝ }
     ensures { λ _. ⌜ Raised (job .count .steps) (conditionGap (view job (now (s .entry))) (scheduleOf (now (starts .entry))))
         (now (gaps .entry)) (now (gaps .exit)) ⌝ }
 {
@@ -121,7 +123,8 @@ fn fill_conditions(
 
 // Rule 4 for each level.
 fn fill_levels(job: Job, starts: &[u32], points: &[u64], begins: &[u16], gaps: &mut [u32])
-    requires { ⌜ ((s : List ℕ) × ValidPoints (view job s) (scheduleOf (now starts)) (now points) (now begins) × Gaps (now gaps)) ⌝ }
+    requires { ⌜ ((s : List ℕ) × ValidPoints (view job s) (scheduleOf (now starts)) (now points) (now begins) × Gaps (now gaps)
+        × (job .count .steps ≤ length (now starts))) ⌝ }
     ensures { λ _. ⌜ ((s : List ℕ) → ValidPoints (view job s) (scheduleOf (now (starts .entry))) (now (points .entry)) (now (begins .entry))
         → Raised (job .count .steps) (levelGap (view job s) (scheduleOf (now (starts .entry)))) (now (gaps .entry)) (now (gaps .exit))) ⌝ }
 {

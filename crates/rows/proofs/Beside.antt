@@ -93,7 +93,7 @@ module _ (m : Model) (x : ℕ → ℕ) (points : List ℕ) (fact : Fact) where
 
   -- by condition is by setter and by condition
   pub fact-paired :
-      (n : ℕ) (before after : List ℕ) → FactPlaced n x points fact
+      (n : ℕ) {starts : List ℕ} (before after : List ℕ) → FactPlaced n starts points fact
       → Reached rowWidth (Among (fact .after) (fact .until) (AroundCondition m x points fact)) before after
       → Reached n (FactOrder m x points fact) before after
   fact-paired n before after placed w =

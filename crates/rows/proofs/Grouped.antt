@@ -13,6 +13,7 @@ use lib.Seq.{getD-set-same, getD-set-other}
 use Rattle.laws.proofs.Search.{and-both, contrary}
 use Rattle.job.specs.Model.{Model, longest}
 use Rattle.timeline.specs.Words.{wordStep, wordValue, wordNumber, wordTick, stepAt, valueAt, tickAt, valueSpan}
+use Rattle.validity.specs.Ticks.{scheduleOf}
 use Rattle.orders.specs.Gaps.{strictly}
 use Rattle.order_file.specs.Table.{gapIn, gapOfEntry, Gaps, rowWidth, tableSize, entryBias, tableBias, emptyLimit}
 use Rattle.order_file.specs.Contents.{stepLimit, mostGap}
@@ -30,36 +31,44 @@ unfolding wordValue
 value-low word = omega arith
 
 -- What is known of a group's points.
-module _ {n : ℕ} {x : ℕ → ℕ} {points : List ℕ} {low high : ℕ} (group : Group n x points low high) (few : n ≤ stepLimit) where
-  pub group-wide : Group rowWidth x points low high
+module _ {n : ℕ} {starts points : List ℕ} {low high : ℕ} (group : Group n starts points low high) (few : n ≤ stepLimit) where
+  pub group-wide : Group rowWidth starts points low high
   group-wide =
       record {
         begins = group .begins;
         ends = group .ends;
         rises = group .rises;
         step = λ p a b. omega (arith, group .step p a b);
+        started = group .started;
         begun = group .begun;
         near = group .near;
       }
 
-  pub group-notable : (p : ℕ) → low ≤ p → p < high → Notable x (getD points p 0)
-  group-notable p a b = record { step = omega (arith, group .step p a b); begun = group .begun p a b; near = group .near p a b }
+  pub group-notable : (p : ℕ) → low ≤ p → p < high → Notable starts (getD points p 0)
+  group-notable p a b =
+      record {
+        step = omega (arith, group .step p a b);
+        started = group .started p a b;
+        begun = group .begun p a b;
+        near = group .near p a b;
+      }
 
   -- its points from a place on
-  pub group-from : (p : ℕ) → low ≤ p → p ≤ high → Group n x points p high
+  pub group-from : (p : ℕ) → low ≤ p → p ≤ high → Group n starts points p high
   group-from p a b =
       record {
         begins = b;
         ends = group .ends;
         rises = λ q r c d e. group .rises q r (omega arith) d e;
         step = λ q c d. group .step q (omega arith) d;
+        started = λ q c d. group .started q (omega arith) d;
         begun = λ q c d. group .begun q (omega arith) d;
         near = λ q c d. group .near q (omega arith) d;
       }
 
   -- What is known of an origin that the code made from one of them.
   module _ (p : ℕ) (from : low ≤ p) (to : p < high) {origin : Origin} where
-    pub point-known : (turn : ℕ) → origin ≡ pointOrigin x turn (getD points p 0) → OriginKnown n origin
+    pub point-known : (turn : ℕ) → origin ≡ pointOrigin (scheduleOf starts) turn (getD points p 0) → OriginKnown n origin
     point-known turn e =
         subst (λ o. OriginKnown n o) (sym e) (record { step = group .step p from to; near = group .near p from to; value = omega arith })
 
@@ -100,11 +109,14 @@ module _ (n : ℕ) (x : ℕ → ℕ) (origin : Origin) (word : ℕ) where
       (λ i k v a o. inr (same, late, o .0, sym there ∙ o .1, o .2 ∙ made))
       (λ i k v a o. (gapOfEntry entry, omega (arith, o .4, made), (o .2, there ∙ o .3, refl)))
 
-module _ (x : ℕ → ℕ) (points : List ℕ) where
+module _ (starts points : List ℕ) where
+  abbrev x : ℕ → ℕ
+  x = scheduleOf starts
+
   -- the leads of what is noted say the same as the points from the origin's tick on, if nothing before is from that tick on, and all that is
   -- noted of the origin's value is
   pub ahead-after :
-      (n low high noted : ℕ) (origin : Origin) (leads before after : List ℕ) → Group n x points low high → n ≤ stepLimit → low ≤ noted
+      (n low high noted : ℕ) (origin : Origin) (leads before after : List ℕ) → Group n starts points low high → n ≤ stepLimit → low ≤ noted
       → ((p : ℕ) → low ≤ p → p < noted → tickAt points p < origin .tick)
       → ((p : ℕ) → noted ≤ p → p < high → valueAt points p ≡ origin .value → origin .tick ≤ tickAt points p)
       → Leads x points noted high leads
@@ -157,7 +169,7 @@ module _ (x : ℕ → ℕ) (points : List ℕ) where
 
   -- points up to the origin's own place are not after it
   after-later :
-      (n low high p : ℕ) (origin : Origin) (before now : List ℕ) → Group n x points low high → low ≤ p → p < high
+      (n low high p : ℕ) (origin : Origin) (before now : List ℕ) → Group n starts points low high → low ≤ p → p < high
       → tickAt points p < origin .tick
       → Reached n (After x points (p + 1) high origin) before now
       → Reached n (After x points low high origin) before now
@@ -178,7 +190,7 @@ module _ (x : ℕ → ℕ) (points : List ℕ) where
           ]
 
   pub later-given :
-      (n low high p turn : ℕ) (before now : List ℕ) {origin : Origin} → Group n x points low high → low ≤ p → p < high
+      (n low high p turn : ℕ) (before now : List ℕ) {origin : Origin} → Group n starts points low high → low ≤ p → p < high
       → origin ≡ pointOrigin x turn (getD points p 0)
       → Reached n (After x points (p + 1) high origin) before now
       → Reached n (After x points low high (pointOrigin x turn (getD points p 0))) before now
@@ -204,7 +216,7 @@ module _ (x : ℕ → ℕ) (points : List ℕ) where
           ]
 
   pub leads-known :
-      (n low noted high : ℕ) (leads : List ℕ) → Group n x points low high → low ≤ noted → Leads x points noted high leads
+      (n low noted high : ℕ) (leads : List ℕ) → Group n starts points low high → low ≤ noted → Leads x points noted high leads
       → (k : ℕ) → LeadKnown (getD leads k 0)
   leads-known n low noted high leads group from w k =
       record {
@@ -220,7 +232,8 @@ module _ (x : ℕ → ℕ) (points : List ℕ) where
 
   -- those of a group of n steps lead to these
   pub leads-below :
-      (n low noted high : ℕ) (leads : List ℕ) → Group n x points low high → low ≤ noted → Leads x points noted high leads → LeadsKnown n leads
+      (n low noted high : ℕ) (leads : List ℕ) → Group n starts points low high → low ≤ noted → Leads x points noted high leads
+      → LeadsKnown n leads
   leads-below n low noted high leads group from w =
       record {
         each = leads-known n low noted high leads group from w;
@@ -233,7 +246,7 @@ module _ (x : ℕ → ℕ) (points : List ℕ) where
 
   -- of one step and value the earlier point lies no further into the step
   pub leads-more :
-      (n low p high : ℕ) (leads : List ℕ) → Group n x points low high → n ≤ rowWidth → low < p → p ≤ high → Leads x points p high leads
+      (n low p high : ℕ) (leads : List ℕ) → Group n starts points low high → n ≤ rowWidth → low < p → p ≤ high → Leads x points p high leads
       → Leads x points (p - 1) high (leadsWith x (getD points (p - 1) 0) leads)
   leads-more n low p high leads group few some end w =
       record { size = length-set leads place v ∙ w .size; reaches = reaches; found = found }
@@ -284,8 +297,8 @@ module _ (x : ℕ → ℕ) (points : List ℕ) where
           ]
 
 -- Going back, what is not before tick t parts from what is.
-module _ {x : ℕ → ℕ} {points : List ℕ} {low high t p : ℕ} {leads : List ℕ} (w : Noting x points low high p t leads) where
-  pub noting-all : p ≤ low → NotedBack x points low high t p leads
+module _ {starts points : List ℕ} {low high t p : ℕ} {leads : List ℕ} (w : Noting starts points low high p t leads) where
+  pub noting-all : p ≤ low → NotedBack (scheduleOf starts) points low high t p leads
   noting-all none =
       record {
         parts = record { from = w .from; to = w .upto; before = λ q a b. absurd (omega arith); after = w .late };
@@ -293,7 +306,7 @@ module _ {x : ℕ → ℕ} {points : List ℕ} {low high t p : ℕ} {leads : Lis
       }
 
   module _ {tick : ℕ} (some : low < p) (read : tick ≡ tickAt points (p - 1)) where
-    pub noting-found : tick < t → NotedBack x points low high t p leads
+    pub noting-found : tick < t → NotedBack (scheduleOf starts) points low high t p leads
     noting-found early =
         record {
           parts = record {
@@ -311,7 +324,8 @@ module _ {x : ℕ → ℕ} {points : List ℕ} {low high t p : ℕ} {leads : Lis
 
     -- one more point is not before it
     pub noting-more :
-        {more : List ℕ} → t ≤ tick → more ≡ leadsWith x (getD points (p - 1) 0) leads → Noting x points low high (p - 1) t more
+        {more : List ℕ} → t ≤ tick → more ≡ leadsWith (scheduleOf starts) (getD points (p - 1) 0) leads
+        → Noting starts points low high (p - 1) t more
     noting-more late e =
         let upto : p ≤ high = w .upto in
         record {
@@ -324,15 +338,16 @@ module _ {x : ℕ → ℕ} {points : List ℕ} {low high t p : ℕ} {leads : Lis
                 | no other ↦ w .late q (omega arith) b
               ];
           ahead =
-              subst (λ l. Leads x points (p - 1) high l) (sym e)
-              (leads-more x points rowWidth low p high leads (w .group) (omega arith) some upto (w .ahead));
+              subst (λ l. Leads (scheduleOf starts) points (p - 1) high l) (sym e)
+              (leads-more starts points rowWidth low p high leads (w .group) (omega arith) some upto (w .ahead));
         }
 
 -- The walk back over a range of points, whose orders begin no later than those of later points.
-module _ {n : ℕ} {x : ℕ → ℕ} {points : List ℕ} {origin : ℕ → Origin} {begin end low high : ℕ} (few : n ≤ stepLimit)
-    (group : Group n x points low high) where
+module _ {n : ℕ} {starts points : List ℕ} {origin : ℕ → Origin} {begin end low high : ℕ} (few : n ≤ stepLimit)
+    (group : Group n starts points low high) where
   pub rowing-start :
-      (gaps : List ℕ) → begin ≤ end → Rowing n x points origin begin end low high gaps (replicate (valueSpan * rowWidth) 0) high end gaps
+      (gaps : List ℕ) → begin ≤ end
+      → Rowing n (scheduleOf starts) points origin begin end low high gaps (replicate (valueSpan * rowWidth) 0) high end gaps
   rowing-start gaps h =
       record {
         from = h;
@@ -340,16 +355,16 @@ module _ {n : ℕ} {x : ℕ → ℕ} {points : List ℕ} {origin : ℕ → Origi
         notedFrom = group .begins;
         notedUpto = omega arith;
         ahead = λ r q a b c d. absurd (omega arith);
-        led = leads-start x points high high (omega arith);
+        led = leads-start starts points high high (omega arith);
         reached = within-empty _ _ _ _ _ (omega arith);
       }
 
-  module _ {before leads gaps : List ℕ} {noted p : ℕ} (w : Rowing n x points origin begin end low high before leads noted p gaps)
+  module _ {before leads gaps : List ℕ} {noted p : ℕ} (w : Rowing n (scheduleOf starts) points origin begin end low high before leads noted p gaps)
       (some : begin < p) {o : Origin} (e : o ≡ origin (getD points (p - 1) 0)) where
     tick : o .tick ≡ origin (getD points (p - 1) 0) .tick
     tick = ap (λ o. o .tick) e
 
-    pub rowing-noting : Noting x points low high noted (o .tick) leads
+    pub rowing-noting : Noting starts points low high noted (o .tick) leads
     rowing-noting =
         record {
           group = group-wide group few;
@@ -359,14 +374,14 @@ module _ {n : ℕ} {x : ℕ → ℕ} {points : List ℕ} {origin : ℕ → Origi
           ahead = w .led;
         }
 
-    module _ {now : List ℕ} {next : ℕ} (back : NotedBack x points low high (o .tick) next now) where
+    module _ {now : List ℕ} {next : ℕ} (back : NotedBack (scheduleOf starts) points low high (o .tick) next now) where
       pub rowing-known : LeadsKnown n now
-      rowing-known = leads-below x points n low next high now group (back .parts .from) (back .ahead)
+      rowing-known = leads-below starts points n low next high now group (back .parts .from) (back .ahead)
 
       pub rowing-more :
           {raised : List ℕ} → ((r s : ℕ) → begin ≤ r → r < s → s < end → origin (getD points r 0) .tick ≤ origin (getD points s 0) .tick)
           → Reached n (Ahead o now) gaps raised
-          → Rowing n x points origin begin end low high before now next (p - 1) raised
+          → Rowing n (scheduleOf starts) points origin begin end low high before now next (p - 1) raised
       rowing-more {raised} rises r =
           let upto : p ≤ end = w .upto in
           record {
@@ -378,8 +393,8 @@ module _ {n : ℕ} {x : ℕ → ℕ} {points : List ℕ} {origin : ℕ → Origi
             led = back .ahead;
             reached =
                 within-down _ _ _ _ _ p (p - 1) _ (omega arith) upto (w .reached)
-                (after-given x points n low high gaps raised e
-                (ahead-after x points n low high next o now gaps raised group few (back .parts .from) (back .parts .before)
+                (after-given starts points n low high gaps raised e
+                (ahead-after starts points n low high next o now gaps raised group few (back .parts .from) (back .parts .before)
                 (λ q a b v. back .parts .after q a b) (back .ahead) r));
           }
 

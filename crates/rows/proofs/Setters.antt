@@ -6,6 +6,7 @@ use native.Mathlib.Decide.{ℕ-discrete}
 use native.Mathlib.Omega.{arith}
 use lib.ListN.{getD, replicate}
 use Rattle.timeline.specs.Words.{valueAt, tickAt, stepAt, valueSpan}
+use Rattle.validity.specs.Ticks.{scheduleOf}
 use Rattle.order_file.specs.Table.{rowWidth}
 use Rattle.order_file.specs.Contents.{stepLimit}
 use Rattle.rows.specs.declared.origin.Origin.{Origin}
@@ -20,37 +21,37 @@ pub record Setting (n : ℕ) (x : ℕ → ℕ) (points : List ℕ) (low high : �
   pub led : Leads x points p high leads
   pub reached : Reached n (Among p high (PointOrder x points low high 1)) before gaps
 
-module _ {n : ℕ} {x : ℕ → ℕ} {points : List ℕ} {low high : ℕ} (few : n ≤ stepLimit) (group : Group n x points low high) where
-  pub setting-start : (gaps : List ℕ) → Setting n x points low high gaps (replicate (valueSpan * rowWidth) 0) high gaps
+module _ {n : ℕ} {starts points : List ℕ} {low high : ℕ} (few : n ≤ stepLimit) (group : Group n starts points low high) where
+  pub setting-start : (gaps : List ℕ) → Setting n (scheduleOf starts) points low high gaps (replicate (valueSpan * rowWidth) 0) high gaps
   setting-start gaps =
       record {
         from = group .begins;
         upto = omega arith;
-        led = leads-start x points high high (omega arith);
+        led = leads-start starts points high high (omega arith);
         reached = within-empty _ _ _ _ _ (omega arith);
       }
 
-  module _ {before leads gaps : List ℕ} {p : ℕ} (w : Setting n x points low high before leads p gaps) where
+  module _ {before leads gaps : List ℕ} {p : ℕ} (w : Setting n (scheduleOf starts) points low high before leads p gaps) where
     pub setting-known : LeadsKnown n leads
-    setting-known = leads-below x points n low p high leads group (w .from) (w .led)
+    setting-known = leads-below starts points n low p high leads group (w .from) (w .led)
 
     -- one more: none before it is later, and what is noted of the other value is
     pub setting-more :
-        {o : Origin} {more raised : List ℕ} → low < p → ValuesApart points low high → o ≡ pointOrigin x 1 (getD points (p - 1) 0)
+        {o : Origin} {more raised : List ℕ} → low < p → ValuesApart points low high → o ≡ pointOrigin (scheduleOf starts) 1 (getD points (p - 1) 0)
         → Reached n (Ahead o leads) gaps raised
-        → more ≡ leadsWith x (getD points (p - 1) 0) leads
-        → Setting n x points low high before more (p - 1) raised
+        → more ≡ leadsWith (scheduleOf starts) (getD points (p - 1) 0) leads
+        → Setting n (scheduleOf starts) points low high before more (p - 1) raised
     setting-more {o} {more} {raised} some apart e r noted =
         record {
           from = omega arith;
           upto = omega arith;
           led =
-              subst (λ l. Leads x points (p - 1) high l) (sym noted)
-              (leads-more x points n low p high leads group few some upto (w .led));
+              subst (λ l. Leads (scheduleOf starts) points (p - 1) high l) (sym noted)
+              (leads-more starts points n low p high leads group few some upto (w .led));
           reached =
               within-down _ _ _ _ _ p (p - 1) _ (omega arith) upto (w .reached)
-              (after-given x points n low high gaps raised e
-              (ahead-after x points n low high p o leads gaps raised group few (w .from) early late (w .led) r));
+              (after-given starts points n low high gaps raised e
+              (ahead-after starts points n low high p o leads gaps raised group few (w .from) early late (w .led) r));
         }
       where
         upto : p ≤ high

@@ -7,6 +7,7 @@ use lib.ListN.{length, getD, set}
 use Rattle.job.specs.Model.{Model, longest}
 use Rattle.timeline.specs.Words.{wordStep, wordValue, wordNumber, wordTick, stepAt, valueAt, tickAt, valueSpan}
 use Rattle.timeline.specs.Placed.{Parted}
+use Rattle.validity.specs.Ticks.{scheduleOf}
 use Rattle.orders.specs.Gaps.{strictly}
 use Rattle.rows.specs.declared.origin.Fact.{Fact}
 use Rattle.rows.specs.declared.origin.Origin.{Origin}
@@ -31,25 +32,27 @@ abbrev pub lastOrigin : Model → ℕ → Origin
 lastOrigin m word =
     record { step = wordStep word; at = m .conditionTo (wordNumber word); value = (wordValue word + 1) % valueSpan; tick = wordTick word }
 
--- the places from low to high hold points of n steps, in the order of their ticks
-pub record Group (n : ℕ) (x : ℕ → ℕ) (points : List ℕ) (low high : ℕ) : Type 0 where
+-- the places from low to high hold points of n steps, each with a start, in the order of their ticks
+pub record Group (n : ℕ) (starts points : List ℕ) (low high : ℕ) : Type 0 where
   pub begins : low ≤ high
   pub ends : high ≤ length points
   pub rises : (p q : ℕ) → low ≤ p → p < q → q < high → tickAt points p ≤ tickAt points q
   pub step : (p : ℕ) → low ≤ p → p < high → stepAt points p < n
-  pub begun : (p : ℕ) → low ≤ p → p < high → x (stepAt points p) ≤ tickAt points p
-  pub near : (p : ℕ) → low ≤ p → p < high → offsetAt x points p ≤ longest
+  pub started : (p : ℕ) → low ≤ p → p < high → stepAt points p < length starts
+  pub begun : (p : ℕ) → low ≤ p → p < high → scheduleOf starts (stepAt points p) ≤ tickAt points p
+  pub near : (p : ℕ) → low ≤ p → p < high → offsetAt (scheduleOf starts) points p ≤ longest
 
 -- of its points with different values the one that stands behind is later
 abbrev pub ValuesApart : List ℕ → ℕ → ℕ → Type 0
 ValuesApart points low high =
     (p q : ℕ) → low ≤ p → p < q → q < high → (valueAt points p ≡ valueAt points q → ⊥) → tickAt points p < tickAt points q
 
--- a point that orders can lead to
-pub record Notable (x : ℕ → ℕ) (word : ℕ) : Type 0 where
+-- a point that orders can lead to, of a step with a start
+pub record Notable (starts : List ℕ) (word : ℕ) : Type 0 where
   pub step : wordStep word < rowWidth
-  pub begun : x (wordStep word) ≤ wordTick word
-  pub near : offsetOf x word ≤ longest
+  pub started : wordStep word < length starts
+  pub begun : scheduleOf starts (wordStep word) ≤ wordTick word
+  pub near : offsetOf (scheduleOf starts) word ≤ longest
 
 -- two steps that can be ordered, of n
 abbrev pub Apart : ℕ → ℕ → ℕ → Type 0
@@ -125,21 +128,22 @@ FromTo x points first second turn =
     Among (first .low) (first .high) (λ p. After x points (second .low) (second .high) (pointOrigin x turn (getD points p 0)))
 
 -- a fact whose setters and conditions are points of n steps
-pub record FactPlaced (n : ℕ) (x : ℕ → ℕ) (points : List ℕ) (fact : Fact) : Type 0 where
-  pub setters : Group n x points (fact .low) (fact .high)
-  pub wanted : Group n x points (fact .after) (fact .until)
+pub record FactPlaced (n : ℕ) (starts points : List ℕ) (fact : Fact) : Type 0 where
+  pub setters : Group n starts points (fact .low) (fact .high)
+  pub wanted : Group n starts points (fact .after) (fact .until)
   pub few : n ≤ stepLimit
 
-pub record FactKnown (m : Model) (x : ℕ → ℕ) (points : List ℕ) (fact : Fact) : Type 0 where
-  pub placed : FactPlaced (m .steps) x points fact
+pub record FactKnown (m : Model) (starts points : List ℕ) (fact : Fact) : Type 0 where
+  pub placed : FactPlaced (m .steps) starts points fact
   pub ended : (p : ℕ) → fact .after ≤ p → p < fact .until → m .conditionTo (wordNumber (getD points p 0)) ≤ longest
 
 -- the walk over later points: those before place q are ordered after the origin
-pub record Ordering (x : ℕ → ℕ) (points : List ℕ) (low high : ℕ) (origin : Origin) (before : List ℕ) (q : ℕ) (gaps : List ℕ) : Type 0 where
+pub record Ordering (starts points : List ℕ) (low high : ℕ) (origin : Origin) (before : List ℕ) (q : ℕ) (gaps : List ℕ) : Type 0 where
   pub from : low ≤ q
   pub upto : q ≤ high
   pub reached :
-      (n : ℕ) → n ≤ stepLimit → origin .step < n → Group n x points low high → Reached n (After x points low q origin) before gaps
+      (n : ℕ) → n ≤ stepLimit → origin .step < n → Group n starts points low high
+      → Reached n (After (scheduleOf starts) points low q origin) before gaps
 
 -- where the lead of a value and step stands
 abbrev pub leadPlace : ℕ → ℕ → ℕ
@@ -162,12 +166,12 @@ abbrev pub leadsWith : (ℕ → ℕ) → ℕ → List ℕ → List ℕ
 leadsWith x word leads = set leads (leadPlace (wordValue word) (wordStep word)) (entryBias + 1 - offsetOf x word)
 
 -- points of a group, those from place `noted` on noted, none of which is before tick t
-pub record Noting (x : ℕ → ℕ) (points : List ℕ) (low high noted t : ℕ) (leads : List ℕ) : Type 0 where
-  pub group : Group rowWidth x points low high
+pub record Noting (starts points : List ℕ) (low high noted t : ℕ) (leads : List ℕ) : Type 0 where
+  pub group : Group rowWidth starts points low high
   pub from : low ≤ noted
   pub upto : noted ≤ high
   pub late : (p : ℕ) → noted ≤ p → p < high → t ≤ tickAt points p
-  pub ahead : Leads x points noted high leads
+  pub ahead : Leads (scheduleOf starts) points noted high leads
 
 -- the same, and all others are before tick t
 pub record NotedBack (x : ℕ → ℕ) (points : List ℕ) (low high t noted : ℕ) (leads : List ℕ) : Type 0 where

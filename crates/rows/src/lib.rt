@@ -33,7 +33,7 @@ pub fn raise_setters(
     high: usize,
     gaps: &mut [u32],
 )
-    requires { ⌜ Gaps (now gaps) × (n ≤ stepLimit) × Group n (scheduleOf (now starts)) (now points) low high
+    requires { ⌜ Gaps (now gaps) × (n ≤ stepLimit) × Group n (now starts) (now points) low high
         × ValuesApart (now points) low high ⌝ }
     ensures { λ _. ⌜ Reached n (FromPoints (scheduleOf (now (starts .entry))) (now (points .entry)) low high 1)
         (now (gaps .entry)) (now (gaps .exit)) ⌝ }
@@ -54,7 +54,7 @@ pub fn raise_among(
     high: usize,
     gaps: &mut [u32],
 )
-    requires { ⌜ Gaps (now gaps) × (n ≤ stepLimit) × Group n (scheduleOf (now starts)) (now points) low high ⌝ }
+    requires { ⌜ Gaps (now gaps) × (n ≤ stepLimit) × Group n (now starts) (now points) low high ⌝ }
     ensures { λ _. ⌜ Reached n (FromPoints (scheduleOf (now (starts .entry))) (now (points .entry)) low high 0)
         (now (gaps .entry)) (now (gaps .exit)) ⌝ }
 {
@@ -75,7 +75,7 @@ pub fn raise_conditions(
     fact: Fact,
     gaps: &mut [u32],
 )
-    requires { ⌜ FactKnown (view job (now s)) (scheduleOf (now starts)) (now points) fact × Gaps (now gaps) ⌝ }
+    requires { ⌜ FactKnown (view job (now s)) (now starts) (now points) fact × Gaps (now gaps) ⌝ }
     ensures { λ _. ⌜ Reached (job .count .steps)
         (FactOrder (view job (now (s .entry))) (scheduleOf (now (starts .entry))) (now (points .entry)) fact)
         (now (gaps .entry)) (now (gaps .exit)) ⌝ }

@@ -3,17 +3,15 @@ ghost use mathlib.Core.Path.{_≡_};
 ghost use Prim.Native.Nat.{_≤_, _<_};
 ghost use Rattle.job.specs.Model.{view, longest};
 ghost use Rattle.validity.specs.Ticks.{scheduleOf};
-ghost use Rattle.timeline.specs.Words.{wordStep, wordTick};
 ghost use Rattle.orders.specs.Gaps as spec;
 ghost use Rattle.order_file.specs.Table.{gapOfEntry, Gaps, rowWidth};
 ghost use Rattle.rows.specs.Raised.{single, EntryKnown, Raised};
-ghost use Rattle.rows.specs.Points.{offsetOf, pointOrigin, lastOrigin};
+ghost use Rattle.rows.specs.Points.{offsetOf, pointOrigin, lastOrigin, Notable};
 use job::layout::Job;
 use job::records::condition_to;
 use order_file::table::ENTRY_BIAS;
 use order_file::table::WIDTH;
 use order_file::table::higher;
-use points::ticks::start_of;
 use timeline::word::VALUE_SPAN;
 use timeline::word::number_of;
 use timeline::word::step_of;
@@ -52,15 +50,15 @@ pub struct Origin {
 
 // How far into its step a point lies.
 pub fn offset_of(starts: &[u32], word: u64) -> usize
-    requires { ⌜ scheduleOf (now starts) (wordStep word) ≤ wordTick word ⌝ }
+    requires { ⌜ Notable (now starts) word ⌝ }
     ensures { λ r. ⌜ r ≡ offsetOf (scheduleOf (now (starts .entry))) word ⌝ }
 {
-    tick_of(word) - start_of(starts, step_of(word))
+    tick_of(word) - starts[step_of(word) as usize] as usize
 }
 
 // From a point to later ones of the other value or of the same, by `turn`.
 pub fn point_origin(starts: &[u32], word: u64, turn: u16) -> Origin
-    requires { ⌜ (scheduleOf (now starts) (wordStep word) ≤ wordTick word) × (turn ≤ 1) ⌝ }
+    requires { ⌜ Notable (now starts) word × (turn ≤ 1) ⌝ }
     ensures { λ r. ⌜ r ≡ pointOrigin (scheduleOf (now (starts .entry))) turn word ⌝ }
 {
     Origin {

@@ -22,7 +22,7 @@ use timeline::word::value_of;
 
 // Orders a point after the origin, if it has the value and is not before the tick.
 fn raise_onto(starts: &[u32], origin: Origin, word: u64, gaps: &mut [u32])
-    requires { ⌜ Gaps (now gaps) × OriginKnown rowWidth origin × Notable (scheduleOf (now starts)) word ⌝ }
+    requires { ⌜ Gaps (now gaps) × OriginKnown rowWidth origin × Notable (now starts) word ⌝ }
     ensures { λ _. ⌜ ((n : ℕ) → n ≤ stepLimit → origin .step < n → wordStep word < n
         → Reached n (Onto (scheduleOf (now (starts .entry))) origin word) (now (gaps .entry)) (now (gaps .exit))) ⌝ }
 {
@@ -41,8 +41,8 @@ fn raise_after(
     high: usize,
     gaps: &mut [u32],
 )
-    requires { ⌜ Gaps (now gaps) × OriginKnown rowWidth origin × Group rowWidth (scheduleOf (now starts)) (now points) low high ⌝ }
-    ensures { λ _. ⌜ ((n : ℕ) → n ≤ stepLimit → origin .step < n → Group n (scheduleOf (now (starts .entry))) (now (points .entry)) low high
+    requires { ⌜ Gaps (now gaps) × OriginKnown rowWidth origin × Group rowWidth (now starts) (now points) low high ⌝ }
+    ensures { λ _. ⌜ ((n : ℕ) → n ≤ stepLimit → origin .step < n → Group n (now (starts .entry)) (now (points .entry)) low high
         → Reached n (After (scheduleOf (now (starts .entry))) (now (points .entry)) low high origin) (now (gaps .entry)) (now (gaps .exit))) ⌝ }
 {
     let mut q = low;
@@ -67,7 +67,7 @@ fn offset_if(first: bool, a: usize, b: usize) -> usize
 
 // Orders a setter of the value before the origin's condition, which begins `from` into its step, or after it.
 fn raise_beside(starts: &[u32], origin: Origin, from: usize, word: u64, gaps: &mut [u32])
-    requires { ⌜ Gaps (now gaps) × OriginKnown rowWidth origin × (from ≤ longest) × Notable (scheduleOf (now starts)) word ⌝ }
+    requires { ⌜ Gaps (now gaps) × OriginKnown rowWidth origin × (from ≤ longest) × Notable (now starts) word ⌝ }
     ensures { λ _. ⌜ Reached rowWidth (Beside (scheduleOf (now (starts .entry))) origin from word) (now (gaps .entry)) (now (gaps .exit)) ⌝ }
 {
     if value_of(word) == origin.value {
@@ -93,7 +93,7 @@ fn raise_around(
     gaps: &mut [u32],
 )
     requires { ⌜ Gaps (now gaps) × OriginKnown rowWidth origin × (from ≤ longest)
-        × Group rowWidth (scheduleOf (now starts)) (now points) low high ⌝ }
+        × Group rowWidth (now starts) (now points) low high ⌝ }
     ensures { λ _. ⌜ Reached rowWidth (Around (scheduleOf (now (starts .entry))) (now (points .entry)) low high origin from)
         (now (gaps .entry)) (now (gaps .exit)) ⌝ }
 {
@@ -113,7 +113,7 @@ pub fn pair_conditions(
     fact: Fact,
     gaps: &mut [u32],
 )
-    requires { ⌜ FactKnown (view job (now s)) (scheduleOf (now starts)) (now points) fact × Gaps (now gaps) ⌝ }
+    requires { ⌜ FactKnown (view job (now s)) (now starts) (now points) fact × Gaps (now gaps) ⌝ }
     ensures { λ _. ⌜ Reached (job .count .steps)
         (FactOrder (view job (now (s .entry))) (scheduleOf (now (starts .entry))) (now (points .entry)) fact)
         (now (gaps .entry)) (now (gaps .exit)) ⌝ }
@@ -137,8 +137,8 @@ pub fn pair_among(
     turn: u16,
     gaps: &mut [u32],
 )
-    requires { ⌜ Gaps (now gaps) × Group rowWidth (scheduleOf (now starts)) (now points) low high × (turn ≤ 1) ⌝ }
-    ensures { λ _. ⌜ ((n : ℕ) → n ≤ stepLimit → Group n (scheduleOf (now (starts .entry))) (now (points .entry)) low high
+    requires { ⌜ Gaps (now gaps) × Group rowWidth (now starts) (now points) low high × (turn ≤ 1) ⌝ }
+    ensures { λ _. ⌜ ((n : ℕ) → n ≤ stepLimit → Group n (now (starts .entry)) (now (points .entry)) low high
         → Reached n (FromPoints (scheduleOf (now (starts .entry))) (now (points .entry)) low high turn) (now (gaps .entry)) (now (gaps .exit))) ⌝ }
 {
     let mut p = low;

@@ -35,7 +35,7 @@ const MANY_STEPS: usize = WIDTH / 2;
 
 // Notes a point. Going back in time, it lies no further into its step than what is noted of that, so its lead is the largest.
 fn note(starts: &[u32], word: u64, leads: &mut [u32; LEADS])
-    requires { ⌜ Notable (scheduleOf (now starts)) word ⌝ }
+    requires { ⌜ Notable (now starts) word ⌝ }
     ensures { λ _. ⌜ now (leads .exit) ≡ leadsWith (scheduleOf (now (starts .entry))) word (now (leads .entry)) ⌝ }
 {
     let k = WIDTH * value_of(word) as usize + step_of(word) as usize;
@@ -51,8 +51,8 @@ fn note_from(
     t: usize,
     leads: &mut [u32; LEADS],
 ) -> usize
-    requires { ⌜ ((high : ℕ) × Noting (scheduleOf (now starts)) (now points) low high noted t (now leads)) ⌝ }
-    ensures { λ r. ⌜ ((high : ℕ) → Noting (scheduleOf (now (starts .entry))) (now (points .entry)) low high noted t (now (leads .entry))
+    requires { ⌜ ((high : ℕ) × Noting (now starts) (now points) low high noted t (now leads)) ⌝ }
+    ensures { λ r. ⌜ ((high : ℕ) → Noting (now (starts .entry)) (now (points .entry)) low high noted t (now (leads .entry))
         → NotedBack (scheduleOf (now (starts .entry))) (now (points .entry)) low high t r (now (leads .exit))) ⌝ }
 {
     let mut p = noted;
@@ -116,7 +116,7 @@ pub fn row_setters(
     high: usize,
     gaps: &mut [u32],
 )
-    requires { ⌜ Gaps (now gaps) × (n ≤ stepLimit) × Group n (scheduleOf (now starts)) (now points) low high
+    requires { ⌜ Gaps (now gaps) × (n ≤ stepLimit) × Group n (now starts) (now points) low high
         × ValuesApart (now points) low high ⌝ }
     ensures { λ _. ⌜ Reached n (FromPoints (scheduleOf (now (starts .entry))) (now (points .entry)) low high 1)
         (now (gaps .entry)) (now (gaps .exit)) ⌝ }
@@ -143,8 +143,8 @@ pub fn row_points(
     turn: u16,
     gaps: &mut [u32],
 )
-    requires { ⌜ Gaps (now gaps) × (n ≤ stepLimit) × Group n (scheduleOf (now starts)) (now points) (first .low) (first .high)
-        × Group n (scheduleOf (now starts)) (now points) (second .low) (second .high)
+    requires { ⌜ Gaps (now gaps) × (n ≤ stepLimit) × Group n (now starts) (now points) (first .low) (first .high)
+        × Group n (now starts) (now points) (second .low) (second .high)
         × (turn ≤ 1) ⌝ }
     ensures { λ _. ⌜ Reached n (FromTo (scheduleOf (now (starts .entry))) (now (points .entry)) first second turn)
         (now (gaps .entry)) (now (gaps .exit)) ⌝ }
@@ -169,7 +169,7 @@ pub fn row_conditions(
     fact: Fact,
     gaps: &mut [u32],
 )
-    requires { ⌜ FactKnown (view job (now s)) (scheduleOf (now starts)) (now points) fact × Gaps (now gaps) ⌝ }
+    requires { ⌜ FactKnown (view job (now s)) (now starts) (now points) fact × Gaps (now gaps) ⌝ }
     ensures { λ _. ⌜ Reached (job .count .steps)
         (FromConditions (view job (now (s .entry))) (scheduleOf (now (starts .entry))) (now (points .entry)) fact)
         (now (gaps .entry)) (now (gaps .exit)) ⌝ }

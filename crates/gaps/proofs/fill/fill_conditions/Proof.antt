@@ -30,7 +30,7 @@ fill-conditions-spec =
     let test = made .before in
     let l = test .before in
     let d = l .before .before .before .before .before .before .before in (
-      given-known (made .places-of .ensures) (fact-known (d .pre .0) _ (test .loop-test .taken)),
+      given-known (made .places-of .ensures) (fact-known (d .pre .0) (d .pre .2) _ (test .loop-test .taken)),
       l .loop .inv .1 .whole (d .pre .1),
     ))
     (λ c.

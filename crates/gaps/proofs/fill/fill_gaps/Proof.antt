@@ -30,7 +30,7 @@ fill-gaps-spec =
     let w = d .pre .0 in
     let none = empty-gaps _ (w .size) (w .empty) in
     let whole1 = support .fill-support .ensures _ (w .linked) .whole none in
-    (now (d .args .s), record { form = w .form; known = w .known; valid = w .valid }, whole1))
+    (now (d .args .s), record { form = w .form; known = w .known; valid = w .valid }, whole1, d .pre .2 .each))
     (λ c κs.
     let opposing = c .before .before .before in
     let support = opposing .before .before .before .before in
@@ -40,7 +40,7 @@ fill-gaps-spec =
     let none = empty-gaps _ (w .size) (w .empty) in
     let whole1 = support .fill-support .ensures _ (w .linked) .whole none in
     let whole2 = opposing .fill-opposing .ensures _ known .whole whole1 in
-    (known, whole2))
+    (known, whole2, d .pre .2 .each))
     (λ c κs.
     let conditions = c .before .before .before in
     let opposing = conditions .before .before .before .before in
@@ -52,7 +52,7 @@ fill-gaps-spec =
     let whole1 = support .fill-support .ensures _ (w .linked) .whole none in
     let whole2 = opposing .fill-opposing .ensures _ known .whole whole1 in
     let whole3 = conditions .fill-conditions .ensures .whole whole2 in
-    (now (d .args .s), known, whole3))
+    (now (d .args .s), known, whole3, d .pre .2 .each))
     (λ c κs.
     let levels = c .before .before .before in
     let conditions = levels .before .before .before .before in

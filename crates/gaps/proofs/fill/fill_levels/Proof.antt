@@ -47,7 +47,7 @@ fill-levels-spec =
     let d = l .before .before .before .before .before .before .before .before in (
       l .loop .inv .1 .whole (d .pre .2),
       d .pre .1 .form .stepCount,
-      rw (low .begin-at .ensures .0, high .begin-at2 .ensures .0) (level-known (d .pre .1) _ (test .loop-test .taken)),
+      rw (low .begin-at .ensures .0, high .begin-at2 .ensures .0) (level-known (d .pre .1) (d .pre .3) _ (test .loop-test .taken)),
     ))
     (λ c.
     let test = c .before .before .before .before .before .before in

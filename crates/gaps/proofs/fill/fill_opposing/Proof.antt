@@ -41,7 +41,7 @@ fill-opposing-spec =
     let d = l .before .before .before .before .before .before .before in (
       l .loop .inv .1 .whole (d .pre .2),
       d .pre .1 .form .stepCount,
-      rw (low .begin-at .ensures .0, high .begin-at2 .ensures .0) (opposing-known (d .pre .1) _ (test .loop-test .taken)),
+      rw (low .begin-at .ensures .0, high .begin-at2 .ensures .0) (opposing-known (d .pre .1) (d .pre .3) _ (test .loop-test .taken)),
       rw (low .begin-at .ensures .0, high .begin-at2 .ensures .0)
           (placed-apart (d .pre .1 .known) _ (test .loop-test .taken) (valid-one-value (d .pre .1 .form) (d .pre .1 .valid))),
     ))

@@ -9,7 +9,7 @@ use Rattle.order_file.specs.Table.{rowWidth}
 use Rattle.order_file.specs.Contents.{stepLimit}
 use Rattle.rows.specs.Points.{Group, Reached, Among, PointOrder}
 use Rattle.rows.proofs.Reached.{within-up, within-all, within-empty}
-use Rattle.rows.proofs.Grouped.{group-from, point-known, later-given}
+use Rattle.rows.proofs.Grouped.{group-from, group-notable, point-known, later-given}
 use Rattle.rows.proofs.pairs.pair_among.Statement.{statement}
 use Rattle.rows.proofs.pairs.pair_among.Tie as tie
 
@@ -18,7 +18,7 @@ pair-among-spec =
     tie.close
     (tie.spec
     (λ starts points low high turn gaps₀ p₀ gaps p. (low ≤ p) × (p ≤ high) × ((n : ℕ) → n ≤ stepLimit
-    → Group n (scheduleOf starts) points low high
+    → Group n starts points low high
     → Reached n (Among low p (PointOrder (scheduleOf starts) points low high turn)) gaps₀ gaps))
     (λ starts points low high turn gaps₀ p₀ gaps p. high - p)
     (λ c.
@@ -36,7 +36,7 @@ pair-among-spec =
     let test = c .before in
     let l = test .before in
     let d = l .before .before .before .before in
-    (d .pre .1 .begun _ (l .loop .inv .0) (test .loop-test .taken), d .pre .2))
+    (group-notable (d .pre .1) (omega arith) _ (l .loop .inv .0) (test .loop-test .taken), d .pre .2))
     (λ c.
     let l = c .before .before .before in
     let d = l .before .before .before .before in
@@ -66,7 +66,7 @@ pair-among-spec =
     let i = l .loop .inv in
     let t = test .loop-test .taken in
     let e = made .point-origin .ensures in
-    let x = scheduleOf (now (d .args .starts)) in
+    let starts = now (d .args .starts) in
     let points = now (d .args .points) in (
       omega (arith, i .0),
       omega (arith, t),
@@ -74,7 +74,7 @@ pair-among-spec =
           let step = point-known group few _ (i .0) t (d .args .turn) e .step in
           let rest = group-from group few (l .loop .p + 1) (omega (arith, i .0)) (omega (arith, t)) in
           within-up _ _ _ _ _ _ _ (i .0) (i .2 n few group)
-          (later-given x points n _ _ (l .loop .p) (d .args .turn) _ _ group (i .0) t e (raised .raise-after .ensures n few step rest)),
+          (later-given starts points n _ _ (l .loop .p) (d .args .turn) _ _ group (i .0) t e (raised .raise-after .ensures n few step rest)),
     ))
     (λ c.
     let l = c .before in

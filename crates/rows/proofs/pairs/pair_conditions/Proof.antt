@@ -9,7 +9,7 @@ use Rattle.validity.specs.Ticks.{scheduleOf}
 use Rattle.order_file.specs.Table.{rowWidth}
 use Rattle.rows.specs.Points.{Reached, Among, AroundCondition}
 use Rattle.rows.proofs.Reached.{within-up, within-all, within-empty}
-use Rattle.rows.proofs.Grouped.{group-wide, last-known, origin-wide}
+use Rattle.rows.proofs.Grouped.{group-wide, group-notable, last-known, origin-wide}
 use Rattle.rows.proofs.Beside.{around-given, fact-paired}
 use Rattle.rows.proofs.pairs.pair_conditions.Statement.{statement}
 use Rattle.rows.proofs.pairs.pair_conditions.Tie as tie
@@ -37,7 +37,8 @@ pair-conditions-spec =
     let test = c .before .before in
     let l = test .before .before in
     let d = l .before .before .before .before .before in
-    d .pre .0 .placed .wanted .begun _ (l .loop .inv .0) (test .if1 .taken))
+    let w = d .pre .0 .placed in
+    group-notable (w .wanted) (w .few) _ (l .loop .inv .0) (test .if1 .taken))
     (λ c κs.
     let offset = c .before in
     let made = offset .before in

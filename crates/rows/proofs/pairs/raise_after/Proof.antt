@@ -3,7 +3,6 @@ use Prim.Native.Nat.{_-_}
 use mathlib.Core.Path.{refl}
 use native.Mathlib.Omega.{arith}
 use borrow.Author.Needs.{needs}
-use Rattle.validity.specs.Ticks.{scheduleOf}
 use Rattle.order_file.specs.Table.{rowWidth}
 use Rattle.rows.specs.Points.{Ordering}
 use Rattle.rows.proofs.Reached.{within-up, within-all, within-empty}
@@ -15,7 +14,7 @@ pub raise-after-spec : {M : Type 1} → statement M
 raise-after-spec =
     tie.close
     (tie.spec
-    (λ starts points origin low high gaps₀ q₀ gaps q. Ordering (scheduleOf starts) points low high origin gaps₀ q gaps)
+    (λ starts points origin low high gaps₀ q₀ gaps q. Ordering starts points low high origin gaps₀ q gaps)
     (λ starts points origin low high gaps₀ q₀ gaps q. high - q)
     (λ c.
     let d = c .before .before .before in

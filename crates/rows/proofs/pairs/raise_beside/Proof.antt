@@ -18,7 +18,7 @@ raise-beside-spec =
     (tie.spec
     (λ c κs. search needs)
     (λ c κs. search needs)
-    (λ c κs. c .before .before .before .before .before .before .pre .3 .begun)
+    (λ c κs. c .before .before .before .before .before .before .pre .3)
     (λ c κs. search needs) (λ c κs. search needs) (λ c κs. search needs) (λ c κs. search needs) (λ c κs. search needs)
     (λ c κs.
     let early = c .before in

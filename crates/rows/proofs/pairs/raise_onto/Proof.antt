@@ -17,7 +17,7 @@ raise-onto-spec =
     (λ c κs. search needs)
     (λ c κs.
     let d = c .before .before .before .before .before .before .before in
-    d .pre .2 .begun)
+    d .pre .2)
     (λ c κs.
     let d = c .before .before .before .before .before .before .before .before in
     (d .pre .1 .near, omega (arith, c .offset-of .ensures, d .pre .2 .near)))

@@ -14,7 +14,7 @@ note-spec =
     (λ c κs. search needs)
     (λ c. search needs)
     (λ c. omega (arith, c .before .value-of .ensures .1, c .step-of .ensures .1))
-    (λ c κs. c .before .before .before .pre .begun)
+    (λ c κs. c .before .before .before .pre)
     (λ c. omega (arith, c .offset-of .ensures, c .before .before .before .before .pre .near))
     (λ c. omega (arith, c .offset-of .ensures, c .before .before .before .before .pre .near))
     (λ c. omega (arith, c .before .before .value-of .ensures .1, c .before .step-of .ensures .1))

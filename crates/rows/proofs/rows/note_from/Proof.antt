@@ -2,7 +2,6 @@
 use Prim.Native.Nat.{ℕ}
 use native.Mathlib.Omega.{arith}
 use borrow.Author.Needs.{needs}
-use Rattle.validity.specs.Ticks.{scheduleOf}
 use Rattle.rows.specs.Points.{Noting}
 use Rattle.rows.proofs.Grouped.{group-notable, noting-found, noting-all, noting-more}
 use Rattle.rows.proofs.rows.note_from.Statement.{statement}
@@ -13,7 +12,7 @@ note-from-spec =
     tie.close
     (tie.spec
     (λ starts points low noted t leads₀ p₀ leads p.
-    (high : ℕ) → Noting (scheduleOf starts) points low high noted t leads₀ → Noting (scheduleOf starts) points low high p t leads)
+    (high : ℕ) → Noting starts points low high noted t leads₀ → Noting starts points low high p t leads)
     (λ starts points low noted t leads₀ p₀ leads p. p)
     (λ c high w. w)
     (λ c. omega (arith, c .loop-test .taken))

@@ -5,7 +5,7 @@ use borrow.Author.Needs.{needs}
 use Rattle.validity.specs.Ticks.{scheduleOf}
 use Rattle.rows.specs.Points.{pointOrigin, Rowing}
 use Rattle.rows.proofs.Reached.{within-all}
-use Rattle.rows.proofs.Grouped.{point-known, rowing-start, rowing-noting, rowing-known, rowing-more}
+use Rattle.rows.proofs.Grouped.{group-notable, point-known, rowing-start, rowing-noting, rowing-known, rowing-more}
 use Rattle.rows.proofs.rows.row_points.Statement.{statement}
 use Rattle.rows.proofs.rows.row_points.Tie as tie
 
@@ -35,7 +35,7 @@ row-points-spec =
     let l = test .before .before in
     let d = l .before .before .before .before in
     let t = test .if1 .taken in
-    (d .pre .2 .begun _ (omega (arith, t)) (omega (arith, t, l .loop .inv .upto)), d .pre .4))
+    (group-notable (d .pre .2) (d .pre .1) _ (omega (arith, t)) (omega (arith, t, l .loop .inv .upto)), d .pre .4))
     (λ c κs.
     let made = c .before in
     let test = made .before .before in

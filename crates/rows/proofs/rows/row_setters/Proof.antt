@@ -33,7 +33,7 @@ row-setters-spec =
     let l = test .before in
     let d = l .before .before .before .before in
     let t = test .loop-test .taken in
-    (d .pre .2 .begun _ (omega (arith, t)) (omega (arith, t, l .loop .inv .upto)), omega arith))
+    (group-notable (d .pre .2) (d .pre .1) _ (omega (arith, t)) (omega (arith, t, l .loop .inv .upto)), omega arith))
     (λ c κs.
     let made = c .before .before in
     let test = made .before .before in
