@@ -11,6 +11,7 @@ well-formed-ranged w =
       conditionCount = w .conditionCount;
       effectCount = w .effectCount;
       useCount = w .useCount;
+      timedCount = w .timedCount;
       initialValue = w .initialValue;
       lengthRange = w .lengthRange;
       conditionStep = w .conditionStep;
@@ -25,4 +26,7 @@ well-formed-ranged w =
       useStep = w .useStep;
       useLevel = w .useLevel;
       useEnd = w .useEnd;
+      timedFact = w .timedFact;
+      timedTick = w .timedTick;
+      timedValue = w .timedValue;
     }

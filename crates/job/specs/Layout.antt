@@ -1,21 +1,29 @@
 -- "The job file", its header, the record widths, where each table starts, the highest counts.
 use Prim.Native.Nat.{ℕ, zero, suc, _+_, _*_}
-use mathlib.Core.Bool.{Bool}
+use mathlib.Core.Bool.{Bool, cond}
 use mathlib.Core.List.{List, [], _∷_}
 use lib.ListN.{getD}
-use lib.Dec.{ltb}
+use lib.Dec.{ltb, eqb}
 use Rattle.laws.specs.Search.{any}
 use Rattle.little_endian.specs.Bytes.{u16At}
 use Rattle.job.specs.declared.layout.Counts.{Counts}
 use Rattle.job.specs.declared.layout.Positions.{Positions}
 use Rattle.job.specs.declared.layout.Job.{Job}
 
--- the edition that is read, and the bytes of its header
-abbrev pub edition : ℕ
-edition = 1
+-- the editions that are read: from 1 to this
+abbrev pub latestEdition : ℕ
+latestEdition = 1
 
-abbrev pub headerWidth : ℕ
-headerWidth = 48
+-- the edition that has timed facts
+abbrev pub timedEdition : ℕ
+timedEdition = 2
+
+-- the bytes of the shortest header, and of an edition's: timed facts add an offset
+abbrev pub shortestHeader : ℕ
+shortestHeader = 48
+
+unfoldable pub headerWidth : ℕ → ℕ
+headerWidth edition = cond (eqb edition timedEdition) 52 shortestHeader
 
 -- "Widths in bytes": a record's, table by table
 abbrev pub factWidth : ℕ
@@ -39,9 +47,12 @@ useWidth = 12
 abbrev pub goalWidth : ℕ
 goalWidth = 8
 
+abbrev pub timedWidth : ℕ
+timedWidth = 8
+
 -- in the tables' order
 abbrev pub widths : List ℕ
-widths = factWidth ∷ levelWidth ∷ stepWidth ∷ conditionWidth ∷ effectWidth ∷ useWidth ∷ goalWidth ∷ []
+widths = factWidth ∷ levelWidth ∷ stepWidth ∷ conditionWidth ∷ effectWidth ∷ useWidth ∷ goalWidth ∷ timedWidth ∷ []
 
 -- "Highest counts in that order"
 abbrev pub mostFacts : ℕ
@@ -65,10 +76,13 @@ mostUses = 256
 abbrev pub mostGoals : ℕ
 mostGoals = 32
 
-abbrev pub highest : List ℕ
-highest = mostFacts ∷ mostLevels ∷ mostSteps ∷ mostConditions ∷ mostEffects ∷ mostUses ∷ mostGoals ∷ []
+abbrev pub mostTimed : ℕ
+mostTimed = 64
 
--- the counts of the header, which names goals before conditions
+abbrev pub highest : List ℕ
+highest = mostFacts ∷ mostLevels ∷ mostSteps ∷ mostConditions ∷ mostEffects ∷ mostUses ∷ mostGoals ∷ mostTimed ∷ []
+
+-- the counts of the header, which names goals before conditions, and timed facts last
 unfoldable pub countsOf : List ℕ → Counts
 countsOf s = record {
   facts = u16At s 4;
@@ -78,34 +92,42 @@ countsOf s = record {
   effects = u16At s 14;
   uses = u16At s 16;
   goals = u16At s 10;
+  timed = u16At s 18;
 }
 
 -- the counts in the tables' order
 abbrev pub countList : Counts → List ℕ
-countList c = c .facts ∷ c .levels ∷ c .steps ∷ c .conditions ∷ c .effects ∷ c .uses ∷ c .goals ∷ []
+countList c = c .facts ∷ c .levels ∷ c .steps ∷ c .conditions ∷ c .effects ∷ c .uses ∷ c .goals ∷ c .timed ∷ []
 
--- "The tables follow the header without gaps": where table t starts; for t = 7, where the file ends
-unfoldable pub tableAt : Counts → ℕ → ℕ
-tableAt c zero = headerWidth
-tableAt c (suc t) = tableAt c t + getD widths t 0 * getD (countList c) t 0
+-- "The tables follow the header without gaps", which has so many bytes: where table t starts; for t = 8, where the file ends
+unfoldable pub tableAt : ℕ → Counts → ℕ → ℕ
+tableAt header c zero = header
+tableAt header c (suc t) = tableAt header c t + getD widths t 0 * getD (countList c) t 0
 
--- the positions of the seven tables and of the file's end
-unfoldable pub positionsOf : Counts → Positions
-positionsOf c = record {
-  facts = tableAt c 0;
-  levels = tableAt c 1;
-  steps = tableAt c 2;
-  conditions = tableAt c 3;
-  effects = tableAt c 4;
-  uses = tableAt c 5;
-  goals = tableAt c 6;
-  end = tableAt c 7;
+-- the positions of the eight tables and of the file's end
+unfoldable pub positionsOf : ℕ → Counts → Positions
+positionsOf header c = record {
+  facts = tableAt header c 0;
+  levels = tableAt header c 1;
+  steps = tableAt header c 2;
+  conditions = tableAt header c 3;
+  effects = tableAt header c 4;
+  uses = tableAt header c 5;
+  goals = tableAt header c 6;
+  timed = tableAt header c 7;
+  end = tableAt header c 8;
 }
 
 -- what the header says, and where it puts the tables
 unfoldable pub jobOf : List ℕ → Job
-jobOf s = record { serial = u16At s 2; count = countsOf s; at = positionsOf (countsOf s) }
+jobOf s =
+    record {
+      edition = u16At s 0;
+      serial = u16At s 2;
+      count = countsOf s;
+      at = positionsOf (headerWidth (u16At s 0)) (countsOf s);
+    }
 
 -- refusal 4: a count exceeds its highest
 unfoldable pub countTooHigh : Counts → Bool
-countTooHigh c = any 7 (λ t. ltb (getD highest t 0) (getD (countList c) t 0))
+countTooHigh c = any 8 (λ t. ltb (getD highest t 0) (getD (countList c) t 0))

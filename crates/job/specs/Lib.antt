@@ -1,4 +1,5 @@
--- What a job file holds: its layout, the job in it, and when that is well formed.
+-- What a job file holds: its layout, the job in it, when that is well formed, and the job with its timed facts among its effects.
 pub mod Layout
 pub mod Model
 pub mod WellFormed
+pub mod Clocked

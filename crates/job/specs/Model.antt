@@ -9,7 +9,8 @@ use Rattle.job.specs.declared.records.Goal.{Goal}
 use Rattle.job.specs.declared.records.Condition.{Condition}
 use Rattle.job.specs.declared.records.Effect.{Effect}
 use Rattle.job.specs.declared.records.Use.{Use}
-use Rattle.job.specs.Layout.{factWidth, levelWidth, stepWidth, conditionWidth, effectWidth, useWidth, goalWidth, jobOf}
+use Rattle.job.specs.declared.records.TimedFact.{TimedFact}
+use Rattle.job.specs.Layout.{factWidth, levelWidth, stepWidth, conditionWidth, effectWidth, useWidth, goalWidth, timedWidth, jobOf}
 
 -- a step's highest start and length
 abbrev pub lastStart : ℕ
@@ -24,6 +25,10 @@ lastDeadline = 1100000
 
 abbrev pub noDeadline : ℕ
 noDeadline = 4294967295
+
+-- a timed fact's highest tick
+abbrev pub lastTimed : ℕ
+lastTimed = 1100000
 
 -- a level's numbers are within ±1,000,000,000, a use's amount within ±1,000,000: so biased
 abbrev pub lowestLevel : ℕ
@@ -49,6 +54,7 @@ pub record Model : Type 0 where
   pub effects : ℕ
   pub uses : ℕ
   pub goals : ℕ
+  pub timed : ℕ
   -- a fact's initial value
   pub initial : ℕ → ℕ
   -- a level's numbers, each plus signBias
@@ -77,6 +83,10 @@ pub record Model : Type 0 where
   pub goalFact : ℕ → ℕ
   pub goalValue : ℕ → ℕ
   pub goalDeadline : ℕ → ℕ
+  -- what the clock sets, and at which tick
+  pub timedFact : ℕ → ℕ
+  pub timedTick : ℕ → ℕ
+  pub timedValue : ℕ → ℕ
 
 -- the job in bytes whose tables lie as given: record k of a table of width w starts at w * k
 abbrev pub view : Job → List ℕ → Model
@@ -89,6 +99,7 @@ view j s = record {
   effects = j .count .effects;
   uses = j .count .uses;
   goals = j .count .goals;
+  timed = j .count .timed;
   initial = λ k. byteAt s (j .at .facts + factWidth * k);
   levelInitial = λ k. biasedAt s (j .at .levels + levelWidth * k);
   levelLeast = λ k. biasedAt s (j .at .levels + levelWidth * k + 4);
@@ -112,6 +123,9 @@ view j s = record {
   goalFact = λ k. u16At s (j .at .goals + goalWidth * k);
   goalValue = λ k. u16At s (j .at .goals + goalWidth * k + 2);
   goalDeadline = λ k. u32At s (j .at .goals + goalWidth * k + 4);
+  timedFact = λ k. u16At s (j .at .timed + timedWidth * k);
+  timedTick = λ k. u32At s (j .at .timed + timedWidth * k + 2);
+  timedValue = λ k. u16At s (j .at .timed + timedWidth * k + 6);
 }
 
 -- the job that a file holds
@@ -143,3 +157,7 @@ effectOf m k = record { step = m .effectStep k; fact = m .effectFact k; at = m .
 
 abbrev pub useOf : Model → ℕ → Use
 useOf m k = record { step = m .useStep k; level = m .useLevel k; at = m .useAt k; amount = m .useAmount k }
+
+-- a timed fact's
+abbrev pub timedOf : Model → ℕ → TimedFact
+timedOf m k = record { fact = m .timedFact k; tick = m .timedTick k; value = m .timedValue k }

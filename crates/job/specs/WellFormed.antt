@@ -1,10 +1,10 @@
--- What holds of the job in a file that refusals 1 to 7 pass. Plain statements, one a sentence.
+-- What holds of the job in a file that refusals 1 to 7 and 17 pass. Plain statements, one a sentence.
 use Prim.Native.Nat.{ℕ, _≤_, _<_}
 use mathlib.Core.Path.{_≡_}
 use mathlib.Core.Logic.{_⊎_}
-use Rattle.job.specs.Layout.{mostFacts, mostLevels, mostSteps, mostConditions, mostEffects, mostUses, mostGoals}
+use Rattle.job.specs.Layout.{mostFacts, mostLevels, mostSteps, mostConditions, mostEffects, mostUses, mostGoals, mostTimed}
 use Rattle.little_endian.specs.Bytes.{signBias}
-use Rattle.job.specs.Model.{Model, lastStart, longest, lastDeadline, noDeadline, lowestLevel, highestLevel, lowestAmount, highestAmount}
+use Rattle.job.specs.Model.{Model, lastStart, longest, lastDeadline, noDeadline, lastTimed, lowestLevel, highestLevel, lowestAmount, highestAmount}
 
 pub record WellFormed (m : Model) : Type 0 where
   -- marks and counts
@@ -16,6 +16,7 @@ pub record WellFormed (m : Model) : Type 0 where
   pub effectCount : m .effects ≤ mostEffects
   pub useCount : m .uses ≤ mostUses
   pub goalCount : m .goals ≤ mostGoals
+  pub timedCount : m .timed ≤ mostTimed
   -- facts and levels
   pub initialValue : (k : ℕ) → k < m .facts → m .initial k ≤ 1
   pub levelFrom : (k : ℕ) → k < m .levels → lowestLevel ≤ m .levelLeast k
@@ -48,6 +49,10 @@ pub record WellFormed (m : Model) : Type 0 where
   pub goalFact : (k : ℕ) → k < m .goals → m .goalFact k < m .facts
   pub goalValue : (k : ℕ) → k < m .goals → m .goalValue k ≤ 1
   pub goalDeadline : (k : ℕ) → k < m .goals → (m .goalDeadline k ≤ lastDeadline) ⊎ (m .goalDeadline k ≡ noDeadline)
+  -- timed facts
+  pub timedFact : (k : ℕ) → k < m .timed → m .timedFact k < m .facts
+  pub timedTick : (k : ℕ) → k < m .timed → m .timedTick k ≤ lastTimed
+  pub timedValue : (k : ℕ) → k < m .timed → m .timedValue k ≤ 1
   -- no step is against itself
   pub oneWay :
       (e f : ℕ) → e < m .effects → f < m .effects → m .effectStep e ≡ m .effectStep f → m .effectFact e ≡ m .effectFact f
@@ -61,6 +66,10 @@ pub record WellFormed (m : Model) : Type 0 where
       → m .conditionFrom c ≤ m .effectAt e
       → m .effectAt e < m .conditionTo c
       → m .effectValue e ≡ m .conditionValue c
+  -- and the clock is not
+  pub timedOneWay :
+      (j k : ℕ) → j < m .timed → k < m .timed → m .timedFact j ≡ m .timedFact k → m .timedTick j ≡ m .timedTick k
+      → m .timedValue j ≡ m .timedValue k
 
 -- what refusals 1 to 6 leave of it that the points of a job rely on
 pub record Ranged (m : Model) : Type 0 where
@@ -70,6 +79,7 @@ pub record Ranged (m : Model) : Type 0 where
   pub conditionCount : m .conditions ≤ mostConditions
   pub effectCount : m .effects ≤ mostEffects
   pub useCount : m .uses ≤ mostUses
+  pub timedCount : m .timed ≤ mostTimed
   pub initialValue : (k : ℕ) → k < m .facts → m .initial k ≤ 1
   pub lengthRange : (k : ℕ) → k < m .steps → m .stepLength k ≤ longest
   pub conditionStep : (k : ℕ) → k < m .conditions → m .conditionStep k < m .steps
@@ -84,3 +94,6 @@ pub record Ranged (m : Model) : Type 0 where
   pub useStep : (k : ℕ) → k < m .uses → m .useStep k < m .steps
   pub useLevel : (k : ℕ) → k < m .uses → m .useLevel k < m .levels
   pub useEnd : (k : ℕ) → k < m .uses → m .useAt k ≤ m .stepLength (m .useStep k)
+  pub timedFact : (k : ℕ) → k < m .timed → m .timedFact k < m .facts
+  pub timedTick : (k : ℕ) → k < m .timed → m .timedTick k ≤ lastTimed
+  pub timedValue : (k : ℕ) → k < m .timed → m .timedValue k ≤ 1

@@ -1,7 +1,7 @@
 // The job file's header: counts, limits, and where the tables lie.
 ghost use Prim.Native.Nat.{_+_, _*_, _^_, _≤_};
 ghost use mathlib.Core.Path.{_≡_};
-ghost use Rattle.job.specs.Layout.{countsOf, positionsOf, jobOf, countTooHigh};
+ghost use Rattle.job.specs.Layout.{headerWidth, countsOf, positionsOf, jobOf, countTooHigh};
 use little_endian::SIGN_BIAS;
 
 // The tables, in their order in the file.
@@ -13,6 +13,7 @@ pub enum Table {
     Effects,
     Uses,
     Goals,
+    TimedFacts,
 }
 
 // How many records each table has.
@@ -24,6 +25,7 @@ pub struct Counts {
     pub effects: u16,
     pub uses: u16,
     pub goals: u16,
+    pub timed: u16,
 }
 
 // Where each table starts, and where the file ends.
@@ -35,23 +37,31 @@ pub struct Positions {
     pub effects: u32,
     pub uses: u32,
     pub goals: u32,
+    pub timed: u32,
     pub end: u32,
 }
 
 // What the header says of a job, and where that puts its tables.
 pub struct Job {
+    pub edition: u16,
     pub serial: u16,
     pub count: Counts,
     pub at: Positions,
 }
 
-// The edition that is read, and the bytes of its header.
-pub const EDITION: usize = 1;
+// The editions that are read: from 1 to this.
+pub const LATEST_EDITION: u16 = 1;
 
-pub const HEADER: usize = 48;
+// The edition that has timed facts.
+pub const TIMED_EDITION: u16 = 2;
+
+// The bytes of the shortest header, and of one with timed facts.
+pub const SHORTEST_HEADER: usize = 48;
+
+const TIMED_HEADER: usize = 52;
 
 // Record widths in bytes, in the tables' order.
-pub const WIDTHS: [usize; 7] = [1, 12, 10, 14, 10, 12, 8];
+pub const WIDTHS: [usize; 8] = [1, 12, 10, 14, 10, 12, 8, 8];
 
 pub const FACT: usize = 0;
 
@@ -67,12 +77,16 @@ pub const USE: usize = 5;
 
 pub const GOAL: usize = 6;
 
-// A step's highest start and length, and a goal's highest deadline.
+pub const TIMED: usize = 7;
+
+// A step's highest start and length, a goal's highest deadline, and a timed fact's highest tick.
 pub const LAST_START: usize = 1000000;
 
 pub const LONGEST: usize = 100000;
 
 pub const LAST_DEADLINE: usize = 1100000;
+
+pub const LAST_TIMED: usize = 1100000;
 
 // The bounds of a level's numbers and of a use's amount, each plus the bias of a signed number.
 pub const LOWEST_LEVEL: usize = SIGN_BIAS - 1000000000;
@@ -99,18 +113,37 @@ impl Job {
 
     pub const GOALS: u16 = 32;
 
+    pub const TIMED: u16 = 64;
+
     pub fn read(s: &[u8]) -> Job
         ensures { λ r. ⌜ r ≡ jobOf (now (s .entry)) ⌝ }
     {
+        let edition = little_endian::u16_at(s, 0) as u16;
         let serial = little_endian::u16_at(s, 2) as u16;
         let count = Counts::read(s);
-        let at = Positions::of(count);
-        Job { serial, count, at }
+        let at = Positions::of(header_width(edition), count);
+        Job {
+            edition,
+            serial,
+            count,
+            at,
+        }
+    }
+}
+
+// The bytes of an edition's header.
+pub fn header_width(edition: u16) -> usize
+    ensures { λ r. ⌜ (r ≡ headerWidth edition) × (r ≤ 52) ⌝ }
+{
+    if edition == TIMED_EDITION {
+        TIMED_HEADER
+    } else {
+        SHORTEST_HEADER
     }
 }
 
 impl Counts {
-    // The header counts goals before conditions.
+    // The header counts goals before conditions, and timed facts last.
     pub fn read(s: &[u8]) -> Counts
         ensures { λ r. ⌜ r ≡ countsOf (now (s .entry)) ⌝ }
     {
@@ -122,23 +155,26 @@ impl Counts {
             conditions: little_endian::u16_at(s, 12) as u16,
             effects: little_endian::u16_at(s, 14) as u16,
             uses: little_endian::u16_at(s, 16) as u16,
+            timed: little_endian::u16_at(s, 18) as u16,
         }
     }
 }
 
 impl Positions {
     // The tables follow the header without gaps.
-    pub fn of(count: Counts) -> Positions
-        ensures { λ r. ⌜ r ≡ positionsOf count ⌝ }
+    fn of(header: usize, count: Counts) -> Positions
+        requires { ⌜ header ≤ 52 ⌝ }
+        ensures { λ r. ⌜ r ≡ positionsOf header count ⌝ }
     {
-        let facts = HEADER as u32;
+        let facts = header as u32;
         let levels = table_end(facts, WIDTHS[FACT], count.facts);
         let steps = table_end(levels, WIDTHS[LEVEL], count.levels);
         let conditions = table_end(steps, WIDTHS[STEP], count.steps);
         let effects = table_end(conditions, WIDTHS[CONDITION], count.conditions);
         let uses = table_end(effects, WIDTHS[EFFECT], count.effects);
         let goals = table_end(uses, WIDTHS[USE], count.uses);
-        let end = table_end(goals, WIDTHS[GOAL], count.goals);
+        let timed = table_end(goals, WIDTHS[GOAL], count.goals);
+        let end = table_end(timed, WIDTHS[TIMED], count.timed);
         Positions {
             facts,
             levels,
@@ -147,6 +183,7 @@ impl Positions {
             effects,
             uses,
             goals,
+            timed,
             end,
         }
     }
@@ -172,4 +209,5 @@ pub fn count_too_high(count: Counts) -> bool
         | (Job::EFFECTS < count.effects)
         | (Job::USES < count.uses)
         | (Job::GOALS < count.goals)
+        | (Job::TIMED < count.timed)
 }

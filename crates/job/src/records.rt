@@ -213,3 +213,10 @@ pub struct Use {
     pub at: usize,
     pub amount: usize,
 }
+
+// A timed fact's: what the clock sets, and at which tick.
+pub struct TimedFact {
+    pub fact: u16,
+    pub tick: usize,
+    pub value: u16,
+}

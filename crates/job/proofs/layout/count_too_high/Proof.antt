@@ -1,4 +1,4 @@
--- The seven tests are those of `any 7`.
+-- The eight tests are those of `any 8`.
 use mathlib.Core.Path.{refl}
 use Rattle.laws.specs.Search.{any}
 use Rattle.job.specs.Layout.{countTooHigh}

@@ -17,12 +17,14 @@ of-spec =
     (λ c. search needs) (λ c _. search needs)
     (λ c. search needs) (λ c _. search needs)
     (λ c. search needs) (λ c _. search needs)
+    (λ c. search needs) (λ c _. search needs)
     (λ c. rw (
-      c .table-end7 .ensures .0,
-      c .before .table-end6 .ensures .0,
-      c .before .before .table-end5 .ensures .0,
-      c .before .before .before .table-end4 .ensures .0,
-      c .before .before .before .before .table-end3 .ensures .0,
-      c .before .before .before .before .before .table-end2 .ensures .0,
-      c .before .before .before .before .before .before .table-end .ensures .0,
+      c .table-end8 .ensures .0,
+      c .before .table-end7 .ensures .0,
+      c .before .before .table-end6 .ensures .0,
+      c .before .before .before .table-end5 .ensures .0,
+      c .before .before .before .before .table-end4 .ensures .0,
+      c .before .before .before .before .before .table-end3 .ensures .0,
+      c .before .before .before .before .before .before .table-end2 .ensures .0,
+      c .before .before .before .before .before .before .before .table-end .ensures .0,
     )))
