@@ -1,4 +1,4 @@
--- All of the form check, refusals 1 to 7 in checking order.
+-- All of the form check, refusals 1 to 7 and 17 in checking order.
 use Prim.Native.Nat.{ℕ}
 use mathlib.Core.Path.{_≡_}
 use mathlib.Core.List.{List}
@@ -11,10 +11,11 @@ use Rattle.record_check.specs.declared.Form.{Form}
 use Rattle.record_check.specs.Header.{headerCheck}
 use Rattle.record_check.specs.Records.{recordCheck}
 use Rattle.self_check.specs.Against.{stepCheck}
+use Rattle.self_check.specs.Clock.{timedCheck}
 
--- refusals 1 to 7
+-- refusals 1 to 7, then 17
 unfoldable pub formCheck : List ℕ → Verdict
-formCheck s = headerCheck s then recordCheck (modelOf s) then stepCheck (modelOf s)
+formCheck s = headerCheck s then recordCheck (modelOf s) then stepCheck (modelOf s) then timedCheck (modelOf s)
 
 -- what the form check promises: its verdict, what it read of the header, and of an accepted file that it is well formed
 pub record FormPromise (s : List ℕ) (r : Form) : Type 0 where

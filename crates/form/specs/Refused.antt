@@ -1,4 +1,4 @@
--- Part of the promise: what refusals 1 to 7 say, in plain words.
+-- Part of the promise: what refusals 1 to 7 and 17 say, in plain words.
 use Prim.Native.Nat.{ℕ, _≤_, _<_}
 use mathlib.Core.Path.{_≡_}
 use mathlib.Core.Bool.{true, false}
@@ -9,8 +9,8 @@ use Rattle.little_endian.specs.Bytes.{u16At}
 use Rattle.verdict.specs.declared.Verdict.{Verdict}
 use Rattle.verdict.specs.Verdict.{number, place, nowhere}
 use Rattle.job.specs.declared.layout.Table.{Table}
-use Rattle.job.specs.declared.layout.Table.the-variants.{Facts, Levels, Steps, Conditions, Effects, Uses, Goals}
-use Rattle.job.specs.Layout.{edition, headerWidth, highest, countsOf, countList, positionsOf}
+use Rattle.job.specs.declared.layout.Table.the-variants.{Facts, Levels, Steps, Conditions, Effects, Uses, Goals, TimedFacts}
+use Rattle.job.specs.Layout.{latestEdition, timedEdition, shortestHeader, headerWidth, highest, countsOf, countList, jobOf}
 use Rattle.job.specs.Model.{Model, modelOf}
 use Rattle.record_check.specs.Header.{layoutAgrees}
 use Rattle.record_check.specs.Ranges.{countIn, recordOk}
@@ -24,6 +24,7 @@ tableNumber Conditions = 3
 tableNumber Effects = 4
 tableNumber Uses = 5
 tableNumber Goals = 6
+tableNumber TimedFacts = 7
 
 -- 6: record k of table t breaks its ranges, every lower one keeps them, and so does every record of the tables before
 pub record FirstOutOfRange (m : Model) (t : Table) (k : ℕ) : Type 0 where
@@ -69,20 +70,40 @@ pub record FirstAgainst (m : Model) (step : ℕ) : Type 0 where
   pub against : AgainstItself m step
   pub noLower : (lower : ℕ) → lower < step → AgainstItself m lower → ⊥
 
+-- 17: timed facts j and k set a fact both ways at one tick
+pub record TimedBothWays (m : Model) (j k : ℕ) : Type 0 where
+  pub known : (j < m .timed) × (k < m .timed)
+  pub sameFact : m .timedFact j ≡ m .timedFact k
+  pub sameTick : m .timedTick j ≡ m .timedTick k
+  pub otherValue : m .timedValue j ≡ m .timedValue k → ⊥
+
+-- timed fact j is the lower of two such, and no lower one is one of two
+pub record FirstOfTwo (m : Model) (j : ℕ) : Type 0 where
+  pub against : (k : ℕ) × (j < k) × TimedBothWays m j k
+  pub noLower : (lower k : ℕ) → lower < j → TimedBothWays m lower k → ⊥
+
+-- the numbers of the form check in checking order: 17 comes after 7
+abbrev pub FormNumber : ℕ → Type 0
+FormNumber n = (n ≤ 7) ⊎ (n ≡ 17)
+
 -- what a verdict's number and place say: its own sentence fails, and those before it hold
 pub record FormRefusal (s : List ℕ) (v : Verdict) : Type 0 where
-  pub short : number v ≡ 1 → length s < headerWidth
-  pub long : 1 < number v → headerWidth ≤ length s
-  pub otherEdition : number v ≡ 2 → u16At s 0 ≡ edition → ⊥
-  pub thisEdition : 2 < number v → u16At s 0 ≡ edition
-  pub markOut : number v ≡ 3 → (1 < u16At s 2) ⊎ (u16At s 18 ≡ 0 → ⊥)
-  pub marksIn : 3 < number v → (u16At s 2 ≤ 1) × (u16At s 18 ≡ 0)
-  pub countOut : number v ≡ 4 → (t : ℕ) × (t < 7) × (getD highest t 0 < getD (countList (countsOf s)) t 0)
-  pub countsIn : 4 < number v → (t : ℕ) → t < 7 → getD (countList (countsOf s)) t 0 ≤ getD highest t 0
-  pub layoutOut : number v ≡ 5 → layoutAgrees s (positionsOf (countsOf s)) ≡ false
-  pub layoutIn : 5 < number v → layoutAgrees s (positionsOf (countsOf s)) ≡ true
+  -- too short for any header, or for that of its edition
+  pub short : number v ≡ 1 → (length s < shortestHeader) ⊎ (length s < headerWidth (u16At s 0))
+  pub long : 1 < number v → shortestHeader ≤ length s
+  pub longEnough : 2 < number v → headerWidth (u16At s 0) ≤ length s
+  pub otherEdition : number v ≡ 2 → 1 ≤ u16At s 0 → u16At s 0 ≤ latestEdition → ⊥
+  pub knownEdition : 2 < number v → (1 ≤ u16At s 0) × (u16At s 0 ≤ latestEdition)
+  pub markOut : number v ≡ 3 → (1 < u16At s 2) ⊎ ((u16At s 0 ≡ timedEdition → ⊥) × (u16At s 18 ≡ 0 → ⊥))
+  pub marksIn : 3 < number v → (u16At s 2 ≤ 1) × ((u16At s 0 ≡ timedEdition → ⊥) → u16At s 18 ≡ 0)
+  pub countOut : number v ≡ 4 → (t : ℕ) × (t < 8) × (getD highest t 0 < getD (countList (countsOf s)) t 0)
+  pub countsIn : 4 < number v → (t : ℕ) → t < 8 → getD (countList (countsOf s)) t 0 ≤ getD highest t 0
+  pub layoutOut : number v ≡ 5 → layoutAgrees s (jobOf s) ≡ false
+  pub layoutIn : 5 < number v → layoutAgrees s (jobOf s) ≡ true
   pub recordOut : number v ≡ 6 → (t : Table) × FirstOutOfRange (modelOf s) t (place v)
   pub recordsIn : 6 < number v → (t : Table) (k : ℕ) → k < countIn (modelOf s) t → recordOk (modelOf s) t k ≡ true
   pub stepOut : number v ≡ 7 → FirstAgainst (modelOf s) (place v)
-  pub most : number v ≤ 7
+  pub stepsIn : 7 < number v → (step : ℕ) → step < modelOf s .steps → AgainstItself (modelOf s) step → ⊥
+  pub timedOut : number v ≡ 17 → FirstOfTwo (modelOf s) (place v)
+  pub most : FormNumber (number v)
   pub unplaced : number v ≤ 5 → place v ≡ nowhere

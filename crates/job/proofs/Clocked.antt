@@ -58,21 +58,21 @@ module _ (m : Model) (w : WellFormed m) where
   one-way e f a b =
       elim (decLt e (m .effects)) [
         | yes h ↦
-          elim (decLt f (m .effects)) [
-            | yes i ↦ rw (lt-ltb e (m .effects) h, lt-ltb f (m .effects) i) (w .oneWay e f h i)
-            | no i ↦
-              rw (lt-ltb e (m .effects) h, le-ltb f (m .effects) (omega arith))
-              (λ (z : m .effectStep e ≡ m .steps) _ _. absurd (omega (arith, w .effectStep e h)))
-          ]
+            elim (decLt f (m .effects)) [
+              | yes i ↦ rw (lt-ltb e (m .effects) h, lt-ltb f (m .effects) i) (w .oneWay e f h i)
+              | no i ↦
+                  rw (lt-ltb e (m .effects) h, le-ltb f (m .effects) (omega arith))
+                  (λ (z : m .effectStep e ≡ m .steps) _ _. absurd (omega (arith, w .effectStep e h)))
+            ]
         | no h ↦
-          elim (decLt f (m .effects)) [
-            | yes i ↦
-              rw (le-ltb e (m .effects) (omega arith), lt-ltb f (m .effects) i)
-              (λ (z : m .steps ≡ m .effectStep f) _ _. absurd (omega (arith, w .effectStep f i)))
-            | no i ↦
-              rw (le-ltb e (m .effects) (omega arith), le-ltb f (m .effects) (omega arith))
-              (λ _. w .timedOneWay (e - m .effects) (f - m .effects) (omega arith) (omega arith))
-          ]
+            elim (decLt f (m .effects)) [
+              | yes i ↦
+                  rw (le-ltb e (m .effects) (omega arith), lt-ltb f (m .effects) i)
+                  (λ (z : m .steps ≡ m .effectStep f) _ _. absurd (omega (arith, w .effectStep f i)))
+              | no i ↦
+                  rw (le-ltb e (m .effects) (omega arith), le-ltb f (m .effects) (omega arith))
+                  (λ _. w .timedOneWay (e - m .effects) (f - m .effects) (omega arith) (omega arith))
+            ]
       ]
 
   keeps-own :
@@ -82,8 +82,11 @@ module _ (m : Model) (w : WellFormed m) where
       → M .effectValue e ≡ m .conditionValue c
   keeps-own e c a b s =
       let h : e < m .effects = own-effect e a (omega (arith, s, w .conditionStep c b)) in
-      rw (of-effect m (m .effectFact) (m .timedFact) e h, of-effect m (m .effectAt) (m .timedTick) e h,
-        of-effect m (m .effectValue) (m .timedValue) e h)
+      rw (
+        of-effect m (m .effectFact) (m .timedFact) e h,
+        of-effect m (m .effectAt) (m .timedTick) e h,
+        of-effect m (m .effectValue) (m .timedValue) e h,
+      )
       (w .keepsOwn e c h b (sym (of-effect m (m .effectStep) (λ _. m .steps) e h) ∙ s))
 
   pub clocked-form : ClockedForm M
@@ -111,11 +114,11 @@ module _ (m : Model) (w : WellFormed m) where
         conditionEnd = w .conditionEnd;
         conditionValue = w .conditionValue;
         effectStep =
-          of-both m (λ n. n ≤ m .steps) (m .effectStep) (λ _. m .steps) (λ e l. omega (arith, w .effectStep e l)) (λ _ _. omega arith);
+            of-both m (λ n. n ≤ m .steps) (m .effectStep) (λ _. m .steps) (λ e l. omega (arith, w .effectStep e l)) (λ _ _. omega arith);
         effectFact = of-both m (λ n. n < m .facts) (m .effectFact) (m .timedFact) (w .effectFact) (w .timedFact);
         effectNear = of-both m (λ n. n ≤ lastTimed) (m .effectAt) (m .timedTick) (λ e l. omega (arith, step-near e l)) (w .timedTick);
         stepEffectNear = λ e l h.
-          rw (of-effect m (m .effectAt) (m .timedTick) e (own-effect e l h)) (step-near e (own-effect e l h));
+            rw (of-effect m (m .effectAt) (m .timedTick) e (own-effect e l h)) (step-near e (own-effect e l h));
         effectValue = of-both m (λ n. n ≤ 1) (m .effectValue) (m .timedValue) (w .effectValue) (w .timedValue);
         useStep = w .useStep;
         useLevel = w .useLevel;

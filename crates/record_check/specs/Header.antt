@@ -3,29 +3,39 @@ use Prim.Native.Nat.{ℕ}
 use mathlib.Core.Bool.{Bool, _&&_, _||_, not}
 use mathlib.Core.List.{List}
 use lib.ListN.{length}
-use lib.Dec.{ltb, eqb}
-use Rattle.little_endian.specs.Bytes.{u16At, u32At}
+use lib.Dec.{ltb, leb, eqb}
+use Rattle.little_endian.specs.Bytes.{u32At}
 use Rattle.verdict.specs.declared.Verdict.{Verdict}
 use Rattle.verdict.specs.declared.Verdict.the-variants.{FileTooShort, UnknownEdition, MarkOutOfRange, CountTooHigh, LayoutDisagrees}
 use Rattle.verdict.specs.Verdict.{_then_, refuseIf}
-use Rattle.job.specs.declared.layout.Positions.{Positions}
-use Rattle.job.specs.Layout.{edition, headerWidth, countsOf, positionsOf, countTooHigh}
+use Rattle.job.specs.declared.layout.Job.{Job}
+use Rattle.job.specs.Layout.{latestEdition, timedEdition, shortestHeader, headerWidth, jobOf, countTooHigh}
 
--- refusal 5, the other way round: every offset and the file's length agree with the tables
-unfoldable pub layoutAgrees : List ℕ → Positions → Bool
-layoutAgrees s p =
-    eqb (u32At s 20) (p .facts) && eqb (u32At s 24) (p .levels) && eqb (u32At s 28) (p .steps)
-    && eqb (u32At s 32) (p .conditions)
-    && eqb (u32At s 36) (p .effects)
-    && eqb (u32At s 40) (p .uses)
-    && eqb (u32At s 44) (p .goals)
-    && eqb (length s) (p .end)
+-- refusal 2, the other way round: the edition is read
+unfoldable pub editionKnown : ℕ → Bool
+editionKnown edition = leb 1 edition && leb edition latestEdition
 
--- refusals 1 to 5: the header and the layout
+-- refusal 3: the serial mark is neither 0 nor 1, or an edition without timed facts counts some
+unfoldable pub marksWrong : Job → Bool
+marksWrong j = ltb 1 (j .serial) || (not (eqb (j .edition) timedEdition) && not (eqb (j .count .timed) 0))
+
+-- refusal 5, the other way round: every offset of the edition and the file's length agree with the tables
+unfoldable pub layoutAgrees : List ℕ → Job → Bool
+layoutAgrees s j =
+    eqb (u32At s 20) (j .at .facts) && eqb (u32At s 24) (j .at .levels) && eqb (u32At s 28) (j .at .steps)
+    && eqb (u32At s 32) (j .at .conditions)
+    && eqb (u32At s 36) (j .at .effects)
+    && eqb (u32At s 40) (j .at .uses)
+    && eqb (u32At s 44) (j .at .goals)
+    && (not (eqb (j .edition) timedEdition) || eqb (u32At s 48) (j .at .timed))
+    && eqb (length s) (j .at .end)
+
+-- refusals 1 to 5, the header and the layout: a file too short for its edition's header is refused once the edition is known
 unfoldable pub headerCheck : List ℕ → Verdict
 headerCheck s =
-    refuseIf (ltb (length s) headerWidth) FileTooShort
-    then refuseIf (not (eqb (u16At s 0) edition)) UnknownEdition
-    then refuseIf (ltb 1 (u16At s 2) || not (eqb (u16At s 18) 0)) MarkOutOfRange
-    then refuseIf (countTooHigh (countsOf s)) CountTooHigh
-    then refuseIf (not (layoutAgrees s (positionsOf (countsOf s)))) LayoutDisagrees
+    refuseIf (ltb (length s) shortestHeader) FileTooShort
+    then refuseIf (not (editionKnown (jobOf s .edition))) UnknownEdition
+    then refuseIf (ltb (length s) (headerWidth (jobOf s .edition))) FileTooShort
+    then refuseIf (marksWrong (jobOf s)) MarkOutOfRange
+    then refuseIf (countTooHigh (jobOf s .count)) CountTooHigh
+    then refuseIf (not (layoutAgrees s (jobOf s))) LayoutDisagrees

@@ -3,9 +3,9 @@ use Prim.Native.Nat.{ℕ}
 use mathlib.Core.Bool.{Bool, _&&_, _||_, not}
 use lib.Dec.{ltb, leb, eqb}
 use Rattle.job.specs.declared.layout.Table.{Table}
-use Rattle.job.specs.declared.layout.Table.the-variants.{Facts, Levels, Steps, Conditions, Effects, Uses, Goals}
+use Rattle.job.specs.declared.layout.Table.the-variants.{Facts, Levels, Steps, Conditions, Effects, Uses, Goals, TimedFacts}
 use Rattle.little_endian.specs.Bytes.{signBias}
-use Rattle.job.specs.Model.{Model, lastStart, longest, lastDeadline, noDeadline, lowestLevel, highestLevel, lowestAmount, highestAmount}
+use Rattle.job.specs.Model.{Model, lastStart, longest, lastDeadline, noDeadline, lastTimed, lowestLevel, highestLevel, lowestAmount, highestAmount}
 
 -- a number plus signBias is within ±1,000,000,000
 abbrev pub levelInRange : ℕ → Bool
@@ -56,6 +56,10 @@ goalOk m k =
     ltb (m .goalFact k) (m .facts) && leb (m .goalValue k) 1
     && (leb (m .goalDeadline k) lastDeadline || eqb (m .goalDeadline k) noDeadline)
 
+-- Timed fact: a fact that is counted, a tick to 1,100,000, value 0 or 1
+unfoldable pub timedOk : Model → ℕ → Bool
+timedOk m k = ltb (m .timedFact k) (m .facts) && leb (m .timedTick k) lastTimed && leb (m .timedValue k) 1
+
 -- how many records a table has
 abbrev pub countIn : Model → Table → ℕ
 countIn m Facts = m .facts
@@ -65,6 +69,7 @@ countIn m Conditions = m .conditions
 countIn m Effects = m .effects
 countIn m Uses = m .uses
 countIn m Goals = m .goals
+countIn m TimedFacts = m .timed
 
 -- whether a record of a table keeps its ranges and names what exists
 abbrev pub recordOk : Model → Table → ℕ → Bool
@@ -75,6 +80,7 @@ recordOk m Conditions k = conditionOk m k
 recordOk m Effects k = effectOk m k
 recordOk m Uses k = useOk m k
 recordOk m Goals k = goalOk m k
+recordOk m TimedFacts k = timedOk m k
 
 -- whether it does not
 abbrev pub recordBroken : Model → Table → ℕ → Bool

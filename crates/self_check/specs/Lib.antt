@@ -1,3 +1,4 @@
--- When a step is against itself: refusal 7.
+-- When a step or the clock is against itself: refusals 7 and 17.
 pub mod Against
+pub mod Clock
 pub mod Keys

@@ -6,7 +6,7 @@ use Rattle.laws.specs.Search.{lowest}
 use Rattle.verdict.specs.declared.Verdict.{Verdict}
 use Rattle.verdict.specs.declared.Verdict.the-variants.{Accepted, FileTooShort, UnknownEdition, MarkOutOfRange, CountTooHigh, LayoutDisagrees}
 use Rattle.verdict.specs.declared.Verdict.the-variants.{RecordOutOfRange, StepAgainstItself, StartsMiscounted, FixedStepMoved, EffectsConflict}
-use Rattle.verdict.specs.declared.Verdict.the-variants.{ConditionFails, LevelOutOfBounds, GoalFails, StepsOverlap}
+use Rattle.verdict.specs.declared.Verdict.the-variants.{ConditionFails, LevelOutOfBounds, GoalFails, StepsOverlap, TimedFactsConflict}
 
 -- the place where none is named
 abbrev pub nowhere : ℕ
@@ -29,6 +29,7 @@ number (ConditionFails k) = 11
 number (LevelOutOfBounds k) = 12
 number (GoalFails k) = 13
 number (StepsOverlap k) = 14
+number (TimedFactsConflict k) = 17
 
 -- the place of a refusal
 abbrev pub place : Verdict → ℕ
@@ -47,6 +48,7 @@ place (ConditionFails k) = k
 place (LevelOutOfBounds k) = k
 place (GoalFails k) = k
 place (StepsOverlap k) = k
+place (TimedFactsConflict k) = k
 
 infixl 20 _then_
 -- a check, and where it accepts the next one

@@ -19,6 +19,7 @@ pub enum Verdict {
     LevelOutOfBounds(u16),
     GoalFails(u16),
     StepsOverlap(u16),
+    TimedFactsConflict(u16),
 }
 
 // The place where none is named.
@@ -44,6 +45,7 @@ pub fn number(v: Verdict) -> u16
         Verdict::LevelOutOfBounds(_) => 12,
         Verdict::GoalFails(_) => 13,
         Verdict::StepsOverlap(_) => 14,
+        Verdict::TimedFactsConflict(_) => 17,
     }
 }
 
@@ -67,6 +69,7 @@ pub fn place(v: Verdict) -> u16
         Verdict::LevelOutOfBounds(k) => k,
         Verdict::GoalFails(k) => k,
         Verdict::StepsOverlap(k) => k,
+        Verdict::TimedFactsConflict(k) => k,
     }
 }
 
