@@ -40,7 +40,7 @@ module _ (m : Model) (w : WellFormed m) where
   abbrev M : Model
   M = clocked m
 
-  step-near : (e : ℕ) → e < m .effects → m .effectAt e ≤ longest
+  pub step-near : (e : ℕ) → e < m .effects → m .effectAt e ≤ longest
   step-near e l = omega (arith, w .effectEnd e l, w .lengthRange (m .effectStep e) (w .effectStep e l))
 
   -- an effect of a step is no timed fact

@@ -7,7 +7,7 @@ use native.Mathlib.Decide.{decLe}
 use native.Mathlib.Omega.{arith}
 use Rattle.job.specs.Model.{Model}
 use Rattle.job.specs.Model.{noDeadline}
-use Rattle.job.specs.WellFormed.{WellFormed}
+use Rattle.job.specs.Clocked.{ClockedForm}
 use Rattle.validity.specs.Ticks.{effectTick, opposes}
 use Rattle.validity.specs.Seen.{lastGiven, seen}
 use Rattle.validity.specs.Valid.{Valid}
@@ -17,7 +17,7 @@ use Rattle.orders.specs.Links.{goalLink}
 use Rattle.orders.specs.Supporter.{byInitialState, byEffect, GoalLinkedTo}
 use Rattle.orders.proofs.Supporter.{giver-gives, opposes-giver, apart, goal-supported}
 
-module _ (m : Model) (x : ℕ → ℕ) (w : WellFormed m) (s : Valid m x) where
+module _ (m : Model) (x : ℕ → ℕ) (w : ClockedForm m) (s : Valid m x) where
   -- no effect opposes a goal after its deadline: right after it the other value would be seen
   opposed-in-time :
       (g f : ℕ) → g < m .goals → (m .goalDeadline g ≡ noDeadline → ⊥) → Giver m (m .goalFact g) (1 - m .goalValue g) f

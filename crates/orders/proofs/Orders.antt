@@ -10,19 +10,19 @@ use borrow.Author.Tests.{lt-ltb, le-leb, lt-leb, eq-eqb, ne-eqb}
 use lib.Dec.{ltb, leb, eqb}
 use Rattle.laws.specs.Fold.{largest}
 use Rattle.laws.proofs.Fold.{largest-ge}
-use Rattle.job.specs.Model.{Model, longest}
-use Rattle.job.specs.WellFormed.{WellFormed}
+use Rattle.job.specs.Model.{Model, longest, lastTimed}
+use Rattle.job.specs.Clocked.{ClockedForm}
 use Rattle.validity.specs.Ticks.{effectTick, firstTick, lastTick, useTick, finish, opposes}
 use Rattle.order_file.specs.Contents.{initialState, gapBias}
 use Rattle.orders.specs.Links.{conditionLink}
 use Rattle.orders.specs.Gaps.{strictly, supportOrder, supportGap, opposingOrder, opposingGap, beforeOrder, afterOrder, conditionGap}
 use Rattle.orders.specs.Gaps.{levelOrder, levelGap, serialGap, gapOf}
+use Rattle.validity.specs.Valid.{Valid}
+use Rattle.orders.specs.Windows.{clockGap, clockLatest, latestOf}
 use Rattle.orders.specs.Obeys.{Obeys}
-use Rattle.orders.proofs.Near.{effect-near, from-near, use-near}
-
--- the largest gap from step i to step k that y has room for, 0 for none
-abbrev pub room : (ℕ → ℕ) → ℕ → ℕ → ℕ
-room y i k = y k + gapBias - y i
+use Rattle.orders.proofs.Near.{room, from-near, use-near}
+use Rattle.orders.proofs.Limits.{limit-fixed, limit-free, latest-fixed, latest-free, clock-bound}
+use Rattle.orders.proofs.Planned.{clock-fits}
 
 -- effect e is on the fact with another value
 pub record Opposer (m : Model) (fact value e : ℕ) : Type 0 where
@@ -55,6 +55,16 @@ module _ (m : Model) (x : ℕ → ℕ) where
       × (serialGap m x i k ≤ gapOf m x i k)
   unfolding gapOf
   gap-rules i k d = rw (ne-eqb i k d) (omega arith)
+
+  clock-rules :
+      (i k : ℕ)
+      → (supportGap m x i k ≤ clockGap m x i k) × (opposingGap m x i k ≤ clockGap m x i k) × (conditionGap m x i k ≤ clockGap m x i k)
+  unfolding clockGap
+  clock-rules i k = omega arith
+
+  clock-among : (i k : ℕ) → (i ≡ k → ⊥) → clockGap m x i k ≤ gapOf m x i k
+  unfolding clockGap
+  clock-among i k d = omega (arith, gap-rules i k d .0, gap-rules i k d .1, gap-rules i k d .2)
 
   -- and at least the gap of each of its orders
   support-gap :
@@ -121,15 +131,69 @@ module _ (m : Model) (x : ℕ → ℕ) where
   unfolding serialGap
   serial-gap i k a l b = chosen _ (m .stepLength i + gapBias) (ap₂ _&&_ (ap₂ _&&_ (eq-eqb _ _ a) (le-leb _ _ l)) b)
 
-module _ (m : Model) (x y : ℕ → ℕ) (w : WellFormed m) (o : Obeys m x y) where
+module _ (m : Model) (x y : ℕ → ℕ) (w : ClockedForm m) (s : Valid m x) (zero : x (m .steps) ≡ 0) (clock : y (m .steps) ≡ 0) (o : Obeys m x y) where
   -- what obeys has room for every gap
   roomy : (i k : ℕ) → i < m .steps → k < m .steps → gapOf m x i k ≤ room y i k
   roomy i k h g =
       elim (ℕ-discrete (gapOf m x i k) 0) [ yes z ↦ omega arith | no z ↦ omega (arith, o .keeps i k h g z) ]
 
-  -- so two points stay in order: by the gap of different steps, or by their places in one step
+  -- a fixed step
+  pub fixed-kept : (k : ℕ) → k < m .steps → m .fixed k ≡ 1 → y k ≡ m .start k
+  fixed-kept k h f =
+      let q : latestOf m x k ≡ m .start k = latest-fixed m x k f in
+      omega (arith, limit-fixed m x k f, o .fromLimit k h, o .byLatest k h (λ z. omega (arith, w .startRange k h)))
+
+  -- the clock's orders too: they are limits
+  from-clock : (k : ℕ) → k < m .steps → clockGap m x (m .steps) k ≤ room y (m .steps) k
+  from-clock k h =
+      elim (ℕ-discrete (m .fixed k) 1) [
+        | yes f ↦ omega (arith, clock-fits m x w s (m .steps) k, fixed-kept k h f, s .fixedKept k h f)
+        | no f ↦ omega (arith, limit-free m x k f, o .fromLimit k h)
+      ]
+
+  to-clock : (i : ℕ) → i < m .steps → clockGap m x i (m .steps) ≤ room y i (m .steps)
+  to-clock i h =
+      elim (ℕ-discrete (m .fixed i) 1) [
+        | yes f ↦ omega (arith, clock-fits m x w s i (m .steps), fixed-kept i h f, s .fixedKept i h f)
+        | no f ↦
+            elim (ℕ-discrete (clockGap m x i (m .steps)) 0) [
+              | yes z ↦ omega arith
+              | no z ↦
+                  let l : latestOf m x i ≤ gapBias - clockGap m x i (m .steps) = omega (arith, latest-free m x i f, clock-bound m x i z) in
+                  omega (arith, clock-fits m x w s i (m .steps), o .byLatest i h (λ n. omega arith))
+            ]
+      ]
+
+  clock-roomy : (i k : ℕ) → i ≤ m .steps → k ≤ m .steps → (i ≡ k → ⊥) → clockGap m x i k ≤ room y i k
+  clock-roomy i k h g d =
+      elim (decLt i (m .steps)) [
+        | yes a ↦
+            elim (decLt k (m .steps)) [
+              | yes b ↦ omega (arith, clock-among m x i k d, roomy i k a b)
+              | no b ↦ let e : k ≡ m .steps = omega arith in rw e (to-clock i a)
+            ]
+        | no a ↦
+            let e : i ≡ m .steps = omega arith in
+            elim (decLt k (m .steps)) [
+              | yes b ↦ rw e (from-clock k b)
+              | no b ↦ absurd (d (omega arith))
+            ]
+      ]
+
+  -- so two points on facts stay in order: by the gap of different steps, or by their places in one step
+  keeps-facts :
+      {i k gap : ℕ} (p q : ℕ) → i ≤ m .steps → k ≤ m .steps → q ≤ lastTimed → strictly p q ≤ gap → gap ≤ clockGap m x i k
+      → x i + p < x k + q
+      → y i + p < y k + q
+  keeps-facts {i} {k} p q h g b s c l =
+      elim (ℕ-discrete i k) [
+        | yes e ↦ let a : x i ≡ x k = ap x e in let d : y i ≡ y k = ap y e in omega arith
+        | no d ↦ omega (arith, clock-roomy i k h g d)
+      ]
+
+  -- and two uses of levels
   keeps-points :
-      {i k gap : ℕ} (p q : ℕ) → i < m .steps → k < m .steps → q ≤ longest → strictly p q ≤ gap → ((i ≡ k → ⊥) → gap ≤ gapOf m x i k)
+      {i k gap : ℕ} (p q : ℕ) → i < m .steps → k < m .steps → q ≤ lastTimed → strictly p q ≤ gap → ((i ≡ k → ⊥) → gap ≤ gapOf m x i k)
       → x i + p < x k + q
       → y i + p < y k + q
   keeps-points {i} {k} p q h g b s c l =
@@ -138,44 +202,50 @@ module _ (m : Model) (x y : ℕ → ℕ) (w : WellFormed m) (o : Obeys m x y) wh
         | no d ↦ omega (arith, c d, roomy i k h g)
       ]
 
+  below : {a b : ℕ} → a < b → a ≤ b
+  below l = omega arith
+
+  near : {a : ℕ} → a ≤ longest → a ≤ lastTimed
+  near l = omega arith
+
   -- rule 1
   pub kept-support :
       (c : ℕ) → c < m .conditions → (conditionLink m x c ≡ initialState → ⊥) → conditionLink m x c < m .effects
       → effectTick m x (conditionLink m x c) < firstTick m x c
       → effectTick m y (conditionLink m x c) < firstTick m y c
   kept-support c h d g l =
-      keeps-points (m .effectAt (conditionLink m x c)) (m .conditionFrom c) (w .effectStep _ g) (w .conditionStep c h) (from-near m w c h)
-      (support-gap m x c h d) (λ s. gap-rules m x _ _ s .0) l
+      keeps-facts (m .effectAt (conditionLink m x c)) (m .conditionFrom c) (w .effectStep _ g) (below (w .conditionStep c h)) (near (from-near m w c h))
+      (support-gap m x c h d) (clock-rules m x _ _ .0) l
 
   -- rule 2
   pub kept-opposing :
       (e f : ℕ) → f < m .effects → Opposer m (m .effectFact f) (m .effectValue f) e → effectTick m x e < effectTick m x f
       → effectTick m y e < effectTick m y f
   kept-opposing e f h p l =
-      keeps-points (m .effectAt e) (m .effectAt f) (w .effectStep e (p .known)) (w .effectStep f h) (effect-near m w f h)
-      (opposing-gap m x e f h p l) (λ s. gap-rules m x _ _ s .1) l
+      keeps-facts (m .effectAt e) (m .effectAt f) (w .effectStep e (p .known)) (w .effectStep f h) (w .effectNear f h)
+      (opposing-gap m x e f h p l) (clock-rules m x _ _ .1) l
 
   -- rule 3
   pub kept-before :
       (c e : ℕ) → c < m .conditions → Opposer m (m .conditionFact c) (m .conditionValue c) e → effectTick m x e < firstTick m x c
       → effectTick m y e < firstTick m y c
   kept-before c e h p l =
-      keeps-points (m .effectAt e) (m .conditionFrom c) (w .effectStep e (p .known)) (w .conditionStep c h) (from-near m w c h)
-      (before-gap m x c e h p l) (λ s. gap-rules m x _ _ s .2) l
+      keeps-facts (m .effectAt e) (m .conditionFrom c) (w .effectStep e (p .known)) (below (w .conditionStep c h)) (near (from-near m w c h))
+      (before-gap m x c e h p l) (clock-rules m x _ _ .2) l
 
   pub kept-after :
       (c e : ℕ) → c < m .conditions → Opposer m (m .conditionFact c) (m .conditionValue c) e → lastTick m x c < effectTick m x e
       → lastTick m y c < effectTick m y e
   kept-after c e h p l =
-      keeps-points (m .conditionTo c) (m .effectAt e) (w .conditionStep c h) (w .effectStep e (p .known)) (effect-near m w e (p .known))
-      (after-gap m x c e h p l) (λ s. gap-rules m x _ _ s .2) l
+      keeps-facts (m .conditionTo c) (m .effectAt e) (below (w .conditionStep c h)) (w .effectStep e (p .known)) (w .effectNear e (p .known))
+      (after-gap m x c e h p l) (clock-rules m x _ _ .2) l
 
   -- rule 4
   pub kept-uses :
       (u v : ℕ) → u < m .uses → v < m .uses → m .useLevel u ≡ m .useLevel v → useTick m x u < useTick m x v
       → useTick m y u < useTick m y v
   kept-uses u v h g a l =
-      keeps-points (m .useAt u) (m .useAt v) (w .useStep u h) (w .useStep v g) (use-near m w v g) (level-gap m x u v h g a l)
+      keeps-points (m .useAt u) (m .useAt v) (w .useStep u h) (w .useStep v g) (near (use-near m w v g)) (level-gap m x u v h g a l)
       (λ s. gap-rules m x _ _ s .3) l
 
   -- rule 5

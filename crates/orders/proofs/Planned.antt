@@ -3,30 +3,30 @@
 use Prim.Native.Nat.{ℕ, _+_, _≤_, _<_, max}
 use mathlib.Core.Path.{_≡_, refl, sym, ap, _∙_}
 use mathlib.Core.Bool.{Bool, true, false, _&&_, _||_, not, cond}
-use mathlib.Core.Logic.{⊎-elim}
+use mathlib.Core.Logic.{_⊎_, inl, inr, ⊎-elim}
 use native.Mathlib.Decide.{ℕ-discrete}
 use native.Mathlib.Omega.{arith}
 use borrow.Author.Tests.{ltb-true, leb-true, eqb-true, eqb-false, not-true}
 use lib.Dec.{ltb, leb, eqb}
 use Rattle.laws.specs.Fold.{largest, least}
 use Rattle.laws.proofs.Search.{either, and-both}
-use Rattle.laws.proofs.Fold.{largest-le}
+use Rattle.laws.proofs.Fold.{largest-le, least-none}
 use Rattle.job.specs.Model.{Model}
 use Rattle.job.specs.Model.{noDeadline}
-use Rattle.job.specs.WellFormed.{WellFormed}
+use Rattle.job.specs.Clocked.{ClockedForm}
 use Rattle.validity.specs.Ticks.{effectTick, firstTick, finish, opposes}
 use Rattle.validity.specs.Valid.{Valid}
 use Rattle.order_file.specs.Contents.{initialState, noLatest, gapBias}
 use Rattle.orders.specs.Links.{conditionLink, goalLink}
 use Rattle.orders.specs.Gaps.{strictly, supportOrder, supportGap, opposingOrder, opposingGap, beforeOrder, afterOrder, conditionGap}
 use Rattle.orders.specs.Gaps.{levelOrder, levelGap, serialGap, gapOf}
-use Rattle.orders.specs.Windows.{limitOf, allowed, latestOf}
+use Rattle.orders.specs.Windows.{clockGap, clockLatest, limitOf, allowed, latestOf}
 use Rattle.orders.specs.Supporter.{byInitialState, byEffect, ConditionLinkedTo}
 use Rattle.orders.specs.Obeys.{Obeys}
-use Rattle.orders.proofs.Orders.{room}
+use Rattle.orders.proofs.Near.{room}
 use Rattle.orders.proofs.Supporter.{least-at, condition-supported}
 use Rattle.orders.proofs.Links.{goal-link-in-time}
-use Rattle.orders.proofs.Limits.{limit-fixed, limit-free, latest-fixed, latest-free}
+use Rattle.orders.proofs.Limits.{limit-fixed, limit-free, latest-fixed, latest-free, clock-unbound, clock-bound}
 
 -- a gap that its test chooses fits where the test's parts make it fit
 chosen-fits : (a b c : Bool) (g r : ℕ) → (a ≡ true → b ≡ true → c ≡ true → g ≤ r) → cond (a && b && c) g 0 ≤ r
@@ -47,7 +47,7 @@ ordered x i k j n p q c =
     let d : x n ≡ x k = ap x (eqb-true _ _ (b .1)) in
     omega (arith, ltb-true (x j + p) (x n + q) l))
 
-module _ (m : Model) (x : ℕ → ℕ) (w : WellFormed m) (s : Valid m x) where
+module _ (m : Model) (x : ℕ → ℕ) (w : ClockedForm m) (s : Valid m x) where
   link-before :
       (c : ℕ) → c < m .conditions → (conditionLink m x c ≡ initialState → ⊥) → effectTick m x (conditionLink m x c) < firstTick m x c
   link-before c h n = by (condition-supported m x w s c h)
@@ -109,6 +109,11 @@ module _ (m : Model) (x : ℕ → ℕ) (w : WellFormed m) (s : Valid m x) where
       (m .stepLength i + gapBias) (room x i k)
       (λ _ l _. omega (arith, leb-true (finish m x i) (x k) l))
 
+  -- an order with the clock
+  pub clock-fits : (i k : ℕ) → clockGap m x i k ≤ room x i k
+  unfolding clockGap
+  clock-fits i k = omega (arith, support-fits i k, opposing-fits i k, condition-fits i k)
+
   gap-fits : (i k : ℕ) → gapOf m x i k ≤ room x i k
   unfolding gapOf
   gap-fits i k =
@@ -134,25 +139,59 @@ module _ (m : Model) (x : ℕ → ℕ) (w : WellFormed m) (s : Valid m x) where
       (λ (f : (d && l && e) ≡ false). absurd (n (rw f)))
       (either (d && l && e))
 
-  -- the theorem: a valid schedule is itself a choice that obeys
-  pub planned-obeys : Obeys m x x
-  planned-obeys =
-      record {
-        fromLimit = λ k h. from k h (ℕ-discrete (m .fixed k) 1);
-        byLatest = λ k h n. by k h n (ℕ-discrete (m .fixed k) 1);
-        keeps = λ i k h g n. omega (arith, gap-fits i k);
-      }
-    where
-      from : (k : ℕ) → k < m .steps → Dec (m .fixed k ≡ 1) → limitOf m k ≤ x k
-      from k h (yes f) = omega (arith, limit-fixed m k f, s .fixedKept k h f)
-      from k h (no f) = omega (arith, limit-free m k f)
+  -- the deadlines leave a step any start, or one no earlier than its own
+  deadlines-fit :
+      (k : ℕ) → (least (m .goals) noLatest (allowed m x k) ≡ noLatest) ⊎ (x k ≤ least (m .goals) noLatest (allowed m x k))
+  deadlines-fit k =
+      elim (ℕ-discrete (least (m .goals) noLatest (allowed m x k)) noLatest) [
+        | yes z ↦ inl z
+        | no n ↦
+            ⊎-elim
+            (λ (z : least (m .goals) noLatest (allowed m x k) ≡ noLatest). absurd (n z))
+            (λ (g : (g : ℕ) × (g < m .goals) × (allowed m x k g ≡ least (m .goals) noLatest (allowed m x k))).
+            inr (rw (← (g .2)) (allowed-fits k (g .0) (g .1) (λ z. n (sym (g .2) ∙ z)))))
+            (least-at (allowed m x k) noLatest (m .goals))
+      ]
 
-      by : (k : ℕ) → k < m .steps → (latestOf m x k ≡ noLatest → ⊥) → Dec (m .fixed k ≡ 1) → x k ≤ latestOf m x k
-      by k h n (yes f) = omega (arith, latest-fixed m x k f, s .fixedKept k h f)
-      by k h n (no f) =
-          rw (latest-free m x k f)
-          (⊎-elim
-          (λ (z : least (m .goals) noLatest (allowed m x k) ≡ noLatest). absurd (n (latest-free m x k f ∙ z)))
-          (λ (g : (g : ℕ) × (g < m .goals) × (allowed m x k g ≡ least (m .goals) noLatest (allowed m x k))).
-          rw (← (g .2)) (allowed-fits k (g .0) (g .1) (λ z. n (latest-free m x k f ∙ sym (g .2) ∙ z))))
-          (least-at (allowed m x k) noLatest (m .goals)))
+  -- where the clock starts at 0
+  module _ (zero : x (m .steps) ≡ 0) where
+    -- and so do the timed facts
+    timed-fit : (k : ℕ) → (clockLatest m x k ≡ noLatest) ⊎ ((x k ≤ clockLatest m x k) × (clockLatest m x k ≤ gapBias))
+    timed-fit k =
+        elim (ℕ-discrete (clockGap m x k (m .steps)) 0) [
+          | yes z ↦ inl (clock-unbound m x k z)
+          | no n ↦
+              let f = clock-fits k (m .steps) in
+              inr (omega (arith, clock-bound m x k n, f), omega (arith, clock-bound m x k n))
+        ]
+
+    -- the theorem: a valid schedule is itself a choice that obeys
+    pub planned-obeys : Obeys m x x
+    planned-obeys =
+        record {
+          fromLimit = λ k h. from k h (ℕ-discrete (m .fixed k) 1);
+          byLatest = λ k h n. by k h n (ℕ-discrete (m .fixed k) 1);
+          keeps = λ i k h g n. omega (arith, gap-fits i k);
+        }
+      where
+        from : (k : ℕ) → k < m .steps → Dec (m .fixed k ≡ 1) → limitOf m x k ≤ x k
+        from k h (yes f) = omega (arith, limit-fixed m x k f, s .fixedKept k h f)
+        from k h (no f) = omega (arith, limit-free m x k f, clock-fits (m .steps) k)
+
+        by : (k : ℕ) → k < m .steps → (latestOf m x k ≡ noLatest → ⊥) → Dec (m .fixed k ≡ 1) → x k ≤ latestOf m x k
+        by k h n (yes f) = omega (arith, latest-fixed m x k f, s .fixedKept k h f)
+        by k h n (no f) =
+            let q = latest-free m x k f in
+            let b = least-none (allowed m x k) (m .goals) noLatest in
+            ⊎-elim
+            (λ (z : least (m .goals) noLatest (allowed m x k) ≡ noLatest).
+            ⊎-elim
+            (λ (y : clockLatest m x k ≡ noLatest). absurd (n (omega (arith, q, z, y))))
+            (λ (y : (x k ≤ clockLatest m x k) × (clockLatest m x k ≤ gapBias)). omega (arith, q, z, y .0, y .1))
+            (timed-fit k))
+            (λ (z : x k ≤ least (m .goals) noLatest (allowed m x k)).
+            ⊎-elim
+            (λ (y : clockLatest m x k ≡ noLatest). omega (arith, q, z, y, b))
+            (λ (y : (x k ≤ clockLatest m x k) × (clockLatest m x k ≤ gapBias)). omega (arith, q, z, y .0))
+            (timed-fit k))
+            (deadlines-fit k)

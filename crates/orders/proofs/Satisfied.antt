@@ -10,7 +10,7 @@ use Rattle.laws.specs.Nth.{count}
 use Rattle.laws.proofs.Search.{and-both}
 use Rattle.laws.proofs.Nth.{count-below, nth-facts, nth-is}
 use Rattle.job.specs.Model.{Model}
-use Rattle.job.specs.WellFormed.{WellFormed}
+use Rattle.job.specs.Clocked.{ClockedForm}
 use Rattle.validity.specs.Valid.{Valid}
 use Rattle.orders.specs.Satisfies.{Satisfies}
 use Rattle.orders.specs.Gaps.{gapOf}
@@ -18,7 +18,7 @@ use Rattle.orders.specs.Windows.{limitOf}
 use Rattle.orders.specs.Obeys.{Obeys}
 use Rattle.rounds.specs.Rounds.{demand, Satisfied}
 use Rattle.order_file.specs.Contents.{gapBias}
-use Rattle.orders.specs.File.{earliestOf, ordered, pairOf, fileOf}
+use Rattle.orders.specs.File.{earliestOf, ordered, pairOf, fileWith}
 use Rattle.rounds.proofs.Rounds.{earliest-satisfied, earliest-least}
 use Rattle.orders.proofs.Planned.{planned-obeys}
 use Rattle.order_file.specs.Table.{rowWidth, tableSize}
@@ -54,7 +54,7 @@ module _ (m : Model) (x : ℕ → ℕ) where
 
   -- every pair with a gap is filed
   pub pair-filed :
-      WellFormed m → (i k : ℕ) → i < m .steps → k < m .steps → (gapOf m x i k ≡ 0 → ⊥)
+      ClockedForm m → (i k : ℕ) → i < m .steps → k < m .steps → (gapOf m x i k ≡ 0 → ⊥)
       → (o : ℕ) × (o < count tableSize (ordered m x)) × (pairOf m x o / rowWidth ≡ i) × (pairOf m x o % rowWidth ≡ k)
   pair-filed w i k h g n =
       let q : ℕ = rowWidth * i + k in
@@ -68,9 +68,10 @@ module _ (m : Model) (x : ℕ → ℕ) where
         ap (λ p. p % rowWidth) e ∙ place-second i k b,
       )
 
-  module _ (w : WellFormed m) (y : ℕ → ℕ) where
-    pub satisfies-obeys : Satisfies (fileOf m x) y → Obeys m x y
-    unfolding fileOf
+  -- whatever the links are numbered by
+  module _ (w : ClockedForm m) (number : ℕ → ℕ) (y : ℕ → ℕ) where
+    pub satisfies-obeys : Satisfies (fileWith number m x) y → Obeys m x y
+    unfolding fileWith
     satisfies-obeys s =
         record {
           fromLimit = s .fromLimit;
@@ -81,8 +82,8 @@ module _ (m : Model) (x : ℕ → ℕ) where
               omega arith;
         }
 
-    pub obeys-satisfies : Obeys m x y → Satisfies (fileOf m x) y
-    unfolding fileOf
+    pub obeys-satisfies : Obeys m x y → Satisfies (fileWith number m x) y
+    unfolding fileWith
     obeys-satisfies o =
         record {
           fromLimit = o .fromLimit;
@@ -110,31 +111,31 @@ kept-demand :
 unfolding demand
 kept-demand gap i k y h z = let g = rw (ne-eqb _ _ z) at h in omega arith
 
-pub obeys-satisfied : (m : Model) (x y : ℕ → ℕ) → Obeys m x y → Satisfied (m .steps) (gapOf m x) gapBias (limitOf m) y
+pub obeys-satisfied : (m : Model) (x y : ℕ → ℕ) → Obeys m x y → Satisfied (m .steps) (gapOf m x) gapBias (limitOf m x) y
 obeys-satisfied m x y o =
     record { above = o .fromLimit; keeps = λ i k h g. demand-kept (gapOf m x) i k y (o .keeps i k h g) }
 
-module _ (m : Model) (x : ℕ → ℕ) (w : WellFormed m) (v : Valid m x) where
-  pub planned-satisfies : Satisfies (fileOf m x) x
-  planned-satisfies = obeys-satisfies m x w x (planned-obeys m x w v)
+module _ (m : Model) (x : ℕ → ℕ) (w : ClockedForm m) (v : Valid m x) (zero : x (m .steps) ≡ 0) where
+  pub planned-satisfies : (number : ℕ → ℕ) → Satisfies (fileWith number m x) x
+  planned-satisfies number = obeys-satisfies m x w number x (planned-obeys m x w v zero)
 
   -- the earliest starts are at most those of every schedule that obeys, the planned one among them
   pub earliest-first : (y : ℕ → ℕ) → Obeys m x y → (k : ℕ) → k < m .steps → earliestOf m x k ≤ y k
-  earliest-first y o = earliest-least (m .steps) (gapOf m x) gapBias (limitOf m) y (obeys-satisfied m x y o)
+  earliest-first y o = earliest-least (m .steps) (gapOf m x) gapBias (limitOf m x) y (obeys-satisfied m x y o)
 
   pub earliest-planned : (k : ℕ) → k < m .steps → earliestOf m x k ≤ x k
-  earliest-planned = earliest-first x (planned-obeys m x w v)
+  earliest-planned = earliest-first x (planned-obeys m x w v zero)
 
   earliest-obeys : Obeys m x (earliestOf m x)
   earliest-obeys =
-      let s : Satisfied (m .steps) (gapOf m x) gapBias (limitOf m) (earliestOf m x) =
-      earliest-satisfied (m .steps) (gapOf m x) gapBias (limitOf m) x (obeys-satisfied m x x (planned-obeys m x w v))
+      let s : Satisfied (m .steps) (gapOf m x) gapBias (limitOf m x) (earliestOf m x) =
+      earliest-satisfied (m .steps) (gapOf m x) gapBias (limitOf m x) x (obeys-satisfied m x x (planned-obeys m x w v zero))
       in
       record {
         fromLimit = s .above;
-        byLatest = λ k h n. omega (arith, earliest-planned k h, planned-obeys m x w v .byLatest k h n);
+        byLatest = λ k h n. omega (arith, earliest-planned k h, planned-obeys m x w v zero .byLatest k h n);
         keeps = λ i k h g n. kept-demand (gapOf m x) i k (earliestOf m x) (s .keeps i k h g) n;
       }
 
-  pub earliest-satisfies : Satisfies (fileOf m x) (earliestOf m x)
-  earliest-satisfies = obeys-satisfies m x w (earliestOf m x) earliest-obeys
+  pub earliest-satisfies : (number : ℕ → ℕ) → Satisfies (fileWith number m x) (earliestOf m x)
+  earliest-satisfies number = obeys-satisfies m x w number (earliestOf m x) earliest-obeys

@@ -11,7 +11,7 @@ use Rattle.laws.proofs.Search.{by-order}
 use Rattle.laws.proofs.Fold.{least-le}
 use Rattle.job.specs.Model.{Model}
 use Rattle.job.specs.Model.{noDeadline}
-use Rattle.job.specs.WellFormed.{WellFormed}
+use Rattle.job.specs.Clocked.{ClockedForm}
 use Rattle.validity.specs.Ticks.{effectTick, firstTick, lastTick, useTick, finish}
 use Rattle.validity.specs.Seen.{seen, afterAll}
 use Rattle.validity.specs.Levels.{risesBefore, fallsBefore}
@@ -23,12 +23,12 @@ use Rattle.orders.specs.Links.{conditionLink, goalLink}
 use Rattle.orders.specs.Windows.{allowed, latestOf}
 use Rattle.orders.specs.Supporter.{byInitialState, byEffect, ConditionLinkedTo, GoalLinkedTo}
 use Rattle.orders.specs.Obeys.{Obeys}
-use Rattle.orders.proofs.Orders.{Opposer, kept-opposing, kept-support, kept-before, kept-after, kept-uses, kept-serial}
+use Rattle.orders.proofs.Orders.{Opposer, fixed-kept, kept-opposing, kept-support, kept-before, kept-after, kept-uses, kept-serial}
 use Rattle.orders.proofs.Supporter.{giver, giver-opposes, condition-supported, goal-supported}
 use Rattle.orders.proofs.Links.{goal-link-in-time}
-use Rattle.orders.proofs.Limits.{limit-fixed, latest-fixed, latest-free, allowed-linked}
+use Rattle.orders.proofs.Limits.{latest-free, allowed-linked}
 
-module _ (m : Model) (x y : ℕ → ℕ) (w : WellFormed m) (s : Valid m x) (o : Obeys m x y) where
+module _ (m : Model) (x y : ℕ → ℕ) (w : ClockedForm m) (s : Valid m x) (zero : x (m .steps) ≡ 0) (clock : y (m .steps) ≡ 0) (o : Obeys m x y) where
   -- effects
   effects-apart :
       (e f : ℕ) → e < m .effects → f < m .effects → (m .effectStep e ≡ m .effectStep f → ⊥) → m .effectFact e ≡ m .effectFact f
@@ -39,10 +39,10 @@ module _ (m : Model) (x y : ℕ → ℕ) (w : WellFormed m) (s : Valid m x) (o :
         | yes v ↦ v
         | no v ↦
             by-order (effectTick m x e) (effectTick m x f)
-            (λ l. absurd (omega (arith, kept-opposing m x y w o e f g (record { known = h; ofFact = a; notValue = v }) l)))
+            (λ l. absurd (omega (arith, kept-opposing m x y w s zero clock o e f g (record { known = h; ofFact = a; notValue = v }) l)))
             (λ l.
             absurd
-            (omega (arith, kept-opposing m x y w o f e h (record { known = g; ofFact = sym a; notValue = λ z. v (sym z) }) l)))
+            (omega (arith, kept-opposing m x y w s zero clock o f e h (record { known = g; ofFact = sym a; notValue = λ z. v (sym z) }) l)))
             (λ l. s .effectsApart e f h g d a l)
       ]
 
@@ -51,7 +51,7 @@ module _ (m : Model) (x y : ℕ → ℕ) (w : WellFormed m) (s : Valid m x) (o :
       (fact v e f : ℕ) → Giver m fact v e → Giver m fact (1 - v) f → effectTick m x f < effectTick m x e
       → effectTick m y f < effectTick m y e
   kept-givers fact v e f g k l =
-      kept-opposing m x y w o f e (g .known)
+      kept-opposing m x y w s zero clock o f e (g .known)
       (record {
         known = k .known;
         ofFact = k .ofFact ∙ sym (g .ofFact);
@@ -85,8 +85,8 @@ module _ (m : Model) (x y : ℕ → ℕ) (w : WellFormed m) (s : Valid m x) (o :
         | no v ↦
             let p : Opposer m (m .conditionFact c) (m .conditionValue c) e = record { known = g; ofFact = a; notValue = v } in
             ⊎-elim
-            (λ (b : effectTick m x e < firstTick m x c). absurd (omega (arith, kept-before m x y w o c e h p b)))
-            (λ (b : lastTick m x c < effectTick m x e). absurd (omega (arith, kept-after m x y w o c e h p b)))
+            (λ (b : effectTick m x e < firstTick m x c). absurd (omega (arith, kept-before m x y w s zero clock o c e h p b)))
+            (λ (b : lastTick m x c < effectTick m x e). absurd (omega (arith, kept-after m x y w s zero clock o c e h p b)))
             (planned-apart c e h d p)
       ]
 
@@ -103,7 +103,7 @@ module _ (m : Model) (x y : ℕ → ℕ) (w : WellFormed m) (s : Valid m x) (o :
         | no d ↦
             ⊎-elim
             (λ (b : effectTick m x f < firstTick m x c). b)
-            (λ (b : lastTick m x c < effectTick m x f). absurd (omega (arith, kept-after m x y w o c f h p b)))
+            (λ (b : lastTick m x c < effectTick m x f). absurd (omega (arith, kept-after m x y w s zero clock o c f h p b)))
             (planned-apart c f h d p)
       ]
     where
@@ -136,7 +136,7 @@ module _ (m : Model) (x y : ℕ → ℕ) (w : WellFormed m) (s : Valid m x) (o :
           let b = p .candidate in
           let g = giver m fact v e (b .known) (b .wanted) in
           seen-by-effect m y fact v t e (w .conditionValue c h) g
-          (omega (arith, kept-support m x y w o c h (not-initial e (b .known)) (b .known) (p .inTime)))
+          (omega (arith, kept-support m x y w s zero clock o c h (not-initial e (b .known)) (b .known) (p .inTime)))
           (λ f k q.
           kept-givers fact v e f g k (b .after f (k .known) (giver-opposes m fact v f k) (opposed-before c f h k (omega arith))))
 
@@ -147,13 +147,7 @@ module _ (m : Model) (x y : ℕ → ℕ) (w : WellFormed m) (s : Valid m x) (o :
       → seen m y fact t ≡ v
   carried fact v t e b g n l = seen-by-effect m y fact v t e b g l (λ f k _. kept-givers fact v e f g k (n f k))
 
-  -- a fixed step
-  fixed-kept : (k : ℕ) → k < m .steps → m .fixed k ≡ 1 → y k ≡ m .start k
-  fixed-kept k h f =
-      let q : latestOf m x k ≡ m .start k = latest-fixed m x k f in
-      omega (arith, limit-fixed m k f, o .fromLimit k h, o .byLatest k h (λ z. omega (arith, w .startRange k h)))
-
-  -- the link of a goal with a deadline stays in time: its step is fixed, or has a latest start
+  -- the link of a goal with a deadline stays in time: its step is fixed, or has a latest start, or is the clock
   link-in-time :
       (g : ℕ) → g < m .goals → (m .goalDeadline g ≡ noDeadline → ⊥) → goalLink m x g < m .effects
       → effectTick m y (goalLink m x g) ≤ m .goalDeadline g
@@ -162,21 +156,27 @@ module _ (m : Model) (x y : ℕ → ℕ) (w : WellFormed m) (s : Valid m x) (o :
       let k = m .effectStep e in
       let n : e ≡ initialState → ⊥ = not-initial e l in
       let b : effectTick m x e ≤ m .goalDeadline g = goal-link-in-time m x w s g h d n in
-      elim (ℕ-discrete (m .fixed k) 1) [
-        | yes f ↦ omega (arith, fixed-kept k (w .effectStep e l) f, s .fixedKept k (w .effectStep e l) f)
-        | no f ↦
-            let q : latestOf m x k ≤ m .goalDeadline g - m .effectAt e =
-            omega (arith, latest-free m x k f, allowed-linked m x g d n, least-le (allowed m x k) (m .goals) noLatest g h)
-            in
-            omega (
-              arith,
-              o .byLatest k (w .effectStep e l)
-                  (λ z.
-                  ⊎-elim
-                  (λ (r : m .goalDeadline g ≤ 1100000). omega arith)
-                  (λ (r : m .goalDeadline g ≡ noDeadline). d r)
-                  (w .goalDeadline g h)),
-            )
+      elim (decLt k (m .steps)) [
+        | yes i ↦
+            elim (ℕ-discrete (m .fixed k) 1) [
+              | yes f ↦ omega (arith, fixed-kept m x y w s zero clock o k i f, s .fixedKept k i f)
+              | no f ↦
+                  let q : latestOf m x k ≤ m .goalDeadline g - m .effectAt e =
+                  omega (arith, latest-free m x k f, allowed-linked m x g d n, least-le (allowed m x k) (m .goals) noLatest g h)
+                  in
+                  omega (
+                    arith,
+                    o .byLatest k i
+                        (λ z.
+                        ⊎-elim
+                        (λ (r : m .goalDeadline g ≤ 1100000). omega arith)
+                        (λ (r : m .goalDeadline g ≡ noDeadline). d r)
+                        (w .goalDeadline g h)),
+                  )
+            ]
+        | no i ↦
+            let c : k ≡ m .steps = omega (arith, w .effectStep e l) in
+            omega (arith, ap x c, ap y c)
       ]
 
   -- goals
@@ -215,10 +215,10 @@ module _ (m : Model) (x y : ℕ → ℕ) (w : WellFormed m) (s : Valid m x) (o :
         useTick m x (u .0),
         λ v h a b.
             elim (decLt (useTick m x (u .0)) (useTick m x v)) [
-              | yes r ↦ absurd (omega (arith, u .4 v h a b, kept-uses m x y w o (u .0) v (u .1) h (u .2 ∙ sym a) r))
+              | yes r ↦ absurd (omega (arith, u .4 v h a b, kept-uses m x y w s zero clock o (u .0) v (u .1) h (u .2 ∙ sym a) r))
               | no r ↦ omega arith
             ],
-        λ v h a b. omega (arith, u .3, kept-uses m x y w o v (u .0) h (u .1) (a ∙ sym (u .2)) b),
+        λ v h a b. omega (arith, u .3, kept-uses m x y w s zero clock o v (u .0) h (u .1) (a ∙ sym (u .2)) b),
       ))
       (last-use m y l (suc t))
 
@@ -237,12 +237,12 @@ module _ (m : Model) (x y : ℕ → ℕ) (w : WellFormed m) (s : Valid m x) (o :
       m .serial ≡ 1 → (i k : ℕ) → i < m .steps → k < m .steps → (i ≡ k → ⊥) → (finish m y i ≤ y k) ⊎ (finish m y k ≤ y i)
   serial-apart a i k h g d =
       ⊎-elim
-      (λ (l : finish m x i ≤ x k). kept-serial m x y w o i k a h g d l)
+      (λ (l : finish m x i ≤ x k). kept-serial m x y w s zero clock o i k a h g d l)
       (λ (l : finish m x k ≤ x i).
       ⊎-elim
       (λ (r : finish m y k ≤ y i). inr r)
       (λ (r : finish m y i ≤ y k). inl r)
-      (kept-serial m x y w o k i a g h (λ e. d (sym e)) l))
+      (kept-serial m x y w s zero clock o k i a g h (λ e. d (sym e)) l))
       (s .serialApart a i k h g d)
 
   -- the theorem: a choice that obeys what is found in a valid schedule x is valid
@@ -257,5 +257,5 @@ module _ (m : Model) (x y : ℕ → ℕ) (w : WellFormed m) (s : Valid m x) (o :
         goalReached = goal-reached;
         goalInTime = goal-in-time;
         serialApart = serial-apart;
-        fixedKept = fixed-kept;
+        fixedKept = fixed-kept m x y w s zero clock o;
       }

@@ -13,7 +13,7 @@ use Rattle.laws.specs.Fold.{least}
 use Rattle.laws.proofs.Search.{either, contrary, by-order, and-both, lowest-facts, lowest-lt}
 use Rattle.laws.proofs.Fold.{least-le}
 use Rattle.job.specs.Model.{Model}
-use Rattle.job.specs.WellFormed.{WellFormed}
+use Rattle.job.specs.Clocked.{ClockedForm}
 use Rattle.validity.specs.Ticks.{effectTick, firstTick, gives, opposes}
 use Rattle.validity.specs.Seen.{lastGiven, seen, afterAll}
 use Rattle.validity.specs.Valid.{Valid}
@@ -50,7 +50,7 @@ pub giver-opposes : (m : Model) (fact v e : ℕ) → Giver m fact (1 - v) e → 
 giver-opposes m fact v e g =
     ap₂ _&&_ (eq-eqb _ _ (g .ofFact)) (ap not (ne-eqb (m .effectValue e) v (λ z. omega (arith, g .ofValue))))
 
-pub opposes-giver : (m : Model) (fact v e : ℕ) → WellFormed m → v ≤ 1 → e < m .effects → opposes m e fact v ≡ true → Giver m fact (1 - v) e
+pub opposes-giver : (m : Model) (fact v e : ℕ) → ClockedForm m → v ≤ 1 → e < m .effects → opposes m e fact v ≡ true → Giver m fact (1 - v) e
 opposes-giver m fact v e w b h t =
     let c = and-both _ _ t in
     let d : m .effectValue e ≡ v → ⊥ = eqb-false _ _ (not-true _ (c .1)) in
@@ -116,7 +116,7 @@ record Until (m : Model) (x : ℕ → ℕ) (t : ℕ) (before : ℕ → Type 0) :
   into : (e : ℕ) → e < m .effects → before (effectTick m x e) → effectTick m x e < t
   out : (e : ℕ) → e < m .effects → effectTick m x e < t → before (effectTick m x e)
 
-module _ (m : Model) (x : ℕ → ℕ) (fact v t : ℕ) (before : ℕ → Type 0) (w : WellFormed m) (b : v ≤ 1) (u : Until m x t before) where
+module _ (m : Model) (x : ℕ → ℕ) (fact v t : ℕ) (before : ℕ → Type 0) (w : ClockedForm m) (b : v ≤ 1) (u : Until m x t before) where
   -- the candidates are the producers
   candidate-produces : (e : ℕ) → Candidate m x fact v before e → producer m x fact v t e ≡ true
   unfolding producer
@@ -234,7 +234,7 @@ module _ (m : Model) (x : ℕ → ℕ) where
       let e : k - m .conditions ≡ g = omega arith in
       rw (le-ltb k (m .conditions) (omega arith)) (ap (goalLink m x) e)
 
-module _ (m : Model) (x : ℕ → ℕ) (w : WellFormed m) (s : Valid m x) where
+module _ (m : Model) (x : ℕ → ℕ) (w : ClockedForm m) (s : Valid m x) where
   -- in a valid schedule no two opposing effects share a tick, of one step or of two
   pub apart : (fact v e f : ℕ) → Giver m fact v e → Giver m fact (1 - v) f → effectTick m x e ≡ effectTick m x f → ⊥
   apart fact v e f g o q =

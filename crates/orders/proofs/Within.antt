@@ -1,24 +1,24 @@
 -- What is filed of a valid schedule keeps every limit of an order file. No point lies further from its start than a step is
 -- long, so no gap is above the highest; no step is ordered against itself, so a pair of each row stays empty.
 use Prim.Native.Nat.{ℕ, _+_, _-_, _/_, _%_, _≤_, _<_, max}
-use mathlib.Core.Path.{_≡_, refl}
+use mathlib.Core.Path.{_≡_, refl, ap, _∙_}
 use mathlib.Core.Bool.{Bool, true, false, _&&_, not, cond}
 use mathlib.Core.Logic.{_⊎_, inl, inr, ⊎-elim}
-use native.Mathlib.Decide.{ℕ-discrete, decLt}
+use native.Mathlib.Decide.{ℕ-discrete, decLt, decLe}
 use native.Mathlib.Omega.{arith}
 use borrow.Author.Tests.{lt-ltb, le-ltb, eq-eqb, eqb-true, eqb-false, not-true}
 use lib.Dec.{ltb, eqb}
 use Rattle.laws.specs.Fold.{largest}
 use Rattle.laws.specs.Nth.{count}
 use Rattle.laws.proofs.Search.{either, and-both}
-use Rattle.laws.proofs.Fold.{largest-le, least-none}
+use Rattle.laws.proofs.Fold.{largest-at, least-none}
 use Rattle.laws.proofs.Nth.{nth-ascends, count-apart}
-use Rattle.job.specs.Model.{Model, longest}
-use Rattle.job.specs.WellFormed.{WellFormed}
+use Rattle.job.specs.Model.{Model, longest, lastStart}
+use Rattle.job.specs.Clocked.{ClockedForm}
 use Rattle.validity.specs.Ticks.{opposes}
 use Rattle.validity.specs.Valid.{Valid}
 use Rattle.order_file.specs.Within.{Within}
-use Rattle.order_file.specs.Contents.{initialState, noLatest, lastEffect, orderLimit, gapBias, mostGap}
+use Rattle.order_file.specs.Contents.{initialState, noLatest, lastLink, orderLimit, gapBias, leastGap, mostGap}
 use Rattle.order_file.specs.Table.{rowWidth, tableSize}
 use Rattle.orders.specs.Links.{conditionLink, goalLink, nthLink}
 use Rattle.orders.specs.Gaps.{strictly, supportOrder, supportGap, opposingOrder, opposingGap, beforeOrder, afterOrder, conditionGap, levelOrder}
@@ -26,24 +26,44 @@ use Rattle.orders.specs.Gaps.{levelGap, serialFirst, serialGap, gapOf}
 use Rattle.orders.specs.Windows.{limitOf, allowed, latestOf}
 use Rattle.rounds.specs.Rounds.{earliest}
 use Rattle.orders.specs.Supporter.{LinkedTo, byInitialState, byEffect}
-use Rattle.orders.specs.File.{roundsOf, earliestOf, ordered, pairOf, fileOf}
-use Rattle.rounds.proofs.Rounds.{after-above, after-most, rounds-le}
-use Rattle.orders.proofs.Near.{effect-near, to-near, use-near, limit-most}
+use Rattle.orders.specs.File.{roundsOf, earliestOf, ordered, pairOf, fileWith}
+use Rattle.rounds.proofs.Rounds.{after-above, rounds-le}
+use Rattle.orders.proofs.Near.{from-near, to-near, use-near}
 use Rattle.orders.proofs.Supporter.{condition-supported, goal-supported}
 use Rattle.orders.proofs.Limits.{latest-fixed, latest-free}
 use Rattle.orders.proofs.Planned.{planned-obeys}
 use Rattle.orders.proofs.Satisfied.{ordered-out, pair-ordered, earliest-planned}
 
--- a gap from a point no further from its start than a step is long, if it is chosen
-chosen-near : (b : Bool) (p q : ℕ) → (b ≡ true → p ≤ longest) → cond b (strictly p q) 0 ≤ mostGap
-chosen-near true p q h = omega (arith, h refl)
-chosen-near false p q h = omega arith
+-- no order, or one whose gap an order file can hold
+abbrev Span : ℕ → Type 0
+Span gap = (gap ≡ 0) ⊎ ((leastGap ≤ gap) × (gap ≤ mostGap))
 
--- of two points as they lie: rules 2, 3 and 4
+span-max : {a b : ℕ} → Span a → Span b → Span (max a b)
+span-max {a} {b} s t =
+    elim (decLe a b) [
+      | yes l ↦ let e : max a b ≡ b = omega arith in rw e t
+      | no l ↦ let e : max a b ≡ a = omega arith in rw e s
+    ]
+
+span-largest : (f : ℕ → ℕ) (n : ℕ) → ((k : ℕ) → k < n → Span (f k)) → Span (largest n f)
+span-largest f n h =
+    ⊎-elim
+    (λ (z : largest n f ≡ 0). inl z)
+    (λ (w : (k : ℕ) × (k < n) × (f k ≡ largest n f)). rw (← (w .2)) (h (w .0) (w .1)))
+    (largest-at f n)
+
+-- the gap of two points no further from their starts than a step is long, if it is chosen
+span-chosen : (b : Bool) (p q : ℕ) → (b ≡ true → (p ≤ longest) × (q ≤ longest)) → Span (cond b (strictly p q) 0)
+span-chosen true p q h = let n = h refl in inr (omega (arith, n .0, n .1), omega (arith, n .0))
+span-chosen false p q h = inl refl
+
+-- of two points of steps i and k as they lie: rules 2, 3 and 4
 near :
-    (x : ℕ → ℕ) (i k j n p q : ℕ) (c : Bool) → p ≤ longest
-    → cond (eqb j i && eqb n k && c && ltb (x j + p) (x n + q)) (strictly p q) 0 ≤ mostGap
-near x i k j n p q c h = chosen-near (eqb j i && eqb n k && c && ltb (x j + p) (x n + q)) p q (λ _. h)
+    (x : ℕ → ℕ) (i k j n p q : ℕ) (c : Bool) → (j ≡ i → p ≤ longest) → (n ≡ k → q ≤ longest)
+    → Span (cond (eqb j i && eqb n k && c && ltb (x j + p) (x n + q)) (strictly p q) 0)
+near x i k j n p q c h g =
+    span-chosen (eqb j i && eqb n k && c && ltb (x j + p) (x n + q)) p q
+    (λ t. let b = and-both _ _ (and-both _ _ (and-both _ _ t .0) .0) in (h (eqb-true _ _ (b .0)), g (eqb-true _ _ (b .1))))
 
 -- a link is an effect's number, or stands for the initial state
 link-known :
@@ -52,69 +72,81 @@ link-known :
 link-known m x fact v before link (byInitialState z i) = inr z
 link-known m x fact v before link (byEffect n p) = inl (p .candidate .known)
 
-module _ (m : Model) (x : ℕ → ℕ) (w : WellFormed m) (s : Valid m x) where
-  support-most : (i k : ℕ) → supportGap m x i k ≤ mostGap
-  unfolding supportGap supportOrder
-  support-most i k =
-      largest-le (supportOrder m x i k) (m .conditions) mostGap
-      (λ c h.
-      let e = conditionLink m x c in
-      chosen-near (not (eqb e initialState) && eqb (m .effectStep e) i && eqb (m .conditionStep c) k) (m .effectAt e) (m .conditionFrom c)
-      (λ t.
-      let n = eqb-false _ _ (not-true _ (and-both _ _ (and-both _ _ t .0) .0)) in
-      ⊎-elim
-      (λ (l : e < m .effects). effect-near m w e l)
-      (λ (z : e ≡ initialState). absurd (n z))
-      (link-known m x _ _ _ e (condition-supported m x w s c h))))
+module _ (m : Model) (x : ℕ → ℕ) (w : ClockedForm m) (s : Valid m x) where
+  -- of two steps, not of the clock
+  module _ (i k : ℕ) (h : i < m .steps) (g : k < m .steps) where
+    own-near : (e a : ℕ) → e < m .effects → a < m .steps → m .effectStep e ≡ a → m .effectAt e ≤ longest
+    own-near e a l b q = w .stepEffectNear e l (omega arith)
 
-  opposing-most : (i k : ℕ) → opposingGap m x i k ≤ mostGap
-  unfolding opposingGap opposingOrder
-  opposing-most i k =
-      largest-le (λ e. largest (m .effects) (opposingOrder m x i k e)) (m .effects) mostGap
-      (λ e h. largest-le (opposingOrder m x i k e) (m .effects) mostGap
-      (λ f _. near x i k (m .effectStep e) (m .effectStep f) (m .effectAt e) (m .effectAt f) (opposes m e (m .effectFact f) (m .effectValue f))
-      (effect-near m w e h)))
+    support-span : Span (supportGap m x i k)
+    unfolding supportGap supportOrder
+    support-span =
+        span-largest (supportOrder m x i k) (m .conditions)
+        (λ c l.
+        let e = conditionLink m x c in
+        span-chosen (not (eqb e initialState) && eqb (m .effectStep e) i && eqb (m .conditionStep c) k) (m .effectAt e) (m .conditionFrom c)
+        (λ t.
+        let b = and-both _ _ (and-both _ _ t .0) in
+        let n = eqb-false _ _ (not-true _ (b .0)) in (
+          ⊎-elim
+              (λ (r : e < m .effects). own-near e i r h (eqb-true _ _ (b .1)))
+              (λ (z : e ≡ initialState). absurd (n z))
+              (link-known m x _ _ _ e (condition-supported m x w s c l)),
+          from-near m w c l,
+        )))
 
-  condition-most : (i k : ℕ) → conditionGap m x i k ≤ mostGap
-  unfolding conditionGap beforeOrder afterOrder
-  condition-most i k =
-      largest-le (λ c. max (largest (m .effects) (beforeOrder m x i k c)) (largest (m .effects) (afterOrder m x i k c))) (m .conditions) mostGap
-      (λ c h.
-      let o : ℕ → Bool = λ e. opposes m e (m .conditionFact c) (m .conditionValue c) in
-      let b : largest (m .effects) (beforeOrder m x i k c) ≤ mostGap =
-      largest-le (beforeOrder m x i k c) (m .effects) mostGap
-      (λ e g. near x i k (m .effectStep e) (m .conditionStep c) (m .effectAt e) (m .conditionFrom c) (o e) (effect-near m w e g))
-      in
-      let a : largest (m .effects) (afterOrder m x i k c) ≤ mostGap =
-      largest-le (afterOrder m x i k c) (m .effects) mostGap
-      (λ e _. near x i k (m .conditionStep c) (m .effectStep e) (m .conditionTo c) (m .effectAt e) (o e) (to-near m w c h))
-      in
-      omega arith)
+    opposing-span : Span (opposingGap m x i k)
+    unfolding opposingGap opposingOrder
+    opposing-span =
+        span-largest (λ e. largest (m .effects) (opposingOrder m x i k e)) (m .effects)
+        (λ e l. span-largest (opposingOrder m x i k e) (m .effects)
+        (λ f r. near x i k (m .effectStep e) (m .effectStep f) (m .effectAt e) (m .effectAt f) (opposes m e (m .effectFact f) (m .effectValue f))
+        (own-near e i l h) (own-near f k r g)))
 
-  level-most : (i k : ℕ) → levelGap m x i k ≤ mostGap
-  unfolding levelGap levelOrder
-  level-most i k =
-      largest-le (λ u. largest (m .uses) (levelOrder m x i k u)) (m .uses) mostGap
-      (λ u h. largest-le (levelOrder m x i k u) (m .uses) mostGap
-      (λ v _. near x i k (m .useStep u) (m .useStep v) (m .useAt u) (m .useAt v) (eqb (m .useLevel u) (m .useLevel v)) (use-near m w u h)))
+    condition-span : Span (conditionGap m x i k)
+    unfolding conditionGap beforeOrder afterOrder
+    condition-span =
+        span-largest (λ c. max (largest (m .effects) (beforeOrder m x i k c)) (largest (m .effects) (afterOrder m x i k c))) (m .conditions)
+        (λ c l.
+        let o : ℕ → Bool = λ e. opposes m e (m .conditionFact c) (m .conditionValue c) in
+        span-max
+        (span-largest (beforeOrder m x i k c) (m .effects)
+        (λ e r. near x i k (m .effectStep e) (m .conditionStep c) (m .effectAt e) (m .conditionFrom c) (o e) (own-near e i r h) (λ _. from-near m w c l)))
+        (span-largest (afterOrder m x i k c) (m .effects)
+        (λ e r. near x i k (m .conditionStep c) (m .effectStep e) (m .conditionTo c) (m .effectAt e) (o e) (λ _. to-near m w c l) (own-near e k r g))))
 
-  serial-most : (i k : ℕ) → i < m .steps → serialGap m x i k ≤ mostGap
-  unfolding serialGap
-  serial-most i k h =
-      ⊎-elim
-      (λ (e : serialFirst m x i k ≡ true). rw e (omega (arith, w .lengthRange i h)))
-      (λ (e : serialFirst m x i k ≡ false). rw e (omega arith))
-      (either (serialFirst m x i k))
+    level-span : Span (levelGap m x i k)
+    unfolding levelGap levelOrder
+    level-span =
+        span-largest (λ u. largest (m .uses) (levelOrder m x i k u)) (m .uses)
+        (λ u l. span-largest (levelOrder m x i k u) (m .uses)
+        (λ v r. near x i k (m .useStep u) (m .useStep v) (m .useAt u) (m .useAt v) (eqb (m .useLevel u) (m .useLevel v)) (λ _. use-near m w u l)
+        (λ _. use-near m w v r)))
 
-  -- no gap is above the highest
-  gap-most : (i k : ℕ) → i < m .steps → gapOf m x i k ≤ mostGap
-  unfolding gapOf
-  gap-most i k h =
-      ⊎-elim
-      (λ (e : eqb i k ≡ true). rw e (omega arith))
-      (λ (e : eqb i k ≡ false).
-      rw e (omega (arith, support-most i k, opposing-most i k, condition-most i k, level-most i k, serial-most i k h)))
-      (either (eqb i k))
+    serial-span : Span (serialGap m x i k)
+    unfolding serialGap
+    serial-span =
+        ⊎-elim
+        (λ (e : serialFirst m x i k ≡ true). rw e (inr (omega arith, omega (arith, w .lengthRange i h))))
+        (λ (e : serialFirst m x i k ≡ false). rw e (inl refl))
+        (either (serialFirst m x i k))
+
+    -- no gap is below the least or above the highest
+    gap-span : Span (gapOf m x i k)
+    unfolding gapOf
+    gap-span =
+        ⊎-elim
+        (λ (e : eqb i k ≡ true). rw e (inl refl))
+        (λ (e : eqb i k ≡ false).
+        rw e (span-max (span-max (span-max (span-max support-span opposing-span) condition-span) level-span) serial-span))
+        (either (eqb i k))
+
+    filed-span : (gapOf m x i k ≡ 0 → ⊥) → (leastGap ≤ gapOf m x i k) × (gapOf m x i k ≤ mostGap)
+    filed-span n =
+        ⊎-elim
+        (λ (z : gapOf m x i k ≡ 0). absurd (n z))
+        (λ (b : (leastGap ≤ gapOf m x i k) × (gapOf m x i k ≤ mostGap)). b)
+        gap-span
 
 -- no step is ordered against itself
 gap-self : (m : Model) (x : ℕ → ℕ) (i k : ℕ) → i ≡ k → gapOf m x i k ≡ 0
@@ -141,26 +173,21 @@ order-count m x =
           (λ q h t a. ordered-out m x q t .2 (gap-self m x _ _ (alone-same q h (eqb-true _ _ a)))),
     )
 
-module _ (m : Model) (x : ℕ → ℕ) (w : WellFormed m) (s : Valid m x) where
+-- of a schedule within the range of starts
+module _ (m : Model) (x : ℕ → ℕ) (w : ClockedForm m) (s : Valid m x) (zero : x (m .steps) ≡ 0)
+    (early : (k : ℕ) → k < m .steps → x k ≤ lastStart) where
   earliest-most : (k : ℕ) → k < m .steps → earliestOf m x k ≤ noLatest
-  unfolding earliest
-  earliest-most k h =
-      omega (
-        arith,
-        after-most (m .steps) (gapOf m x) gapBias (limitOf m) 1000000 (mostGap - gapBias) (limit-most m w) (gap-most m x w s) (roundsOf m x) k h,
-        rounds-le (m .steps) (gapOf m x) gapBias (limitOf m),
-        w .stepCount,
-      )
+  earliest-most k h = omega (arith, earliest-planned m x w s zero k h, early k h)
 
-  earliest-limit : (k : ℕ) → limitOf m k ≤ earliestOf m x k
+  earliest-limit : (k : ℕ) → limitOf m x k ≤ earliestOf m x k
   unfolding earliest
-  earliest-limit k = after-above (m .steps) (gapOf m x) gapBias (limitOf m) (roundsOf m x) k
+  earliest-limit k = after-above (m .steps) (gapOf m x) gapBias (limitOf m x) (roundsOf m x) k
 
   earliest-latest : (k : ℕ) → k < m .steps → earliestOf m x k ≤ latestOf m x k
   earliest-latest k h =
       elim (ℕ-discrete (latestOf m x k) noLatest) [
         | yes e ↦ omega (arith, earliest-most k h)
-        | no n ↦ omega (arith, earliest-planned m x w s k h, planned-obeys m x w s .byLatest k h n)
+        | no n ↦ omega (arith, earliest-planned m x w s zero k h, planned-obeys m x w s zero .byLatest k h n)
       ]
 
   latest-most : (k : ℕ) → k < m .steps → latestOf m x k ≤ noLatest
@@ -170,43 +197,44 @@ module _ (m : Model) (x : ℕ → ℕ) (w : WellFormed m) (s : Valid m x) where
         | no f ↦ omega (arith, latest-free m x k f, least-none (allowed m x k) (m .goals) noLatest)
       ]
 
-  link-most : (j : ℕ) → j < m .conditions + m .goals → (nthLink m x j ≤ lastEffect) ⊎ (nthLink m x j ≡ initialState)
-  unfolding nthLink
-  link-most j h =
-      elim (decLt j (m .conditions)) [
-        | yes l ↦ rw (lt-ltb _ _ l) (most (conditionLink m x j) (link-known m x _ _ _ _ (condition-supported m x w s j l)))
-        | no l ↦
-            rw (le-ltb j (m .conditions) (omega arith))
-            (most (goalLink m x (j - m .conditions)) (link-known m x _ _ _ _ (goal-supported m x w s (j - m .conditions) (omega arith))))
-      ]
-    where
-      most : (link : ℕ) → (link < m .effects) ⊎ (link ≡ initialState) → (link ≤ lastEffect) ⊎ (link ≡ initialState)
-      most link p = ⊎-elim (λ (l : link < m .effects). inl (omega (arith, w .effectCount))) (λ (z : link ≡ initialState). inr z) p
-
   pair-ascends :
       (q r : ℕ) → q < r → (q / rowWidth < r / rowWidth) ⊎ ((q / rowWidth ≡ r / rowWidth) × (q % rowWidth < r % rowWidth))
   pair-ascends q r h =
       elim (decLt (q / rowWidth) (r / rowWidth)) [ yes l ↦ inl l | no l ↦ inr (omega arith, omega arith) ]
 
-  pub file-within : Within (fileOf m x)
-  unfolding fileOf
-  file-within =
-      record {
-        steps = w .stepCount;
-        orders = order-count m x;
-        links = omega (arith, w .conditionCount, w .goalCount);
-        rounds = rounds-le (m .steps) (gapOf m x) gapBias (limitOf m);
-        firstCounted = λ o h. ordered-out m x (pairOf m x o) (pair-ordered m x o h) .0;
-        secondCounted = λ o h. ordered-out m x (pairOf m x o) (pair-ordered m x o h) .1;
-        apart = λ o h e. ordered-out m x (pairOf m x o) (pair-ordered m x o h) .2 (gap-self m x _ _ e);
-        gapLeast = λ o h.
-            let p = ordered-out m x (pairOf m x o) (pair-ordered m x o h) in
-            elim (ℕ-discrete (gapOf m x (pairOf m x o / rowWidth) (pairOf m x o % rowWidth)) 0) [ yes z ↦ absurd (p .2 z) | no z ↦ omega arith ];
-        gapMost = λ o h.
-            gap-most m x w s (pairOf m x o / rowWidth) (pairOf m x o % rowWidth) (ordered-out m x (pairOf m x o) (pair-ordered m x o h) .0);
-        ascending = λ o h. pair-ascends (pairOf m x o) (pairOf m x (o + 1)) (nth-ascends (ordered m x) tableSize o (o + 1) (omega arith) h);
-        linked = link-most;
-        fromLimit = λ k h. earliest-limit k;
-        byLatest = earliest-latest;
-        latestMost = latest-most;
-      }
+  -- a link is numbered as an effect, or stands for the initial state
+  module _ (number : ℕ → ℕ) (initial : number initialState ≡ initialState) (last : (e : ℕ) → e < m .effects → number e ≤ lastLink) where
+    numbered : (link : ℕ) → (link < m .effects) ⊎ (link ≡ initialState) → (number link ≤ lastLink) ⊎ (number link ≡ initialState)
+    numbered link p =
+        ⊎-elim (λ (l : link < m .effects). inl (last link l)) (λ (z : link ≡ initialState). inr (ap number z ∙ initial)) p
+
+    link-most : (j : ℕ) → j < m .conditions + m .goals → (number (nthLink m x j) ≤ lastLink) ⊎ (number (nthLink m x j) ≡ initialState)
+    unfolding nthLink
+    link-most j h =
+        elim (decLt j (m .conditions)) [
+          | yes l ↦ rw (lt-ltb _ _ l) (numbered (conditionLink m x j) (link-known m x _ _ _ _ (condition-supported m x w s j l)))
+          | no l ↦
+              rw (le-ltb j (m .conditions) (omega arith))
+              (numbered (goalLink m x (j - m .conditions))
+              (link-known m x _ _ _ _ (goal-supported m x w s (j - m .conditions) (omega arith))))
+        ]
+
+    pub file-within : Within (fileWith number m x)
+    unfolding fileWith
+    file-within =
+        record {
+          steps = w .stepCount;
+          orders = order-count m x;
+          links = omega (arith, w .conditionCount, w .goalCount);
+          rounds = rounds-le (m .steps) (gapOf m x) gapBias (limitOf m x);
+          firstCounted = λ o h. ordered-out m x (pairOf m x o) (pair-ordered m x o h) .0;
+          secondCounted = λ o h. ordered-out m x (pairOf m x o) (pair-ordered m x o h) .1;
+          apart = λ o h e. ordered-out m x (pairOf m x o) (pair-ordered m x o h) .2 (gap-self m x _ _ e);
+          gapLeast = λ o h. let p = ordered-out m x (pairOf m x o) (pair-ordered m x o h) in filed-span m x w s _ _ (p .0) (p .1) (p .2) .0;
+          gapMost = λ o h. let p = ordered-out m x (pairOf m x o) (pair-ordered m x o h) in filed-span m x w s _ _ (p .0) (p .1) (p .2) .1;
+          ascending = λ o h. pair-ascends (pairOf m x o) (pairOf m x (o + 1)) (nth-ascends (ordered m x) tableSize o (o + 1) (omega arith) h);
+          linked = link-most;
+          fromLimit = λ k h. earliest-limit k;
+          byLatest = earliest-latest;
+          latestMost = latest-most;
+        }

@@ -9,7 +9,8 @@ use Rattle.validity.specs.Ticks.{effectTick, firstTick, lastTick, useTick, fini
 use Rattle.order_file.specs.Contents.{initialState, gapBias}
 use Rattle.orders.specs.Links.{conditionLink}
 
--- "Point p strictly before point q" gives gap p − q + 1; nothing is cut off, since q is at most a step's length, and that at most gapBias
+-- "Point p strictly before point q" gives gap p − q + 1; nothing is cut off, since q is at most a step's length or a timed fact's tick,
+-- and these at most gapBias
 abbrev pub strictly : ℕ → ℕ → ℕ
 strictly p q = p + gapBias + 1 - q
 

@@ -8,7 +8,7 @@ use Rattle.orders.specs.Windows.{limitOf, latestOf}
 
 pub record Obeys (m : Model) (x y : ℕ → ℕ) : Type 0 where
   -- every start is at least its step's earliest limit
-  pub fromLimit : (k : ℕ) → k < m .steps → limitOf m k ≤ y k
+  pub fromLimit : (k : ℕ) → k < m .steps → limitOf m x k ≤ y k
   -- at most its latest start unless that is none
   pub byLatest : (k : ℕ) → k < m .steps → (latestOf m x k ≡ noLatest → ⊥) → y k ≤ latestOf m x k
   -- every order holds

@@ -12,7 +12,7 @@ use Rattle.laws.proofs.Fold.{sum-cong}
 use Rattle.laws.proofs.Search.{either}
 use Rattle.little_endian.specs.Bytes.{signBias}
 use Rattle.job.specs.Model.{Model}
-use Rattle.job.specs.WellFormed.{WellFormed}
+use Rattle.job.specs.Clocked.{ClockedForm}
 use Rattle.validity.specs.declared.Rule.the-variants.{Effects}
 use Rattle.validity.specs.Ticks.{effectTick}
 use Rattle.validity.specs.Seen.{afterAll}
@@ -63,7 +63,7 @@ module _ (m : Model) (x : ℕ → ℕ) (l : ℕ) where
       (λ (f : eqb (m .useLevel u) l ≡ false). rw f (omega arith))
       (either (eqb (m .useLevel u) l)))
 
-module _ (m : Model) (x : ℕ → ℕ) (w : WellFormed m) (v : Valid m x) where
+module _ (m : Model) (x : ℕ → ℕ) (w : ClockedForm m) (v : Valid m x) where
   -- no use falls by more than the level has
   end-level : (l : ℕ) → l < m .levels → endLevel m x l + overUses m l (λ _. signBias) ≡ m .levelInitial l + overUses m l (m .useAmount)
   end-level l h =

@@ -10,7 +10,7 @@ use lib.Dec.{leb, eqb}
 use Rattle.laws.specs.Search.{any}
 use Rattle.laws.proofs.Search.{contrary, and-both, or-out, any-elim}
 use Rattle.job.specs.Model.{Model}
-use Rattle.job.specs.WellFormed.{WellFormed}
+use Rattle.job.specs.Clocked.{ClockedForm}
 use Rattle.validity.specs.declared.Rule.{Rule}
 use Rattle.validity.specs.declared.Rule.the-variants.{FixedSteps, Effects, Conditions, Levels, Goals, Steps}
 use Rattle.validity.specs.Ticks.{effectTick, firstTick, useTick, finish}
@@ -81,7 +81,7 @@ module _ (m : Model) (x : ℕ → ℕ) where
       (λ (a : finish m x (v .0) ≤ x i). omega (arith, o .after))
       (h (o .serial) (v .0) (o .known) (o .other))
 
-module _ (m : Model) (x : ℕ → ℕ) (w : WellFormed m) where
+module _ (m : Model) (x : ℕ → ℕ) (w : ClockedForm m) where
   -- what a test does not name keeps the rule
   pub unbroken-keeps : (rule : Rule) (k : ℕ) → k < countUnder m rule → broken m x rule k ≡ false → Keeps m x rule k
   unbroken-keeps FixedSteps k h n = moved-none m x k n

@@ -6,4 +6,5 @@ pub mod Tested
 pub mod Kept
 pub mod EndState
 pub mod Refused
+pub mod Clock
 pub mod Accepted

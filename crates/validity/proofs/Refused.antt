@@ -13,7 +13,7 @@ use Rattle.verdict.specs.declared.Verdict.the-variants.{Accepted}
 use Rattle.verdict.specs.Verdict.{number, place, _then_, refuseLowest}
 use Rattle.verdict.proofs.Chain.{then-refused, then-accepted, then-either, refuse-either, lowest-outcome}
 use Rattle.job.specs.Model.{Model}
-use Rattle.job.specs.WellFormed.{WellFormed}
+use Rattle.job.specs.Clocked.{ClockedForm}
 use Rattle.validity.specs.declared.Rule.{Rule}
 use Rattle.validity.specs.declared.Rule.the-variants.{FixedSteps, Effects, Conditions, Levels, Goals, Steps}
 use Rattle.validity.specs.Ticks.{scheduleOf}
@@ -39,7 +39,7 @@ placed Goals k = refl
 placed Steps k = refl
 
 -- from 9 to 14
-from-nine : (rule : Rule) → (8 < ruleNumber rule) × (ruleNumber rule ≤ 14)
+pub from-nine : (rule : Rule) → (8 < ruleNumber rule) × (ruleNumber rule ≤ 14)
 from-nine FixedSteps = (omega arith, omega arith)
 from-nine Effects = (omega arith, omega arith)
 from-nine Conditions = (omega arith, omega arith)
@@ -111,7 +111,7 @@ module _ (m : Model) (x : ℕ → ℕ) where
 
   -- one rule, where those before it are kept
   pub rule-checked :
-      WellFormed m → (rule : Rule) (n : ℕ) → n ≡ ruleNumber rule → ((earlier : Rule) → ruleNumber earlier < n → Kept m x earlier)
+      ClockedForm m → (rule : Rule) (n : ℕ) → n ≡ ruleNumber rule → ((earlier : Rule) → ruleNumber earlier < n → Kept m x earlier)
       → CheckedTo m x n (ruleCheck m x rule)
   unfolding ruleCheck
   rule-checked w rule n q before =
@@ -149,13 +149,13 @@ module _ (m : Model) (x : ℕ → ℕ) where
 
   -- one more rule
   next-checked :
-      WellFormed m → (rule : Rule) (n : ℕ) (v : Verdict) → suc n ≡ ruleNumber rule → CheckedTo m x n v
+      ClockedForm m → (rule : Rule) (n : ℕ) (v : Verdict) → suc n ≡ ruleNumber rule → CheckedTo m x n v
       → CheckedTo m x (suc n) (v then ruleCheck m x rule)
   next-checked w rule n v q a =
       then-checked n (suc n) v (ruleCheck m x rule) (omega arith) a (λ z. rule-checked w rule (suc n) q (λ r h. a .kept z r (omega arith)))
 
   -- refusals 10 to 14
-  pub timing-checked : WellFormed m → Kept m x FixedSteps → CheckedTo m x 14 (timingCheck m x)
+  pub timing-checked : ClockedForm m → Kept m x FixedSteps → CheckedTo m x 14 (timingCheck m x)
   unfolding timingCheck
   timing-checked w fixed =
       next-checked w Steps 13 _ refl
@@ -166,7 +166,7 @@ module _ (m : Model) (x : ℕ → ℕ) where
       (λ r h. subst (Kept m x) (same-rule FixedSteps r (omega (arith, from-nine r .0))) fixed)))))
 
 -- refusals 8 to 14
-pub starts-checked : (m : Model) → WellFormed m → (starts : List ℕ) → CheckedTo m (scheduleOf starts) 14 (startsCheck m starts)
+pub starts-checked : (m : Model) → ClockedForm m → (starts : List ℕ) → CheckedTo m (scheduleOf starts) 14 (startsCheck m starts)
 unfolding startsCheck countCheck
 starts-checked m w starts =
     let x : ℕ → ℕ = scheduleOf starts in

@@ -12,7 +12,7 @@ use Rattle.laws.proofs.Search.{either, contrary, and-both, or-both, any-none, a
 use Rattle.laws.proofs.Fold.{sum-zero}
 use Rattle.job.specs.Model.{Model}
 use Rattle.job.specs.Model.{noDeadline}
-use Rattle.job.specs.WellFormed.{WellFormed}
+use Rattle.job.specs.Clocked.{ClockedForm}
 use Rattle.validity.specs.Ticks.{effectTick, firstTick, lastTick, useTick, finish, opposes}
 use Rattle.validity.specs.Seen.{seen, afterAll}
 use Rattle.validity.specs.Levels.{risesBefore, fallsBefore, usedBy, rise, fall, aboveLeast, belowMost}
@@ -213,7 +213,7 @@ module _ (m : Model) (x : ℕ → ℕ) where
   unfolding goalFails
   goal-holds g n = let b = or-both _ _ n in (eqb-true _ _ (not-false _ (b .0)), b .1)
 
-module _ (m : Model) (x : ℕ → ℕ) (w : WellFormed m) where
+module _ (m : Model) (x : ℕ → ℕ) (w : ClockedForm m) where
   -- refusal 11: from the first tick on, what opposes is another step's and caught, or the step's own and refused by 7
   pub condition-seen :
       (c t : ℕ) → c < m .conditions → conditionFails m x c ≡ false → firstTick m x c ≤ t → t ≤ lastTick m x c → seen m x (m .conditionFact c)

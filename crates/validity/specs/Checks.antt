@@ -10,6 +10,7 @@ use Rattle.verdict.specs.declared.Verdict.the-variants.{StartsMiscounted, Fixed
 use Rattle.verdict.specs.declared.Verdict.the-variants.{GoalFails, StepsOverlap}
 use Rattle.verdict.specs.Verdict.{_then_, refuseIf, refuseLowest}
 use Rattle.job.specs.Model.{Model, modelOf}
+use Rattle.job.specs.Clocked.{clocked}
 use Rattle.job.specs.Model.{noDeadline}
 use Rattle.form.specs.Refusals.{formCheck}
 use Rattle.validity.specs.declared.Rule.{Rule}
@@ -112,9 +113,9 @@ timingCheck m x =
     ruleCheck m x Effects then ruleCheck m x Conditions then ruleCheck m x Levels then ruleCheck m x Goals
     then ruleCheck m x Steps
 
--- the job check: 1 to 7, then 10 to 14 on the written starts
+-- the job check: 1 to 7 and 17, then 10 to 14 on the written starts, of the job with its timed facts as effects of the clock
 unfoldable pub jobCheck : List ℕ → Verdict
-jobCheck s = formCheck s then timingCheck (modelOf s) (planned (modelOf s))
+jobCheck s = formCheck s then timingCheck (clocked (modelOf s)) (planned (modelOf s))
 
 -- refusal 8: the list does not have one entry a step
 unfoldable pub countCheck : Model → List ℕ → Verdict
@@ -125,6 +126,6 @@ unfoldable pub startsCheck : Model → List ℕ → Verdict
 startsCheck m starts =
     countCheck m starts then ruleCheck m (scheduleOf starts) FixedSteps then timingCheck m (scheduleOf starts)
 
--- the timing check: 1 to 14
+-- the timing check: 1 to 7 and 17, then 8 to 14
 unfoldable pub scheduleCheck : List ℕ → List ℕ → Verdict
-scheduleCheck s starts = formCheck s then startsCheck (modelOf s) starts
+scheduleCheck s starts = formCheck s then startsCheck (clocked (modelOf s)) starts

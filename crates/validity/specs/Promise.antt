@@ -6,6 +6,7 @@ use lib.ListN.{length}
 use Rattle.verdict.specs.declared.Verdict.{Verdict}
 use Rattle.verdict.specs.Verdict.{number}
 use Rattle.job.specs.Model.{modelOf}
+use Rattle.job.specs.Clocked.{clocked}
 use Rattle.form.specs.Refusals.{formCheck}
 use Rattle.job.specs.WellFormed.{WellFormed}
 use Rattle.validity.specs.Ticks.{scheduleOf, planned}
@@ -13,11 +14,11 @@ use Rattle.validity.specs.Valid.{Valid}
 use Rattle.validity.specs.Checks.{jobCheck, scheduleCheck}
 use Rattle.validity.specs.Refused.{UnderItsSentence}
 
--- a file that refusals 1 to 7 pass, and a schedule of its job that is sound
+-- a file that refusals 1 to 7 and 17 pass, and a schedule of its job that is sound, timed facts acting as effects of the clock
 pub record Sound (s : List ℕ) (x : ℕ → ℕ) : Type 0 where
   pub form : number (formCheck s) ≡ 0
   pub wellFormed : WellFormed (modelOf s)
-  pub valid : Valid (modelOf s) x
+  pub valid : Valid (clocked (modelOf s)) x
 
 -- what the job check promises
 pub record JobPromise (s : List ℕ) (r : Verdict) : Type 0 where

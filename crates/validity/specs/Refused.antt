@@ -7,8 +7,9 @@ use Rattle.verdict.specs.declared.Verdict.{Verdict}
 use Rattle.verdict.specs.Verdict.{number, place, nowhere}
 use Rattle.job.specs.Model.{Model, modelOf, noDeadline}
 use Rattle.job.specs.WellFormed.{WellFormed}
+use Rattle.job.specs.Clocked.{clocked}
 use Rattle.form.specs.Refusals.{formCheck}
-use Rattle.form.specs.Refused.{FormRefusal}
+use Rattle.form.specs.Refused.{FormRefusal, FormNumber}
 use Rattle.validity.specs.declared.Rule.{Rule}
 use Rattle.validity.specs.declared.Rule.the-variants.{FixedSteps, Effects, Conditions, Levels, Goals, Steps}
 use Rattle.validity.specs.Ticks.{effectTick, firstTick, lastTick, finish}
@@ -125,16 +126,18 @@ pub record FirstViolation (m : Model) (x : ℕ → ℕ) (rule : Rule) (k : ℕ) 
   pub lowerKeep : (j : ℕ) → j < k → Keeps m x rule j
   pub earlierKept : (earlier : Rule) → ruleNumber earlier < ruleNumber rule → Kept m x earlier
 
--- "each refusal only under its sentence": what the verdict r on the file s and the schedule x says
+-- "each refusal only under its sentence": what the verdict r on the file s and the schedule x says; timed facts act as effects of the clock
 pub record UnderItsSentence (s : List ℕ) (x : ℕ → ℕ) (r : Verdict) : Type 0 where
-  -- 1 to 7 are the form check's, and say what it says
-  pub form : (number r ≡ 0 → ⊥) → number r ≤ 7 → (r ≡ formCheck s) × FormRefusal s r
-  -- above 7 the file is well formed
-  pub wellFormed : 7 < number r → WellFormed (modelOf s)
+  -- 1 to 7 and 17 are the form check's, and say what it says
+  pub form : (number r ≡ 0 → ⊥) → FormNumber (number r) → (r ≡ formCheck s) × FormRefusal s r
+  -- above 7 the file is well formed, but for 17
+  pub wellFormed : 7 < number r → (number r ≡ 17 → ⊥) → WellFormed (modelOf s)
   -- from 9 to 14 the number is that of the first rule that is violated, the place the lowest record that violates it
-  pub first : (rule : Rule) → number r ≡ ruleNumber rule → FirstViolation (modelOf s) x rule (place r)
+  pub first : (rule : Rule) → number r ≡ ruleNumber rule → FirstViolation (clocked (modelOf s)) x rule (place r)
+  -- 10 names an effect of a step
+  pub ofStep : number r ≡ 10 → place r < modelOf s .effects
   -- and the timing is not sound
-  pub unsound : 8 < number r → Valid (modelOf s) x → ⊥
+  pub unsound : 8 < number r → (number r ≡ 17 → ⊥) → Valid (clocked (modelOf s)) x → ⊥
   -- 0 to 5 and 8 name no place
   pub unplaced : (number r ≤ 5) ⊎ (number r ≡ 8) → place r ≡ nowhere
-  pub most : number r ≤ 14
+  pub most : (number r ≤ 14) ⊎ (number r ≡ 17)
