@@ -7,7 +7,7 @@ use contract.Monad.{fact}
 use denote.Plain.{uint-lawful}
 use denote.Builtin.{u16}
 use denote.Struct.Laws as LL
-use Rattle.job.specs.Model.{view, levelOf, stepOf, goalOf, conditionOf, effectOf, useOf}
+use Rattle.job.specs.Model.{view, levelOf, stepOf, goalOf, conditionOf, effectOf, useOf, timedOf}
 use Rattle.job.proofs.records.Level as Level
 use Rattle.job.proofs.records.Level.Laws as Level′
 use Rattle.job.proofs.records.Step as Step
@@ -20,6 +20,8 @@ use Rattle.job.proofs.records.Effect as Effect
 use Rattle.job.proofs.records.Effect.Laws as Effect′
 use Rattle.job.proofs.records.Use as Use
 use Rattle.job.proofs.records.Use.Laws as Use′
+use Rattle.job.proofs.records.TimedFact as TimedFact
+use Rattle.job.proofs.records.TimedFact.Laws as TimedFact′
 use Rattle.job_reader.specs.Laid.{Laid}
 use Rattle.job_reader.proofs.Contracts.{Reading}
 
@@ -84,4 +86,13 @@ uses = record {
   typed = λ M 𝓤 H A W r u is. LL.lawful Use.the-type Use′.the-laws 𝓤 H A W .typed r _ is .0;
   asks = λ M 𝓤 j s k. fact 𝓤 (Laid j s × (k < j .count .uses));
   answers = λ j s k r. r ≡ useOf (view j s) k;
+}
+
+abbrev pub timed : Reading
+timed = record {
+  R = TimedFact.the-row;
+  ty = TimedFact′.mir;
+  typed = λ M 𝓤 H A W r u is. LL.lawful TimedFact.the-type TimedFact′.the-laws 𝓤 H A W .typed r _ is .0;
+  asks = λ M 𝓤 j s k. fact 𝓤 (Laid j s × (k < j .count .timed));
+  answers = λ j s k r. r ≡ timedOf (view j s) k;
 }

@@ -2,8 +2,8 @@
 ghost use mathlib.Core.Path.{_≡_};
 ghost use mathlib.Core.Bool.{true};
 ghost use Prim.Native.Nat.{_+_, _*_, _<_};
-ghost use Rattle.job.specs.Layout.{stepWidth, conditionWidth, effectWidth, useWidth};
-ghost use Rattle.job.specs.Model.{view, conditionOf, effectOf, useOf};
+ghost use Rattle.job.specs.Layout.{stepWidth, conditionWidth, effectWidth, useWidth, timedWidth};
+ghost use Rattle.job.specs.Model.{view, conditionOf, effectOf, useOf, timedOf};
 ghost use Rattle.job_reader.specs.Laid.{Laid};
 ghost use Rattle.little_endian.specs.Bytes.{u32Values};
 use crate::reader::JobReader;
@@ -11,10 +11,12 @@ use job::layout::CONDITION;
 use job::layout::EFFECT;
 use job::layout::Job;
 use job::layout::STEP;
+use job::layout::TIMED;
 use job::layout::USE;
 use job::layout::WIDTHS;
 use job::records::Condition;
 use job::records::Effect;
+use job::records::TimedFact;
 use job::records::Use;
 
 // Where the last record of a table ends.
@@ -42,7 +44,13 @@ fn uses_end(job: Job) -> usize
     job.at.uses as usize + WIDTHS[USE] * job.count.uses as usize
 }
 
-// Whether the records of steps, conditions, effects and uses lie within the bytes.
+fn timed_end(job: Job) -> usize
+    ensures { λ r. ⌜ r ≡ job .at .timed + timedWidth * job .count .timed ⌝ }
+{
+    job.at.timed as usize + WIDTHS[TIMED] * job.count.timed as usize
+}
+
+// Whether the records of steps, conditions, effects, uses and timed facts lie within the bytes.
 pub fn is_laid(s: &[u8], job: Job) -> bool
     ensures { λ r. ⌜ (r ≡ true → Laid job (now (s .entry))) × (Laid job (now (s .entry)) → r ≡ true) ⌝ }
 {
@@ -50,6 +58,7 @@ pub fn is_laid(s: &[u8], job: Job) -> bool
         & (conditions_end(job) <= s.len())
         & (effects_end(job) <= s.len())
         & (uses_end(job) <= s.len())
+        & (timed_end(job) <= s.len())
 }
 
 pub fn length_within(s: &[u8], job: Job, k: u16) -> usize
@@ -99,6 +108,18 @@ fn use_within(s: &[u8], job: Job, k: u16) -> Use
     }
 }
 
+fn timed_within(s: &[u8], job: Job, k: u16) -> TimedFact
+    requires { ⌜ Laid job (now s) × (k < job .count .timed) ⌝ }
+    ensures { λ r. ⌜ r ≡ timedOf (view job (now (s .entry))) k ⌝ }
+{
+    let at = job.at.timed as usize + WIDTHS[TIMED] * k as usize;
+    TimedFact {
+        fact: little_endian::u16_within(s, at) as u16,
+        tick: little_endian::u32_within(s, at + 2),
+        value: little_endian::u16_within(s, at + 6) as u16,
+    }
+}
+
 // The same through the reader, and of a slice of which it is made.
 pub fn condition<'a>(r: JobReader<'a>, k: u16) -> Condition
     requires { ⌜ Laid (r .job) (now (r .bytes)) × (k < r .job .count .conditions) ⌝ }
@@ -141,4 +162,18 @@ pub fn use_of(s: &[u8], job: Job, k: u16) -> Use
     ensures { λ r. ⌜ r ≡ useOf (view job (now (s .entry))) k ⌝ }
 {
     use_in(JobReader { bytes: s, job }, k)
+}
+
+pub fn timed<'a>(r: JobReader<'a>, k: u16) -> TimedFact
+    requires { ⌜ Laid (r .job) (now (r .bytes)) × (k < r .job .count .timed) ⌝ }
+    ensures { λ x. ⌜ x ≡ timedOf (view (r .entry .job) (now (r .entry .bytes))) k ⌝ }
+{
+    timed_within(r.bytes, r.job, k)
+}
+
+pub fn timed_of(s: &[u8], job: Job, k: u16) -> TimedFact
+    requires { ⌜ Laid job (now s) × (k < job .count .timed) ⌝ }
+    ensures { λ r. ⌜ r ≡ timedOf (view job (now (s .entry))) k ⌝ }
+{
+    timed(JobReader { bytes: s, job }, k)
 }
