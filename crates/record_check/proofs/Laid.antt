@@ -1,7 +1,7 @@
 -- Where refusals 1 to 5 pass, the tables lie within the bytes.
 use Prim.Native.Nat.{ℕ}
 use mathlib.Core.Path.{_≡_, sym, ap, subst, _∙_}
-use mathlib.Core.Bool.{true, _&&_}
+use mathlib.Core.Bool.{true, _&&_, _||_, not}
 use mathlib.Core.List.{List}
 use native.Mathlib.Omega.{arith}
 use borrow.Author.Tests.{eqb-true, not-false}
@@ -12,8 +12,7 @@ use Rattle.laws.proofs.Search.{and-both}
 use Rattle.verdict.specs.Verdict.{number, _then_}
 use Rattle.verdict.proofs.Chain.{then-zero, refuse-zero}
 use Rattle.job.specs.declared.layout.Job.{Job}
-use Rattle.job.specs.declared.layout.Positions.{Positions}
-use Rattle.job.specs.Layout.{tableAt, countsOf, positionsOf, jobOf}
+use Rattle.job.specs.Layout.{timedEdition, tableAt, positionsOf, jobOf}
 use Rattle.job_reader.specs.Laid.{Laid}
 use Rattle.job.specs.Model.{modelOf}
 use Rattle.record_check.specs.declared.Form.{Form}
@@ -21,18 +20,20 @@ use Rattle.record_check.specs.Header.{headerCheck, layoutAgrees}
 use Rattle.record_check.specs.Records.{recordCheck, RecordsPromise}
 
 -- the file ends where its last table does
-agrees-end : (s : List ℕ) (p : Positions) → layoutAgrees s p ≡ true → length s ≡ p .end
+agrees-end : (s : List ℕ) (j : Job) → layoutAgrees s j ≡ true → length s ≡ j .at .end
 unfolding layoutAgrees
-agrees-end s p e =
+agrees-end s j e =
     eqb-true _ _
     (and-both
-    (eqb (u32At s 20) (p .facts) && eqb (u32At s 24) (p .levels) && eqb (u32At s 28) (p .steps) && eqb (u32At s 32) (p .conditions)
-    && eqb (u32At s 36) (p .effects)
-    && eqb (u32At s 40) (p .uses)
-    && eqb (u32At s 44) (p .goals))
+    (eqb (u32At s 20) (j .at .facts) && eqb (u32At s 24) (j .at .levels) && eqb (u32At s 28) (j .at .steps)
+    && eqb (u32At s 32) (j .at .conditions)
+    && eqb (u32At s 36) (j .at .effects)
+    && eqb (u32At s 40) (j .at .uses)
+    && eqb (u32At s 44) (j .at .goals)
+    && (not (eqb (j .edition) timedEdition) || eqb (u32At s 48) (j .at .timed)))
     _ e .1)
 
-file-ends : (s : List ℕ) → number (headerCheck s) ≡ 0 → length s ≡ positionsOf (countsOf s) .end
+file-ends : (s : List ℕ) → number (headerCheck s) ≡ 0 → length s ≡ jobOf s .at .end
 unfolding headerCheck
 file-ends s e =
     agrees-end s _ (not-false _ (refuse-zero _ _ (λ z. let y : _≡_ {A = ℕ} 5 0 = z in omega arith) (then-zero _ _ e .1)))
@@ -41,7 +42,13 @@ pub header-laid : (s : List ℕ) → number (headerCheck s) ≡ 0 → Laid (jobO
 unfolding jobOf positionsOf tableAt
 header-laid s e =
     let n = file-ends s e in
-    record { steps = omega (arith, n); conditions = omega (arith, n); effects = omega (arith, n); uses = omega (arith, n) }
+    record {
+      steps = omega (arith, n);
+      conditions = omega (arith, n);
+      effects = omega (arith, n);
+      uses = omega (arith, n);
+      timed = omega (arith, n);
+    }
 
 -- so they do where refusals 1 to 6 pass, and of records that were read
 pub passed-laid : (s : List ℕ) (job : Job) → number (headerCheck s then recordCheck (modelOf s)) ≡ 0 → job ≡ jobOf s → Laid job s

@@ -8,21 +8,23 @@ use native.Mathlib.Omega.{arith}
 use borrow.Author.Tests.{ltb-true, ltb-false, leb-true, eqb-true, eqb-false, not-true, not-false}
 use lib.Dec.{leb, eqb, lit<}
 use lib.ListN.{getD}
-use Rattle.little_endian.specs.Bytes.{u16At, signBias}
+use Rattle.little_endian.specs.Bytes.{signBias}
 use Rattle.laws.proofs.Search.{either, and-both, or-both, any-false}
 use Rattle.verdict.specs.declared.Verdict.the-variants.{RecordOutOfRange}
 use Rattle.verdict.specs.Verdict.{number, _then_}
 use Rattle.verdict.proofs.Chain.{then-zero, refuse-zero, lowest-zero}
 use Rattle.job.specs.declared.layout.Table.{Table}
-use Rattle.job.specs.declared.layout.Table.the-variants.{Facts, Levels, Steps, Conditions, Effects, Uses, Goals}
+use Rattle.job.specs.declared.layout.Table.the-variants.{Facts, Levels, Steps, Conditions, Effects, Uses, Goals, TimedFacts}
 use Rattle.job.specs.declared.layout.Counts.{Counts}
 use Rattle.job.specs.declared.layout.Job.{Job}
-use Rattle.job.specs.Layout.{countsOf, countList, highest, jobOf, countTooHigh}
-use Rattle.job.specs.Model.{Model, view, modelOf, lastStart, longest, lastDeadline, noDeadline, lowestLevel, highestLevel, lowestAmount, highestAmount}
+use Rattle.job.specs.Layout.{countList, highest, jobOf, countTooHigh}
+use Rattle.job.specs.Model.{Model, view, modelOf, lastStart, longest, lastDeadline, noDeadline, lastTimed}
+use Rattle.job.specs.Model.{lowestLevel, highestLevel, lowestAmount, highestAmount}
 use Rattle.job.specs.WellFormed.{Ranged}
 use Rattle.record_check.specs.declared.Form.{Form}
-use Rattle.record_check.specs.Header.{headerCheck}
-use Rattle.record_check.specs.Ranges.{levelInRange, factOk, levelOk, stepOk, conditionOk, effectOk, useOk, goalOk, recordOk, recordBroken, countIn}
+use Rattle.record_check.specs.Header.{headerCheck, marksWrong}
+use Rattle.record_check.specs.Ranges.{levelInRange, factOk, levelOk, stepOk, conditionOk, effectOk, useOk, goalOk, timedOk}
+use Rattle.record_check.specs.Ranges.{recordOk, recordBroken, countIn}
 use Rattle.record_check.specs.Records.{tableCheck, recordCheck, RecordsPromise}
 
 -- once refusal 6 passes, every record of every table is in order
@@ -34,7 +36,8 @@ table-zero m t e k h =
 pub tables : (m : Model) → number (recordCheck m) ≡ 0 → (t : Table) (k : ℕ) → k < countIn m t → recordOk m t k ≡ true
 unfolding recordCheck
 tables m e =
-    let g = then-zero _ _ e in
+    let t = then-zero _ _ e in
+    let g = then-zero _ _ (t .0) in
     let u = then-zero _ _ (g .0) in
     let f = then-zero _ _ (u .0) in
     let c = then-zero _ _ (f .0) in
@@ -48,6 +51,7 @@ tables m e =
       | Effects ↦ table-zero m Effects (f .1)
       | Uses ↦ table-zero m Uses (u .1)
       | Goals ↦ table-zero m Goals (g .1)
+      | TimedFacts ↦ table-zero m TimedFacts (t .1)
     ]
 
 deadline : {d : ℕ} → (leb d lastDeadline || eqb d noDeadline) ≡ true → (d ≤ lastDeadline) ⊎ (d ≡ noDeadline)
@@ -126,14 +130,21 @@ goal-in m k e =
     let a = and-both _ _ (b .0) in
     (ltb-true _ _ (a .0), leb-true _ _ (a .1), deadline (b .1))
 
+timed-in : (m : Model) (k : ℕ) → timedOk m k ≡ true → (m .timedFact k < m .facts) × (m .timedTick k ≤ lastTimed) × (m .timedValue k ≤ 1)
+unfolding timedOk
+timed-in m k e =
+    let b = and-both _ _ e in
+    let a = and-both _ _ (b .0) in
+    (ltb-true _ _ (a .0), leb-true _ _ (a .1), leb-true _ _ (b .1))
+
 -- no count exceeds its highest
-pub counts : (c : Counts) → countTooHigh c ≡ false → (t : ℕ) → t < 7 → getD (countList c) t 0 ≤ getD highest t 0
+pub counts : (c : Counts) → countTooHigh c ≡ false → (t : ℕ) → t < 8 → getD (countList c) t 0 ≤ getD highest t 0
 unfolding countTooHigh
-counts c e t h = ltb-false _ _ (any-false _ 7 e t h)
+counts c e t h = ltb-false _ _ (any-false _ 8 e t h)
 
 -- the header, once refusals 1 to 5 pass
-pub header : (s : List ℕ) → number (headerCheck s) ≡ 0 → (u16At s 2 ≤ 1) × (countTooHigh (countsOf s) ≡ false)
-unfolding headerCheck
+pub header : (s : List ℕ) → number (headerCheck s) ≡ 0 → (jobOf s .serial ≤ 1) × (countTooHigh (jobOf s .count) ≡ false)
+unfolding headerCheck marksWrong
 header s e =
     let a = then-zero _ _ e in
     let b = then-zero _ _ (a .0) in
@@ -147,7 +158,7 @@ pub ranged : (s : List ℕ) → number (headerCheck s then recordCheck (modelOf 
 unfolding jobOf
 ranged s e =
     let b = then-zero _ _ e in
-    let n = counts (countsOf s) (header s (b .0) .1) in
+    let n = counts (jobOf s .count) (header s (b .0) .1) in
     let m = modelOf s in
     let ok = tables m (b .1) in record {
       factCount = n 0 (lit< tt);
@@ -156,6 +167,7 @@ ranged s e =
       conditionCount = n 3 (lit< tt);
       effectCount = n 4 (lit< tt);
       useCount = n 5 (lit< tt);
+      timedCount = n 7 (lit< tt);
       initialValue = λ k l. fact-in m k (ok Facts k l);
       lengthRange = λ k l. step-in m k (ok Steps k l) .1;
       conditionStep = λ k l. condition-in m k (ok Conditions k l) .0;
@@ -170,6 +182,9 @@ ranged s e =
       useStep = λ k l. use-in m k (ok Uses k l) .0;
       useLevel = λ k l. use-in m k (ok Uses k l) .1;
       useEnd = λ k l. use-in m k (ok Uses k l) .2;
+      timedFact = λ k l. timed-in m k (ok TimedFacts k l) .0;
+      timedTick = λ k l. timed-in m k (ok TimedFacts k l) .1;
+      timedValue = λ k l. timed-in m k (ok TimedFacts k l) .2;
     }
 
 -- the records that were read are in range

@@ -5,7 +5,7 @@ ghost use Prim.Native.Nat.{ℕ, _≤_, _<_};
 ghost use Rattle.laws.specs.Search.{lowest};
 ghost use Rattle.job_reader.specs.Laid.{Laid};
 ghost use Rattle.job.specs.Model.{view};
-ghost use Rattle.record_check.specs.Ranges.{factOk, levelInRange, levelOk, stepOk, conditionOk, effectOk, useOk, goalOk};
+ghost use Rattle.record_check.specs.Ranges.{factOk, levelInRange, levelOk, stepOk, conditionOk, effectOk, useOk, goalOk, timedOk};
 ghost use Rattle.record_check.specs.Ranges.{recordOk, recordBroken, countIn};
 ghost use Rattle.record_check.specs.Records.{tableCheck, recordCheck};
 ghost use Rattle.verdict.specs.Verdict.{_then_};
@@ -14,6 +14,7 @@ use job::layout::HIGHEST_LEVEL;
 use job::layout::Job;
 use job::layout::LAST_DEADLINE;
 use job::layout::LAST_START;
+use job::layout::LAST_TIMED;
 use job::layout::LONGEST;
 use job::layout::LOWEST_AMOUNT;
 use job::layout::LOWEST_LEVEL;
@@ -107,6 +108,14 @@ fn goal_ok(s: &[u8], job: Job, k: u16) -> bool
         & ((goal.deadline <= LAST_DEADLINE) | (goal.deadline == NO_DEADLINE))
 }
 
+fn timed_ok(s: &[u8], job: Job, k: u16) -> bool
+    requires { ⌜ Laid job (now s) × (k < job .count .timed) ⌝ }
+    ensures { λ r. ⌜ r ≡ timedOk (view job (now (s .entry))) k ⌝ }
+{
+    let timed = timed_of(s, job, k);
+    (timed.fact < job.count.facts) & (timed.tick <= LAST_TIMED) & (timed.value <= 1)
+}
+
 fn record_ok(s: &[u8], job: Job, table: Table, k: u16) -> bool
     requires { ⌜ Laid job (now s) × (k < countIn (view job (now s)) table) ⌝ }
     ensures { λ r. ⌜ r ≡ recordOk (view job (now (s .entry))) table k ⌝ }
@@ -119,6 +128,7 @@ fn record_ok(s: &[u8], job: Job, table: Table, k: u16) -> bool
         Table::Effects => effect_ok(s, job, k),
         Table::Uses => use_ok(s, job, k),
         Table::Goals => goal_ok(s, job, k),
+        Table::TimedFacts => timed_ok(s, job, k),
     }
 }
 
@@ -133,6 +143,7 @@ fn count_in(job: Job, table: Table) -> u16
         Table::Effects => job.count.effects,
         Table::Uses => job.count.uses,
         Table::Goals => job.count.goals,
+        Table::TimedFacts => job.count.timed,
     }
 }
 
@@ -180,5 +191,6 @@ pub fn check_records(s: &[u8], job: Job) -> Verdict
     let v = table_after(v, s, job, Table::Conditions);
     let v = table_after(v, s, job, Table::Effects);
     let v = table_after(v, s, job, Table::Uses);
-    table_after(v, s, job, Table::Goals)
+    let v = table_after(v, s, job, Table::Goals);
+    table_after(v, s, job, Table::TimedFacts)
 }

@@ -38,5 +38,5 @@ is-laid-spec =
           let p = parts _ _ _ _ _ _ e in
           record { steps = p .0; conditions = p .1; effects = p .2; uses = p .3; timed = p .4 }),
       rw (timed, uses, effects, conditions, steps)
-      (λ l. whole _ _ _ _ _ _ (l .steps) (l .conditions) (l .effects) (l .uses) (l .timed)),
+          (λ l. whole _ _ _ _ _ _ (l .steps) (l .conditions) (l .effects) (l .uses) (l .timed)),
     )))
