@@ -1,3 +1,3 @@
--- The tests of refusal 7, and when it passes.
+-- The tests of refusal 7, and when it and refusal 17 pass.
 pub mod Steps
 pub mod Unopposed

@@ -1,4 +1,4 @@
--- Refusal 7 passes where no step is against itself.
+-- Refusal 7 passes where no step is against itself, and refusal 17 where the clock is not.
 use Prim.Native.Nat.{ℕ, _≤_, _<_}
 use mathlib.Core.Path.{_≡_, ap, _∙_}
 use mathlib.Core.Bool.{Bool, true, false, not, _&&_, and-false}
@@ -8,12 +8,13 @@ use borrow.Author.Tests.{ltb-true, leb-true, eqb-true, eq-eqb, le-ltb}
 use lib.Dec.{eqb}
 use Rattle.laws.specs.Search.{any, lowestOwner}
 use Rattle.laws.proofs.Search.{either, contrary, and-both, any-none, lowest-is}
-use Rattle.verdict.specs.declared.Verdict.the-variants.{StepAgainstItself}
+use Rattle.verdict.specs.declared.Verdict.the-variants.{StepAgainstItself, TimedFactsConflict}
 use Rattle.verdict.specs.Verdict.{number}
-use Rattle.verdict.proofs.Chain.{zero-refuse}
+use Rattle.verdict.proofs.Chain.{zero-refuse, zero-lowest}
 use Rattle.job.specs.Model.{Model}
 use Rattle.self_check.specs.Against.{bothWays, usesTwice, opposesOwn, setBefore, usedBefore, opposesAny, bothWaysStep, usesTwiceStep, opposesOwnStep}
 use Rattle.self_check.specs.Against.{againstStep, stepCheck}
+use Rattle.self_check.specs.Clock.{timedBothWays, timedConflicts, timedCheck}
 
 -- where no index passes, none has an owner that counts
 owner-all : (n m : ℕ) (owner : ℕ → ℕ) (p : ℕ → Bool) → ((k : ℕ) → k < m → p k ≡ false) → lowestOwner n m owner p ≡ n
@@ -78,7 +79,7 @@ module _ (m : Model) where
       let a = and-both _ _ (b .0) in
       denied (b .1) (h e k l g (eqb-true _ _ (a .0)) (eqb-true _ _ (a .1)) (leb-true _ _ (c .1)) (ltb-true _ _ (d .1))))))
 
--- no step is against itself: the last three sentences of `WellFormed`
+-- no step is against itself: the three sentences of `WellFormed`
 pub steps-pass :
     (m : Model)
     → ((e f : ℕ) → e < m .effects → f < m .effects → m .effectStep e ≡ m .effectStep f → m .effectFact e ≡ m .effectFact f
@@ -97,3 +98,18 @@ steps-pass m oneWay oneUse keepsOwn =
     let b = one-use-passes m oneUse in
     let c = keeps-own-passes m keepsOwn in
     zero-refuse _ (StepAgainstItself (againstStep m)) (le-ltb (againstStep m) (m .steps) (omega arith))
+
+-- and the clock is not: the last one
+pub clock-passes :
+    (m : Model)
+    → ((j k : ℕ) → j < m .timed → k < m .timed → m .timedFact j ≡ m .timedFact k → m .timedTick j ≡ m .timedTick k
+    → m .timedValue j ≡ m .timedValue k)
+    → number (timedCheck m) ≡ 0
+unfolding timedCheck timedConflicts timedBothWays
+clock-passes m oneWay =
+    zero-lowest (m .timed) (timedConflicts m) TimedFactsConflict (λ j l.
+    any-none (timedBothWays m j) (m .timed) (λ k g.
+    fails (timedBothWays m j k) (λ t.
+    let b = and-both _ _ t in
+    let a = and-both _ _ (b .0) in
+    denied (b .1) (oneWay j k l g (eqb-true _ _ (a .0)) (eqb-true _ _ (a .1))))))

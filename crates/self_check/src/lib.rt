@@ -1,6 +1,6 @@
 // Refusal 7: a step against itself, found in one pass over the effects and one over the uses. Each record walks an index, so that it
 // meets only those of its own step and fact or level, and the few others that share the key. The field that most often tells two such
-// records apart is read first.
+// records apart is read first. Refusal 17, the clock against itself, is in `clock`.
 ghost use mathlib.Core.Path.{_≡_};
 ghost use mathlib.Core.Bool.{_&&_, cond};
 ghost use Prim.Native.Nat.{ℕ, min, _≤_, _<_};
@@ -12,6 +12,9 @@ ghost use Rattle.self_check.specs.Keys.{stepKey, effectKey, conditionKey
 ghost use Rattle.timeline.specs.Indexed.{keyCount, capacity, Growing};
 ghost use Rattle.self_check.specs.Against.{bothWays, usesTwice, opposesOwn, setBefore, usedBefore, opposesAny, bothWaysStep, usesTwiceStep};
 ghost use Rattle.self_check.specs.Against.{opposesOwnStep, stepCheck};
+
+pub mod clock;
+
 use job::layout::Job;
 use job::records::*;
 use job_reader::laid::effect_of;
