@@ -1,4 +1,4 @@
--- The form check's number and place name the first of refusals 1 to 7 whose sentence fails, and the lowest record.
+-- The form check's number and place name the first of refusals 1 to 7 and 17 whose sentence fails, and the lowest record.
 use Prim.Native.Nat.{ℕ, zero, suc, _≤_, _<_}
 use mathlib.Core.Path.{_≡_, refl, sym, ap, ap₂, subst, _∙_}
 use mathlib.Core.Bool.{Bool, true, false, not, _&&_, _||_}
@@ -7,45 +7,65 @@ use mathlib.Core.Logic.{_⊎_, inl, inr, ⊎-elim}
 use native.Mathlib.Decide.{ℕ-discrete}
 use native.Mathlib.Omega.{arith}
 use borrow.Author.Tests.{ltb-true, ltb-false, leb-true, eqb-true, eqb-false, not-true, not-false, eq-eqb, ne-eqb, le-leb, lt-ltb}
-use lib.Dec.{ltb, eqb}
+use lib.Dec.{ltb, leb, eqb}
 use lib.ListN.{length, getD}
-use Rattle.laws.specs.Search.{any, lowestOwner}
-use Rattle.laws.proofs.Search.{contrary, by-order, and-both, or-both, or-out, any-intro, any-elim, lowest-facts}
+use Rattle.laws.specs.Search.{any, all, lowestOwner}
+use Rattle.laws.proofs.Search.{contrary, by-order, and-both, or-both, or-out, any-intro, any-elim, all-elim, lowest-facts}
 use Rattle.little_endian.specs.Bytes.{u16At}
 use Rattle.verdict.specs.declared.Verdict.{Verdict}
 use Rattle.verdict.specs.declared.Verdict.the-variants.{Accepted, FileTooShort, UnknownEdition, MarkOutOfRange, CountTooHigh, LayoutDisagrees}
-use Rattle.verdict.specs.declared.Verdict.the-variants.{RecordOutOfRange, StepAgainstItself}
+use Rattle.verdict.specs.declared.Verdict.the-variants.{RecordOutOfRange, StepAgainstItself, TimedFactsConflict}
 use Rattle.verdict.specs.Verdict.{number, place, _then_, refuseIf, refuseLowest}
 use Rattle.verdict.proofs.Chain.{accepted-then, refuse-yes, refuse-zero, refuse-says, refuse-either, lowest-outcome, inTurn, FirstRefuses, in-turn}
 use Rattle.verdict.proofs.Unplaced.{unplaced}
 use Rattle.job.specs.declared.layout.Table.{Table}
-use Rattle.job.specs.declared.layout.Table.the-variants.{Facts, Levels, Steps, Conditions, Effects, Uses, Goals}
+use Rattle.job.specs.declared.layout.Table.the-variants.{Facts, Levels, Steps, Conditions, Effects, Uses, Goals, TimedFacts}
 use Rattle.job.specs.declared.layout.Counts.{Counts}
-use Rattle.job.specs.Layout.{edition, headerWidth, highest, countsOf, countList, positionsOf, countTooHigh}
+use Rattle.job.specs.Layout.{timedEdition, shortestHeader, headerWidth, highest, countsOf, countList, jobOf, countTooHigh}
 use Rattle.job.specs.Model.{Model, modelOf}
-use Rattle.record_check.specs.Header.{layoutAgrees, headerCheck}
+use Rattle.record_check.specs.Header.{editionKnown, marksWrong, layoutAgrees, headerCheck}
 use Rattle.record_check.specs.Ranges.{countIn, recordBroken}
 use Rattle.record_check.specs.Records.{tableCheck, recordCheck}
 use Rattle.record_check.proofs.Ranged.{table-zero, tables, counts}
 use Rattle.self_check.specs.Against.{bothWays, usesTwice, opposesOwn, setBefore, usedBefore, opposesAny, bothWaysStep, usesTwiceStep, opposesOwnStep}
 use Rattle.self_check.specs.Against.{againstStep, stepCheck}
+use Rattle.self_check.specs.Clock.{timedBothWays, timedConflicts, timedCheck}
 use Rattle.form.specs.Refusals.{formCheck}
-use Rattle.form.specs.Refused.{tableNumber, FirstOutOfRange, SetsBothWays, UsesOneTwice, OpposesItsOwn, AgainstItself, FirstAgainst, FormRefusal}
+use Rattle.form.proofs.WellFormed.{steps-zero}
+use Rattle.form.specs.Refused.{tableNumber, FirstOutOfRange, SetsBothWays, UsesOneTwice, OpposesItsOwn, AgainstItself, FirstAgainst}
+use Rattle.form.specs.Refused.{TimedBothWays, FirstOfTwo, FormNumber, FormRefusal}
 
--- refusals 1 to 7 in turn
+-- the nine checks in turn
 abbrev formStep : List ℕ → ℕ → Verdict
-formStep s zero = refuseIf (ltb (length s) headerWidth) FileTooShort
-formStep s (suc zero) = refuseIf (not (eqb (u16At s 0) edition)) UnknownEdition
-formStep s (suc (suc zero)) = refuseIf (ltb 1 (u16At s 2) || not (eqb (u16At s 18) 0)) MarkOutOfRange
-formStep s (suc (suc (suc zero))) = refuseIf (countTooHigh (countsOf s)) CountTooHigh
-formStep s (suc (suc (suc (suc zero)))) = refuseIf (not (layoutAgrees s (positionsOf (countsOf s)))) LayoutDisagrees
-formStep s (suc (suc (suc (suc (suc zero))))) = recordCheck (modelOf s)
-formStep s (suc (suc (suc (suc (suc (suc k)))))) = stepCheck (modelOf s)
+formStep s zero = refuseIf (ltb (length s) shortestHeader) FileTooShort
+formStep s (suc zero) = refuseIf (not (editionKnown (jobOf s .edition))) UnknownEdition
+formStep s (suc (suc zero)) = refuseIf (ltb (length s) (headerWidth (jobOf s .edition))) FileTooShort
+formStep s (suc (suc (suc zero))) = refuseIf (marksWrong (jobOf s)) MarkOutOfRange
+formStep s (suc (suc (suc (suc zero)))) = refuseIf (countTooHigh (jobOf s .count)) CountTooHigh
+formStep s (suc (suc (suc (suc (suc zero))))) = refuseIf (not (layoutAgrees s (jobOf s))) LayoutDisagrees
+formStep s (suc (suc (suc (suc (suc (suc zero)))))) = recordCheck (modelOf s)
+formStep s (suc (suc (suc (suc (suc (suc (suc zero))))))) = stepCheck (modelOf s)
+formStep s (suc (suc (suc (suc (suc (suc (suc (suc k)))))))) = timedCheck (modelOf s)
 
-form-in-turn : (s : List ℕ) → formCheck s ≡ inTurn (formStep s) 7
+-- and their numbers
+abbrev numberIn : ℕ → ℕ
+numberIn zero = 1
+numberIn (suc zero) = 2
+numberIn (suc (suc zero)) = 1
+numberIn (suc (suc (suc zero))) = 3
+numberIn (suc (suc (suc (suc zero)))) = 4
+numberIn (suc (suc (suc (suc (suc zero))))) = 5
+numberIn (suc (suc (suc (suc (suc (suc zero)))))) = 6
+numberIn (suc (suc (suc (suc (suc (suc (suc zero))))))) = 7
+numberIn (suc (suc (suc (suc (suc (suc (suc (suc k)))))))) = 17
+
+form-in-turn : (s : List ℕ) → formCheck s ≡ inTurn (formStep s) 9
 unfolding formCheck headerCheck inTurn
 form-in-turn s =
-    ap (λ (v : Verdict). v then formStep s 1 then formStep s 2 then formStep s 3 then formStep s 4 then formStep s 5 then formStep s 6)
+    ap
+    (λ (v : Verdict). v then formStep s 1 then formStep s 2 then formStep s 3 then formStep s 4 then formStep s 5 then formStep s 6
+    then formStep s 7
+    then formStep s 8)
     (sym (accepted-then (formStep s 0)))
 
 -- the tables in turn
@@ -56,15 +76,17 @@ tableOf (suc (suc zero)) = Steps
 tableOf (suc (suc (suc zero))) = Conditions
 tableOf (suc (suc (suc (suc zero)))) = Effects
 tableOf (suc (suc (suc (suc (suc zero))))) = Uses
-tableOf (suc (suc (suc (suc (suc (suc k)))))) = Goals
+tableOf (suc (suc (suc (suc (suc (suc zero)))))) = Goals
+tableOf (suc (suc (suc (suc (suc (suc (suc k))))))) = TimedFacts
 
-records-in-turn : (m : Model) → recordCheck m ≡ inTurn (λ k. tableCheck m (tableOf k)) 7
+records-in-turn : (m : Model) → recordCheck m ≡ inTurn (λ k. tableCheck m (tableOf k)) 8
 unfolding recordCheck inTurn
 records-in-turn m =
     ap
     (λ (v : Verdict). v then tableCheck m Levels then tableCheck m Steps then tableCheck m Conditions then tableCheck m Effects
     then tableCheck m Uses
-    then tableCheck m Goals)
+    then tableCheck m Goals
+    then tableCheck m TimedFacts)
     (sym (accepted-then (tableCheck m Facts)))
 
 table-back : (t : Table) → tableOf (tableNumber t) ≡ t
@@ -75,6 +97,7 @@ table-back Conditions = refl
 table-back Effects = refl
 table-back Uses = refl
 table-back Goals = refl
+table-back TimedFacts = refl
 
 table-at : (k : ℕ) → tableNumber (tableOf k) ≤ k
 table-at zero = omega arith
@@ -83,7 +106,8 @@ table-at (suc (suc zero)) = omega arith
 table-at (suc (suc (suc zero))) = omega arith
 table-at (suc (suc (suc (suc zero)))) = omega arith
 table-at (suc (suc (suc (suc (suc zero))))) = omega arith
-table-at (suc (suc (suc (suc (suc (suc k)))))) = omega arith
+table-at (suc (suc (suc (suc (suc (suc zero)))))) = omega arith
+table-at (suc (suc (suc (suc (suc (suc (suc k))))))) = omega arith
 
 -- a check that refuses does so with its number
 abbrev Own : ℕ → Verdict → Type 0
@@ -115,13 +139,13 @@ module _ (m : Model) where
       }))
       (lowest-outcome (countIn m t) (recordBroken m t) RecordOutOfRange)
 
-  first-table : (number (recordCheck m) ≡ 0 → ⊥) → (j : ℕ) × FirstRefuses (λ k. tableCheck m (tableOf k)) 7 j
+  first-table : (number (recordCheck m) ≡ 0 → ⊥) → (j : ℕ) × FirstRefuses (λ k. tableCheck m (tableOf k)) 8 j
   first-table n =
       ⊎-elim
-      (λ (a : (number (inTurn (λ k. tableCheck m (tableOf k)) 7) ≡ 0) × ((k : ℕ) → k < 7 → number (tableCheck m (tableOf k)) ≡ 0)).
+      (λ (a : (number (inTurn (λ k. tableCheck m (tableOf k)) 8) ≡ 0) × ((k : ℕ) → k < 8 → number (tableCheck m (tableOf k)) ≡ 0)).
       absurd (n (ap number (records-in-turn m) ∙ a .0)))
-      (λ (a : (j : ℕ) × FirstRefuses (λ k. tableCheck m (tableOf k)) 7 j). a)
-      (in-turn (λ k. tableCheck m (tableOf k)) 7)
+      (λ (a : (j : ℕ) × FirstRefuses (λ k. tableCheck m (tableOf k)) 8 j). a)
+      (in-turn (λ k. tableCheck m (tableOf k)) 8)
 
   record-own : Own 6 (recordCheck m)
   record-own n =
@@ -315,87 +339,207 @@ module _ (m : Model) where
       subst (FirstAgainst m) (ap place (refuse-yes (StepAgainstItself (againstStep m)) t))
       (record { counted = h; against = some-against h; noLower = none-lower })
 
--- refusal 4
-count-out : (c : Counts) → countTooHigh c ≡ true → (t : ℕ) × (t < 7) × (getD highest t 0 < getD (countList c) t 0)
-unfolding countTooHigh
-count-out c h = let f = any-elim (λ t. ltb (getD highest t 0) (getD (countList c) t 0)) 7 h in (f .0, f .1, ltb-true _ _ (f .2))
+  steps-in : number (stepCheck m) ≡ 0 → (step : ℕ) → step < m .steps → AgainstItself m step → ⊥
+  steps-in z step h = none-lower step (omega (arith, steps-zero m z))
 
-form-own : (s : List ℕ) (k : ℕ) → k < 7 → Own (suc k) (formStep s k)
-form-own s zero h = refuse-either (Own 1) _ _ (λ _. refl) (λ z. absurd (z refl))
-form-own s (suc zero) h = refuse-either (Own 2) _ _ (λ _. refl) (λ z. absurd (z refl))
-form-own s (suc (suc zero)) h = refuse-either (Own 3) _ _ (λ _. refl) (λ z. absurd (z refl))
-form-own s (suc (suc (suc zero))) h = refuse-either (Own 4) _ _ (λ _. refl) (λ z. absurd (z refl))
-form-own s (suc (suc (suc (suc zero)))) h = refuse-either (Own 5) _ _ (λ _. refl) (λ z. absurd (z refl))
-form-own s (suc (suc (suc (suc (suc zero))))) h = record-own (modelOf s)
-form-own s (suc (suc (suc (suc (suc (suc zero)))))) h = step-own (modelOf s)
-form-own s (suc (suc (suc (suc (suc (suc (suc k))))))) h = absurd (omega arith)
+-- refusal 17: two timed facts, and the same two the other way round
+module _ (m : Model) where
+  two-ways : (j k : ℕ) → j < m .timed → k < m .timed → timedBothWays m j k ≡ true → TimedBothWays m j k
+  unfolding timedBothWays
+  two-ways j k h g t =
+      let b = and-both _ _ t in
+      let a = and-both _ _ (b .0) in
+      record {
+        known = (h, g);
+        sameFact = eqb-true _ _ (a .0);
+        sameTick = eqb-true _ _ (a .1);
+        otherValue = eqb-false _ _ (not-true _ (b .1));
+      }
+
+  turned : (j k : ℕ) → TimedBothWays m j k → TimedBothWays m k j
+  turned j k b =
+      record {
+        known = (b .known .1, b .known .0);
+        sameFact = sym (b .sameFact);
+        sameTick = sym (b .sameTick);
+        otherValue = λ q. b .otherValue (sym q);
+      }
+
+  timed-found : (j k : ℕ) → TimedBothWays m j k → timedConflicts m j ≡ true
+  unfolding timedConflicts timedBothWays
+  timed-found j k b =
+      any-intro (timedBothWays m j) (m .timed) k (b .known .1)
+      (ap₂ _&&_ (ap₂ _&&_ (eq-eqb _ _ (b .sameFact)) (eq-eqb _ _ (b .sameTick))) (ap not (ne-eqb _ _ (b .otherValue))))
+
+  timed-own : Own 17 (timedCheck m)
+  unfolding timedCheck refuseLowest
+  timed-own = refuse-either (Own 17) _ _ (λ _. refl) (λ z. absurd (z refl))
+
+  -- the other of the two is higher: were it lower, it would be the one named
+  first-of-two :
+      (j : ℕ) → j < m .timed → timedConflicts m j ≡ true → ((i : ℕ) → i < j → timedConflicts m i ≡ false) → FirstOfTwo m j
+  unfolding timedConflicts
+  first-of-two j h t below =
+      let f = any-elim (timedBothWays m j) (m .timed) t in
+      let b = two-ways j (f .0) h (f .1) (f .2) in
+      record {
+        against =
+            by-order j (f .0)
+            (λ l. (f .0, l, b))
+            (λ l. contrary (timed-found (f .0) j (turned j (f .0) b)) (below (f .0) l))
+            (λ q. absurd (b .otherValue (ap (m .timedValue) q)));
+        noLower = λ lower k l c. contrary (timed-found lower k c) (below lower l);
+      }
+
+  timed-out : (number (timedCheck m) ≡ 0 → ⊥) → FirstOfTwo m (place (timedCheck m))
+  unfolding timedCheck
+  timed-out n =
+      ⊎-elim
+      (λ (a : (timedCheck m ≡ Accepted) × ((k : ℕ) → k < m .timed → timedConflicts m k ≡ false)). absurd (n (ap number (a .0))))
+      (λ (a : (k : ℕ) × (k < m .timed) × (timedConflicts m k ≡ true) × ((j : ℕ) → j < k → timedConflicts m j ≡ false)
+      × (timedCheck m ≡ TimedFactsConflict k)).
+      subst (FirstOfTwo m) (sym (ap place (a .4))) (first-of-two (a .0) (a .1) (a .2) (a .3)))
+      (lowest-outcome (m .timed) (timedConflicts m) TimedFactsConflict)
+
+-- refusal 4
+count-out : (c : Counts) → countTooHigh c ≡ true → (t : ℕ) × (t < 8) × (getD highest t 0 < getD (countList c) t 0)
+unfolding countTooHigh
+count-out c h = let f = any-elim (λ t. ltb (getD highest t 0) (getD (countList c) t 0)) 8 h in (f .0, f .1, ltb-true _ _ (f .2))
+
+-- refusal 3: an edition without timed facts counts some
+none-counted : (a b : Bool) → (a && not b) ≡ false → a ≡ true → b ≡ true
+none-counted a b e t = not-false b (sym (ap (λ x. x && not b) t) ∙ e)
+
+form-own : (s : List ℕ) (k : ℕ) → Own (numberIn k) (formStep s k)
+form-own s zero = refuse-either (Own 1) _ _ (λ _. refl) (λ z. absurd (z refl))
+form-own s (suc zero) = refuse-either (Own 2) _ _ (λ _. refl) (λ z. absurd (z refl))
+form-own s (suc (suc zero)) = refuse-either (Own 1) _ _ (λ _. refl) (λ z. absurd (z refl))
+form-own s (suc (suc (suc zero))) = refuse-either (Own 3) _ _ (λ _. refl) (λ z. absurd (z refl))
+form-own s (suc (suc (suc (suc zero)))) = refuse-either (Own 4) _ _ (λ _. refl) (λ z. absurd (z refl))
+form-own s (suc (suc (suc (suc (suc zero))))) = refuse-either (Own 5) _ _ (λ _. refl) (λ z. absurd (z refl))
+form-own s (suc (suc (suc (suc (suc (suc zero)))))) = record-own (modelOf s)
+form-own s (suc (suc (suc (suc (suc (suc (suc zero))))))) = step-own (modelOf s)
+form-own s (suc (suc (suc (suc (suc (suc (suc (suc k)))))))) = timed-own (modelOf s)
+
+-- of the nine checks, those that give number n are among p, and those that give a number above n come after k
+abbrev among : (ℕ → Bool) → ℕ → Bool
+among p n = all 9 (λ j. not (eqb (numberIn j) n) || p j)
+
+abbrev after : ℕ → ℕ → Bool
+after k n = all 9 (λ j. not (ltb n (numberIn j)) || ltb k j)
+
+-- where a test is implied by another that passes, it passes
+implied : (a b : Bool) → (not a || b) ≡ true → a ≡ true → b ≡ true
+implied a b e t = sym (ap (λ x. not x || b) t) ∙ e
 
 module _ (s : List ℕ) {r : Verdict} (e : r ≡ formCheck s) where
   -- none refuses, or the first that does gives its verdict and its number
-  outcome : (number r ≡ 0) ⊎ ((j : ℕ) × FirstRefuses (formStep s) 7 j × (r ≡ formStep s j) × (number r ≡ suc j))
+  abbrev Given : ℕ → Type 0
+  Given j = FirstRefuses (formStep s) 9 j × (r ≡ formStep s j) × (number r ≡ numberIn j)
+
+  outcome : (number r ≡ 0) ⊎ ((j : ℕ) × Given j)
   outcome =
       ⊎-elim
-      (λ (a : (number (inTurn (formStep s) 7) ≡ 0) × ((k : ℕ) → k < 7 → number (formStep s k) ≡ 0)). inl
+      (λ (a : (number (inTurn (formStep s) 9) ≡ 0) × ((k : ℕ) → k < 9 → number (formStep s k) ≡ 0)). inl
       (ap number (e ∙ form-in-turn s) ∙ a .0))
-      (λ (a : (j : ℕ) × FirstRefuses (formStep s) 7 j).
+      (λ (a : (j : ℕ) × FirstRefuses (formStep s) 9 j).
       let q = e ∙ form-in-turn s ∙ a .1 .verdict in
-      inr (a .0, a .1, q, ap number q ∙ form-own s (a .0) (a .1 .below) (a .1 .refuses)))
-      (in-turn (formStep s) 7)
+      inr (a .0, (a .1, q, ap number q ∙ form-own s (a .0) (a .1 .refuses))))
+      (in-turn (formStep s) 9)
 
-  -- the check whose number is the verdict's gave it
-  comes-from : (k : ℕ) → number r ≡ suc k → (r ≡ formStep s k) × (number (formStep s k) ≡ 0 → ⊥)
-  comes-from k q =
+  -- a check whose number is the verdict's gave it
+  comes-among :
+      (p : ℕ → Bool) (n : ℕ) → among p (suc n) ≡ true → number r ≡ suc n
+      → (j : ℕ) × (p j ≡ true) × (r ≡ formStep s j) × (number (formStep s j) ≡ 0 → ⊥)
+  comes-among p n t q =
       ⊎-elim
       (λ (z : number r ≡ 0). absurd (omega arith))
-      (λ (a : (j : ℕ) × FirstRefuses (formStep s) 7 j × (r ≡ formStep s j) × (number r ≡ suc j)).
-      let p : a .0 ≡ k = omega (arith, a .3) in
-      (a .2 ∙ ap (formStep s) p, λ z. a .1 .refuses (ap (λ (i : ℕ). number (formStep s i)) p ∙ z)))
+      (λ (a : (j : ℕ) × Given j). (
+        a .0,
+        implied _ _ (all-elim (λ j. not (eqb (numberIn j) (suc n)) || p j) 9 t (a .0) (a .1 .0 .below)) (eq-eqb _ _ (sym (a .1 .2) ∙ q)),
+        a .1 .1,
+        a .1 .0 .refuses,
+      ))
       outcome
 
-  -- and those of lower numbers accept
-  lower-pass : (k : ℕ) → suc k < number r → number (formStep s k) ≡ 0
-  lower-pass k h =
+  comes-from : (k n : ℕ) → among (λ j. eqb j k) (suc n) ≡ true → number r ≡ suc n → (r ≡ formStep s k) × (number (formStep s k) ≡ 0 → ⊥)
+  comes-from k n t q =
+      let a = comes-among (λ j. eqb j k) n t q in
+      subst (λ (i : ℕ). (r ≡ formStep s i) × (number (formStep s i) ≡ 0 → ⊥)) (eqb-true (a .0) k (a .1)) (a .2, a .3)
+
+  -- and those before it accept
+  lower-pass : (k n : ℕ) → after k n ≡ true → n < number r → number (formStep s k) ≡ 0
+  lower-pass k n t h =
       ⊎-elim
       (λ (z : number r ≡ 0). absurd (omega arith))
-      (λ (a : (j : ℕ) × FirstRefuses (formStep s) 7 j × (r ≡ formStep s j) × (number r ≡ suc j)). a .1 .earlier k (omega (arith, a .3)))
+      (λ (a : (j : ℕ) × Given j).
+      a .1 .0 .earlier k
+      (ltb-true _ _
+      (implied _ _ (all-elim (λ j. not (ltb n (numberIn j)) || ltb k j) 9 t (a .0) (a .1 .0 .below)) (lt-ltb n (numberIn (a .0)) (omega (arith, a .1 .2))))))
       outcome
 
-  at-most : number r ≤ 7
+  at-most : FormNumber (number r)
+  unfolding all
   at-most =
       ⊎-elim
-      (λ (z : number r ≡ 0). omega arith)
-      (λ (a : (j : ℕ) × FirstRefuses (formStep s) 7 j × (r ≡ formStep s j) × (number r ≡ suc j)). omega (arith, a .1 .below, a .3))
+      (λ (z : number r ≡ 0). inl (omega arith))
+      (λ (a : (j : ℕ) × Given j).
+      subst FormNumber (sym (a .1 .2))
+      (⊎-elim
+      (λ (t : leb (numberIn (a .0)) 7 ≡ true). inl (leb-true _ _ t))
+      (λ (t : eqb (numberIn (a .0)) 17 ≡ true). inr (eqb-true _ _ t))
+      (or-out _ _ (all-elim (λ j. leb (numberIn j) 7 || eqb (numberIn j) 17) 9 refl (a .0) (a .1 .0 .below)))))
       outcome
 
+  too-short : number r ≡ 1 → (length s < shortestHeader) ⊎ (length s < headerWidth (u16At s 0))
+  unfolding jobOf all
+  too-short q =
+      let a = comes-among (λ j. eqb j 0 || eqb j 2) 0 refl q in
+      let says : (k : ℕ) → eqb (a .0) k ≡ true → number (formStep s k) ≡ 0 → ⊥ =
+      λ k i. subst (λ (j : ℕ). number (formStep s j) ≡ 0 → ⊥) (eqb-true (a .0) k i) (a .3) in
+      ⊎-elim
+      (λ (i : eqb (a .0) 0 ≡ true). inl (ltb-true _ _ (refuse-says _ _ (says 0 i))))
+      (λ (i : eqb (a .0) 2 ≡ true). inr (ltb-true _ _ (refuse-says _ _ (says 2 i))))
+      (or-out _ _ (a .1))
+
   pub form-refusal : FormRefusal s r
+  unfolding jobOf countsOf editionKnown marksWrong all
   form-refusal =
       let m = modelOf s in
       record {
-        short = λ q. ltb-true _ _ (refuse-says _ _ (comes-from 0 q .1));
-        long = λ h. ltb-false _ _ (refuse-zero _ _ (λ z. let y : _≡_ {A = ℕ} 1 0 = z in omega arith) (lower-pass 0 h));
-        otherEdition = λ q. eqb-false _ _ (not-true _ (refuse-says _ _ (comes-from 1 q .1)));
-        thisEdition = λ h. eqb-true _ _ (not-false _ (refuse-zero _ _ (λ z. let y : _≡_ {A = ℕ} 2 0 = z in omega arith) (lower-pass 1 h)));
+        short = too-short;
+        long = λ h. ltb-false _ _ (refuse-zero _ _ (λ z. let y : _≡_ {A = ℕ} 1 0 = z in omega arith) (lower-pass 0 1 refl h));
+        longEnough = λ h. ltb-false _ _ (refuse-zero _ _ (λ z. let y : _≡_ {A = ℕ} 1 0 = z in omega arith) (lower-pass 2 2 refl h));
+        otherEdition = λ q a b.
+            contrary (ap₂ _&&_ (le-leb _ _ a) (le-leb _ _ b)) (not-true _ (refuse-says _ _ (comes-from 1 1 refl q .1)));
+        knownEdition = λ h.
+            let b = and-both _ _ (not-false _ (refuse-zero _ _ (λ z. let y : _≡_ {A = ℕ} 2 0 = z in omega arith) (lower-pass 1 2 refl h))) in
+            (leb-true _ _ (b .0), leb-true _ _ (b .1));
         markOut = λ q.
             ⊎-elim
             (λ (a : ltb 1 (u16At s 2) ≡ true). inl (ltb-true _ _ a))
-            (λ (a : not (eqb (u16At s 18) 0) ≡ true). inr (eqb-false _ _ (not-true _ a)))
-            (or-out _ _ (refuse-says _ _ (comes-from 2 q .1)));
+            (λ (a : (not (eqb (u16At s 0) timedEdition) && not (eqb (u16At s 18) 0)) ≡ true).
+            let b = and-both _ _ a in
+            inr (eqb-false _ _ (not-true _ (b .0)), eqb-false _ _ (not-true _ (b .1))))
+            (or-out _ _ (refuse-says _ _ (comes-from 3 2 refl q .1)));
         marksIn = λ h.
-            let b = or-both _ _ (refuse-zero _ _ (λ z. let y : _≡_ {A = ℕ} 3 0 = z in omega arith) (lower-pass 2 h)) in
-            (ltb-false _ _ (b .0), eqb-true _ _ (not-false _ (b .1)));
-        countOut = λ q. count-out (countsOf s) (refuse-says _ _ (comes-from 3 q .1));
-        countsIn = λ h. counts (countsOf s) (refuse-zero _ _ (λ z. let y : _≡_ {A = ℕ} 4 0 = z in omega arith) (lower-pass 3 h));
-        layoutOut = λ q. not-true _ (refuse-says _ _ (comes-from 4 q .1));
-        layoutIn = λ h. not-false _ (refuse-zero _ _ (λ z. let y : _≡_ {A = ℕ} 5 0 = z in omega arith) (lower-pass 4 h));
+            let b = or-both _ _ (refuse-zero _ _ (λ z. let y : _≡_ {A = ℕ} 3 0 = z in omega arith) (lower-pass 3 3 refl h)) in
+            (ltb-false _ _ (b .0), λ n. eqb-true _ _ (none-counted _ _ (b .1) (ap not (ne-eqb _ _ n))));
+        countOut = λ q. count-out (countsOf s) (refuse-says _ _ (comes-from 4 3 refl q .1));
+        countsIn = λ h. counts (countsOf s) (refuse-zero _ _ (λ z. let y : _≡_ {A = ℕ} 4 0 = z in omega arith) (lower-pass 4 4 refl h));
+        layoutOut = λ q. not-true _ (refuse-says _ _ (comes-from 5 4 refl q .1));
+        layoutIn = λ h. not-false _ (refuse-zero _ _ (λ z. let y : _≡_ {A = ℕ} 5 0 = z in omega arith) (lower-pass 5 5 refl h));
         recordOut = λ q.
-            let g = comes-from 5 q in
+            let g = comes-from 6 5 refl q in
             let o = record-out m (g .1) in
             (o .0, subst (FirstOutOfRange m (o .0)) (sym (ap place (g .0))) (o .1));
-        recordsIn = λ h. tables m (lower-pass 5 h);
-        stepOut = λ q. let g = comes-from 6 q in subst (FirstAgainst m) (sym (ap place (g .0))) (step-out m (g .1));
+        recordsIn = λ h. tables m (lower-pass 6 6 refl h);
+        stepOut = λ q. let g = comes-from 7 6 refl q in subst (FirstAgainst m) (sym (ap place (g .0))) (step-out m (g .1));
+        stepsIn = λ h. steps-in m (lower-pass 7 7 refl h);
+        timedOut = λ q. let g = comes-from 8 16 refl q in subst (FirstOfTwo m) (sym (ap place (g .0))) (timed-out m (g .1));
         most = at-most;
         unplaced = λ h. unplaced r (inl h);
       }
 
-pub form-most : (s : List ℕ) → number (formCheck s) ≤ 7
+pub form-most : (s : List ℕ) → FormNumber (number (formCheck s))
 form-most s = at-most s refl

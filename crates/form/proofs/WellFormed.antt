@@ -1,6 +1,6 @@
--- A file that refusals 1 to 7 pass holds a well-formed job.
+-- A file that refusals 1 to 7 and 17 pass holds a well-formed job.
 use Prim.Native.Nat.{ℕ, _≤_, _<_}
-use mathlib.Core.Path.{_≡_, sym, ap, ap₂, _∙_}
+use mathlib.Core.Path.{_≡_, refl, sym, ap, ap₂, _∙_}
 use mathlib.Core.Bool.{Bool, true, false, not, _&&_}
 use mathlib.Core.List.{List}
 use mathlib.Core.Logic.{⊎-elim}
@@ -8,17 +8,19 @@ use native.Mathlib.Omega.{arith}
 use borrow.Author.Tests.{ltb-false, eqb-true, not-false, eq-eqb, le-leb, lt-ltb}
 use lib.Dec.{eqb, lit<}
 use Rattle.laws.proofs.Search.{either, contrary, by-order, any-false, owner-none}
+use Rattle.verdict.specs.declared.Verdict.the-variants.{TimedFactsConflict}
 use Rattle.verdict.specs.Verdict.{number}
-use Rattle.verdict.proofs.Chain.{then-zero, refuse-zero}
+use Rattle.verdict.proofs.Chain.{then-zero, refuse-zero, lowest-zero}
 use Rattle.job.specs.declared.layout.Table.{Table}
 use Rattle.job.specs.declared.layout.Table.the-variants.{Levels, Steps, Effects, Uses, Goals}
-use Rattle.job.specs.Layout.{mostGoals, countsOf, jobOf}
+use Rattle.job.specs.Layout.{mostGoals, jobOf}
 use Rattle.job.specs.Model.{Model, modelOf}
 use Rattle.job.specs.WellFormed.{WellFormed, Ranged}
 use Rattle.record_check.specs.Ranges.{recordOk, countIn}
 use Rattle.record_check.proofs.Ranged.{tables, counts, header, ranged, level-in, step-in, effect-in, use-in, goal-in}
 use Rattle.self_check.specs.Against.{bothWays, usesTwice, opposesOwn, setBefore, usedBefore, opposesAny, bothWaysStep, usesTwiceStep, opposesOwnStep}
 use Rattle.self_check.specs.Against.{againstStep, stepCheck}
+use Rattle.self_check.specs.Clock.{timedBothWays, timedConflicts, timedCheck}
 use Rattle.form.specs.Refusals.{formCheck}
 
 -- where three tests of four pass and not all four do, the fourth fails
@@ -26,9 +28,19 @@ fourth : (a b c d : Bool) → (a && b && c && not d) ≡ false → a ≡ true �
 fourth a b c d e x y z = not-false d (sym (ap (λ t. t && b && c && not d) x ∙ ap (λ t. t && c && not d) y ∙ ap (λ t. t && not d) z) ∙ e)
 
 -- refusal 7 passes: in each of the three parts no step is found
-steps-zero : (m : Model) → number (stepCheck m) ≡ 0 → m .steps ≤ againstStep m
+pub steps-zero : (m : Model) → number (stepCheck m) ≡ 0 → m .steps ≤ againstStep m
 unfolding stepCheck
 steps-zero m e = ltb-false _ _ (refuse-zero _ _ (λ z. let y : _≡_ {A = ℕ} 7 0 = z in omega arith) e)
+
+-- refusal 17 passes: no two timed facts set a fact both ways at one tick
+timed-one-way :
+    (m : Model) → number (timedCheck m) ≡ 0 → (j k : ℕ) → j < m .timed → k < m .timed → m .timedFact j ≡ m .timedFact k
+    → m .timedTick j ≡ m .timedTick k
+    → m .timedValue j ≡ m .timedValue k
+unfolding timedCheck timedConflicts timedBothWays
+timed-one-way m e j k h g f t =
+    let no = lowest-zero (m .timed) (timedConflicts m) TimedFactsConflict (λ i z. let y : _≡_ {A = ℕ} 17 0 = z in omega arith) e j h in
+    eqb-true _ _ (fourth true _ _ _ (any-false (timedBothWays m j) (m .timed) no k g) refl (eq-eqb _ _ f) (eq-eqb _ _ t))
 
 module _ (m : Model) (ok : (t : Table) (k : ℕ) → k < countIn m t → recordOk m t k ≡ true) (no : m .steps ≤ againstStep m) where
   no-both-ways : m .steps ≤ bothWaysStep m
@@ -97,8 +109,8 @@ module _ (m : Model) (ok : (t : Table) (k : ℕ) → k < countIn m t → recordO
       contrary (ap₂ _&&_ (ap₂ _&&_ (ap₂ _&&_ (ap₂ _&&_ (eq-eqb _ _ s) (eq-eqb _ _ t)) (ap not x)) (le-leb _ _ a)) (lt-ltb _ _ b)) f)
       (either (eqb (m .effectValue e) (m .conditionValue c)))
 
-  all-parts : m .serial ≤ 1 → m .goals ≤ mostGoals → Ranged m → WellFormed m
-  all-parts mark goals r =
+  all-parts : m .serial ≤ 1 → m .goals ≤ mostGoals → Ranged m → number (timedCheck m) ≡ 0 → WellFormed m
+  all-parts mark goals r clock =
       record {
         serialMark = mark;
         factCount = r .factCount;
@@ -108,6 +120,7 @@ module _ (m : Model) (ok : (t : Table) (k : ℕ) → k < countIn m t → recordO
         effectCount = r .effectCount;
         useCount = r .useCount;
         goalCount = goals;
+        timedCount = r .timedCount;
         initialValue = r .initialValue;
         levelFrom = λ k l. level-in m k (ok Levels k l) .0;
         levelLow = λ k l. level-in m k (ok Levels k l) .1;
@@ -134,15 +147,21 @@ module _ (m : Model) (ok : (t : Table) (k : ℕ) → k < countIn m t → recordO
         goalFact = λ k l. goal-in m k (ok Goals k l) .0;
         goalValue = λ k l. goal-in m k (ok Goals k l) .1;
         goalDeadline = λ k l. goal-in m k (ok Goals k l) .2;
+        timedFact = r .timedFact;
+        timedTick = r .timedTick;
+        timedValue = r .timedValue;
         oneWay = one-way;
         oneUse = one-use;
         keepsOwn = keeps-own;
+        timedOneWay = timed-one-way m clock;
       }
 
 pub well-formed : (s : List ℕ) → number (formCheck s) ≡ 0 → WellFormed (modelOf s)
-unfolding formCheck jobOf
+unfolding formCheck
 well-formed s e =
-    let c = then-zero _ _ e in
+    let d = then-zero _ _ e in
+    let c = then-zero _ _ (d .0) in
     let b = then-zero _ _ (c .0) in
     let h = header s (b .0) in
-    all-parts (modelOf s) (tables (modelOf s) (b .1)) (steps-zero (modelOf s) (c .1)) (h .0) (counts (countsOf s) (h .1) 6 (lit< tt)) (ranged s (c .0))
+    let m = modelOf s in
+    all-parts m (tables m (b .1)) (steps-zero m (c .1)) (h .0) (counts (jobOf s .count) (h .1) 6 (lit< tt)) (ranged s (c .0)) (d .1)

@@ -1,4 +1,4 @@
-// Whether a job file is well formed: refusals 1 to 7.
+// Whether a job file is well formed: refusals 1 to 7, then 17.
 ghost use mathlib.Core.Path.{_≡_};
 ghost use Rattle.job.specs.Model.{modelOf};
 ghost use Rattle.form.specs.Refusals.{formCheck, FormPromise};
@@ -7,6 +7,8 @@ ghost use Rattle.verdict.specs.Verdict.{number as numberOf};
 ghost use Rattle.job.specs.WellFormed.{WellFormed};
 use record_check::Form;
 use record_check::read_records;
+use self_check::check_steps;
+use self_check::clock::check_clock;
 use verdict::Verdict;
 use verdict::number;
 
@@ -20,12 +22,16 @@ pub fn read_form(s: &[u8]) -> Form
         return form;
     }
     let job = form.job;
-    let verdict = self_check::check_steps(s, job);
+    let verdict = check_steps(s, job);
+    if number(verdict) != 0 {
+        return Form { verdict, job };
+    }
+    let verdict = check_clock(s, job);
     Form { verdict, job }
 }
 
-// Whether a file is well formed: accepted, or the first of refusals 1 to 7 that fits. Of an accepted file every record is in
-// range, names what exists, and no step is against itself; a refusal's number and place name what fails first.
+// Whether a file is well formed: accepted, or the first of refusals 1 to 7 and 17 that fits. Of an accepted file every record is in
+// range, names what exists, and neither a step nor the clock is against itself; a refusal's number and place name what fails first.
 pub fn check_form(s: &[u8]) -> Verdict
     ensures { λ r. ⌜ r ≡ formCheck (now (s .entry)) ⌝ }
     ensures { λ r. ⌜ (numberOf r ≡ 0 → WellFormed (modelOf (now (s .entry)))) ⌝ }

@@ -1,8 +1,9 @@
--- The records, then the steps, chained as in `formCheck`; what passes is well formed.
+-- The records, then the steps, then the clock, chained as in `formCheck`; what passes is well formed.
 use Prim.Native.Nat.{ℕ}
 use mathlib.Core.Path.{_≡_, sym, ap, _∙_}
 use mathlib.Core.List.{List}
 use Rattle.verdict.specs.Verdict.{number}
+use Rattle.verdict.proofs.Chain.{stands, decides}
 use Rattle.job.specs.Layout.{jobOf}
 use Rattle.record_check.specs.declared.Form.{Form}
 use Rattle.record_check.proofs.Ranged.{read-ranged}
@@ -31,7 +32,25 @@ read-form-spec =
     let p = b .before .read-records .ensures in
     let z = sym (b .number .ensures) ∙ c .before .if1 .left in
     (read-laid p z, read-ranged p z))
+    (λ c κs. search needs)
     (λ c.
-    let b = c .before .before .before in
+    let d = c .before .before in
+    let b = d .before .before .before in
     let p = b .before .read-records .ensures in
-    promise _ (c .check-steps .ensures ∙ read-passed p (sym (b .number .ensures) ∙ c .before .before .if1 .left)) (p .job)))
+    promise _
+    (stands _ (d .check-steps .ensures) (c .before .number2 .ensures) (c .if2 .taken)
+    ∙ read-passed p (sym (b .number .ensures) ∙ d .before .before .if1 .left))
+    (p .job))
+    (λ c κs.
+    let b = c .before .before .before .before .before in
+    let p = b .before .read-records .ensures in
+    let z = sym (b .number .ensures) ∙ c .before .before .before .before .if1 .left in
+    (read-laid p z, read-ranged p z))
+    (λ c.
+    let d = c .before .before .before in
+    let b = d .before .before .before in
+    let p = b .before .read-records .ensures in
+    promise _
+    (decides (d .check-steps .ensures) (c .before .before .number2 .ensures) (c .before .if2 .left) (c .check-clock .ensures)
+    ∙ read-passed p (sym (b .number .ensures) ∙ d .before .before .if1 .left))
+    (p .job)))
