@@ -12,7 +12,7 @@ use Rattle.little_endian.specs.Bytes.{u32At, biasedAt}
 use Rattle.order_file.specs.Layout.{gapRead}
 use Rattle.order_file.specs.Contents.{gapBias, signedGap}
 
--- of every gap that an order may have, and of all others above -100000
+-- of every gap that an order may have, and of all others above -`gapBias`
 pub signed-gap-is-i32 :
     (b : List ℕ) (at : ℕ) → u32At b at < 4294967296 → 1 ≤ gapRead (biasedAt b at)
     → signedGap (gapRead (biasedAt b at)) ≡ toZ w32 (u32At b at)

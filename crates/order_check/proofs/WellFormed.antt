@@ -11,7 +11,7 @@ use lib.Dec.{ltb, leb, eqb}
 use Rattle.laws.specs.Search.{all}
 use Rattle.little_endian.specs.Bytes.{u16At, u32At}
 use Rattle.laws.proofs.Search.{all-intro, all-elim, and-l, and-r, or-out}
-use Rattle.order_file.specs.Contents.{Contents, stepLimit, orderLimit, linkLimit, leastGap, mostGap, lastEffect, initialState}
+use Rattle.order_file.specs.Contents.{Contents, stepLimit, orderLimit, linkLimit, leastGap, mostGap, lastLink, initialState}
 use Rattle.order_file.specs.Layout.{fileEdition, windowsAt, windowAt, ordersAt, linksAt, fileLength, contentsOf}
 use Rattle.order_file.specs.Encode.{encode}
 use Rattle.order_check.specs.WellFormed.{layoutHolds, lengthHolds, countsHold, orderHolds, ascends}
@@ -51,7 +51,7 @@ module _ (c : Contents) (w : Within c) where
   unfolding linkHolds
   link-passes k h =
       ⊎-elim
-      (λ (l : c .link k ≤ lastEffect). simp (le-leb (c .link k) lastEffect l))
+      (λ (l : c .link k ≤ lastLink). simp (le-leb (c .link k) lastLink l))
       (λ (q : c .link k ≡ initialState). simp (eq-eqb (c .link k) initialState q, or-true))
       (w .linked k h)
 
@@ -104,7 +104,7 @@ agree-within d c a w =
       linked = λ k h.
           let l : k < c .links = omega (arith, a .links) in
           ⊎-elim
-          (λ (q : c .link k ≤ lastEffect). inl (omega (arith, a .link k l)))
+          (λ (q : c .link k ≤ lastLink). inl (omega (arith, a .link k l)))
           (λ (q : c .link k ≡ initialState). inr (a .link k l ∙ q))
           (w .linked k l);
       fromLimit = λ k h. let l : k < c .steps = omega (arith, a .steps) in omega (arith, a .limit k l, a .earliest k l, w .fromLimit k l);
@@ -175,13 +175,13 @@ module _ (c : Contents) where
       inr (eqb-true f g (and-l (eqb f g) s q), ltb-true (c .second k) (c .second (k + 1)) (and-r (eqb f g) s q)))
       (or-out (ltb f g) (eqb f g && s) e)
 
-  link-says : (k : ℕ) → linkHolds c k ≡ true → (c .link k ≤ lastEffect) ⊎ (c .link k ≡ initialState)
+  link-says : (k : ℕ) → linkHolds c k ≡ true → (c .link k ≤ lastLink) ⊎ (c .link k ≡ initialState)
   unfolding linkHolds
   link-says k e =
       ⊎-elim
-      (λ (l : leb (c .link k) lastEffect ≡ true). inl (leb-true (c .link k) lastEffect l))
+      (λ (l : leb (c .link k) lastLink ≡ true). inl (leb-true (c .link k) lastLink l))
       (λ (q : eqb (c .link k) initialState ≡ true). inr (eqb-true (c .link k) initialState q))
-      (or-out (leb (c .link k) lastEffect) (eqb (c .link k) initialState) e)
+      (or-out (leb (c .link k) lastLink) (eqb (c .link k) initialState) e)
 
   rounds-say : roundsHold c ≡ true → c .rounds ≤ c .steps
   unfolding roundsHold

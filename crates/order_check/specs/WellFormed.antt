@@ -6,7 +6,7 @@ use lib.ListN.{length}
 use lib.Dec.{ltb, leb, eqb}
 use Rattle.laws.specs.Search.{all}
 use Rattle.little_endian.specs.Bytes.{u16At, u32At}
-use Rattle.order_file.specs.Contents.{Contents, stepLimit, orderLimit, linkLimit, leastGap, mostGap, lastEffect, initialState}
+use Rattle.order_file.specs.Contents.{Contents, stepLimit, orderLimit, linkLimit, leastGap, mostGap, lastLink, initialState}
 use Rattle.order_file.specs.Layout.{fileEdition, windowsAt, ordersAt, linksAt, fileLength, contentsOf}
 
 -- its layout: the edition, and the offsets of tables without gaps
@@ -40,9 +40,9 @@ unfoldable pub ascends : Contents → ℕ → Bool
 ascends c k =
     ltb (c .first k) (c .first (k + 1)) || (eqb (c .first k) (c .first (k + 1)) && ltb (c .second k) (c .second (k + 1)))
 
--- a link: an effect, or the initial state
+-- a link: an effect, a timed fact, or the initial state
 unfoldable pub linkHolds : Contents → ℕ → Bool
-linkHolds c k = leb (c .link k) lastEffect || eqb (c .link k) initialState
+linkHolds c k = leb (c .link k) lastLink || eqb (c .link k) initialState
 
 -- rounds: at most the steps
 unfoldable pub roundsHold : Contents → Bool

@@ -94,13 +94,13 @@ fn orders_ascend(file: &[u8]) -> bool
     true
 }
 
-// One link: an effect's number, or the initial state.
+// One link: the number of an effect or of a timed fact, or the initial state.
 fn link_holds(file: &[u8], k: usize) -> bool
     requires { ⌜ k < 65536 ⌝ }
     ensures { λ r. ⌜ r ≡ linkHolds (contentsOf (now (file .entry))) k ⌝ }
 {
     let link = layout::link(file, k);
-    (link <= layout::LAST_EFFECT) | (link == layout::INITIAL_STATE as usize)
+    (link <= layout::LAST_LINK) | (link == layout::INITIAL_STATE as usize)
 }
 
 fn links_hold(file: &[u8]) -> bool

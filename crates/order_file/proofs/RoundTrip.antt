@@ -8,7 +8,7 @@ use native.Mathlib.Omega.{arith}
 use lib.ListN.{length, getD}
 use Rattle.laws.specs.Listed.{concatenate}
 use Rattle.little_endian.specs.Bytes.{u16Values, u32Values, u16At, u32At, biasedAt, u16Bytes, u32Bytes}
-use Rattle.order_file.specs.Contents.{Contents, initialState}
+use Rattle.order_file.specs.Contents.{Contents, lastLink, initialState}
 use Rattle.order_file.specs.Layout.{windowsAt, windowAt, ordersAt, orderAt, linksAt, linkAt, gapRead, contentsOf}
 use Rattle.order_file.specs.Encode.{headerBytes, windowBytes, orderBytes, linkBytes, gapBits, upToWindow, upToOrder, upToLink, encode}
 use Rattle.order_file.specs.Within.{Within}
@@ -196,7 +196,7 @@ module _ (c : Contents) where
         ap (u16At (encode c)) (sym (add-zero (linkAt (c .steps) (c .orders) k)))
         ∙ link-u16 k h
         ∙ link-bytes k
-        (⊎-elim (λ (l : c .link k ≤ 511). omega arith) (λ (q : c .link k ≡ initialState). omega arith) (w .linked k h))
+        (⊎-elim (λ (l : c .link k ≤ lastLink). omega arith) (λ (q : c .link k ≡ initialState). omega arith) (w .linked k h))
 
     -- what is encoded reads back
     pub round-trip : Agree (contentsOf (encode c)) c

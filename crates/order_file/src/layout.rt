@@ -32,14 +32,14 @@ pub const MOST_LINKS: usize = 544;
 pub const NO_LATEST: u32 = 4294967295;
 
 // What a gap here has more than the paper's gap, so that it has no sign, and the range of an order's gap with that.
-pub const GAP_BIAS: usize = 100000;
+pub const GAP_BIAS: usize = 1100000;
 
 pub const LEAST_GAP: usize = GAP_BIAS - 99999;
 
 pub const MOST_GAP: usize = GAP_BIAS + 100001;
 
-// The highest number of an effect, and the link to the initial state.
-pub const LAST_EFFECT: usize = 511;
+// The highest link to an effect or a timed fact, and the link to the initial state.
+pub const LAST_LINK: usize = 575;
 
 pub const INITIAL_STATE: u16 = 65535;
 
@@ -114,7 +114,7 @@ pub fn earliest(file: &[u8], k: usize) -> usize
     little_endian::u32_at(file, window_at(k) + 8)
 }
 
-// The gap plus 100000, of the i32 read without a sign.
+// The gap plus `GAP_BIAS`, of the i32 read without a sign.
 fn gap_read(biased: usize) -> usize
     requires { ⌜ biased < u32Values ⌝ }
     ensures { λ r. ⌜ (r ≡ gapRead biased) × (r < gapSpan) ⌝ }
@@ -126,7 +126,7 @@ fn gap_read(biased: usize) -> usize
     }
 }
 
-// The fields of an order; its gap plus 100000.
+// The fields of an order; its gap plus `GAP_BIAS`.
 pub fn first(file: &[u8], k: usize) -> usize
     requires { ⌜ k < u16Values ⌝ }
     ensures { λ r. ⌜ (r ≡ contentsOf (now (file .entry)) .first k) × (r < u16Values) ⌝ }

@@ -47,7 +47,7 @@ fn record_count(file: &[u8], table: u32) -> usize
     }
 }
 
-// The paper's gap of a gap plus 100000.
+// The paper's gap of a gap plus `GAP_BIAS`.
 fn signed_gap(gap: usize) -> i32
     requires { ⌜ gap < gapSpan ⌝ }
     ensures { λ r. ⌜ r ≡ signedGap gap ⌝ }

@@ -68,7 +68,7 @@ abbrev pub signed : ℤ → List ℕ
 signed (pos n) = decimal n
 signed (negsuc n) = minusSign ++ decimal (suc n)
 
--- the gap of an order, of the gap plus 100000
+-- the gap of an order, of the gap plus `gapBias`
 unfoldable pub gapText : ℕ → List ℕ
 gapText gap = signed (signedGap gap)
 

@@ -22,7 +22,7 @@ fn put_latest(latest: usize, at: usize, out: &mut [u8]) -> usize
     }
 }
 
-// Puts the gap of an order, from the gap plus 100000.
+// Puts the gap of an order, from the gap plus `GAP_BIAS`.
 fn put_gap(gap: usize, at: usize, out: &mut [u8]) -> usize
     requires { ⌜ (at < 1000000000) × (gap < gapSpan) ⌝ }
     ensures { λ r. ⌜ Put (now (out .entry)) at (gapText gap) (now (out .exit)) r × (r ≤ at + 11) ⌝ }
