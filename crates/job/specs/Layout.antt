@@ -12,7 +12,7 @@ use Rattle.job.specs.declared.layout.Job.{Job}
 
 -- the editions that are read: from 1 to this
 abbrev pub latestEdition : ℕ
-latestEdition = 1
+latestEdition = 2
 
 -- the edition that has timed facts
 abbrev pub timedEdition : ℕ

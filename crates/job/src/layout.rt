@@ -50,7 +50,7 @@ pub struct Job {
 }
 
 // The editions that are read: from 1 to this.
-pub const LATEST_EDITION: u16 = 1;
+pub const LATEST_EDITION: u16 = 2;
 
 // The edition that has timed facts.
 pub const TIMED_EDITION: u16 = 2;

@@ -1,4 +1,4 @@
--- The starred table by computing. To find each order by its number takes a search among 4,096 pairs of steps, itself with counting at
+-- The starred table, and that of timed facts, by computing. To find each order by its number takes a search among 4,096 pairs of steps, itself with counting at
 -- each pair. So the orders are first proved to be the pairs that pass, listed in one pass that looks at the gaps of counted steps only.
 use Prim.Native.Nat.{ℕ, zero, suc, _+_, _/_, _%_, _<_}
 use mathlib.Core.Path.{_≡_, refl, sym, ap, ap₂, _∙_, fun-ext}
@@ -19,14 +19,16 @@ use Rattle.laws.specs.Search.{any, all, lowest, lowestOwner}
 use Rattle.laws.proofs.Search.{either, last-or-below}
 use Rattle.laws.proofs.Nth.{nth-facts, nth-is}
 use Rattle.verdict.specs.declared.Verdict.the-variants.{Accepted}
-use Rattle.job.specs.Layout.{countsOf, tableAt, positionsOf, jobOf, countTooHigh}
-use Rattle.record_check.specs.Header.{layoutAgrees, headerCheck}
+use Rattle.job.specs.Layout.{headerWidth, countsOf, tableAt, positionsOf, jobOf, countTooHigh}
+use Rattle.record_check.specs.Header.{editionKnown, marksWrong, layoutAgrees, headerCheck}
 use Rattle.job.specs.Model.{Model, modelOf}
+use Rattle.job.specs.Clocked.{clocked}
 use Rattle.verdict.specs.Verdict.{_then_, refuseIf, refuseLowest}
-use Rattle.record_check.specs.Ranges.{factOk, levelOk, stepOk, conditionOk, effectOk, useOk, goalOk}
+use Rattle.record_check.specs.Ranges.{factOk, levelOk, stepOk, conditionOk, effectOk, useOk, goalOk, timedOk}
 use Rattle.record_check.specs.Records.{tableCheck, recordCheck}
 use Rattle.self_check.specs.Against.{bothWays, usesTwice, opposesOwn, setBefore, usedBefore, opposesAny, bothWaysStep, usesTwiceStep, opposesOwnStep}
 use Rattle.self_check.specs.Against.{againstStep, stepCheck}
+use Rattle.self_check.specs.Clock.{timedBothWays, timedConflicts, timedCheck}
 use Rattle.form.specs.Refusals.{formCheck}
 use Rattle.validity.specs.Ticks.{planned}
 use Rattle.validity.specs.Seen.{givenAt, lastGiven, seen, afterAll}
@@ -36,12 +38,12 @@ use Rattle.validity.specs.Checks.{timingCheck, jobCheck}
 use Rattle.orders.specs.Links.{producer, earliestProduced, supporter, linkOf, conditionLink, goalLink, nthLink}
 use Rattle.orders.specs.Gaps.{supportOrder, supportGap, opposingOrder, opposingGap, beforeOrder, afterOrder, conditionGap, levelOrder, levelGap}
 use Rattle.orders.specs.Gaps.{serialGap, gapOf}
-use Rattle.orders.specs.Windows.{limitOf, allowed, latestOf}
+use Rattle.orders.specs.Windows.{clockGap, clockLimit, limitOf, clockLatest, allowed, latestOf}
 use Rattle.rounds.specs.Rounds.{demand, raised, after, unchanged, rounds, earliest}
-use Rattle.orders.specs.File.{ordered, fileOf}
-use Rattle.orders.specs.Starred.{fact, level, step, condition, effect, usage, goal, joined, offsets, tablesOf, jobBytes, Window, window, Order, order}
+use Rattle.orders.specs.File.{linkNumber, ordered, fileWith, fileOf}
+use Rattle.orders.specs.Starred.{fact, level, step, condition, effect, usage, goal, timedFact, joined, offsets, timedTable, tablesOf, editionOf, jobBytes, Window, window, Order, order}
 use Rattle.orders.specs.Starred.{contentsWith, Expected, refused, accepted, Answers, Case, AllAnswer}
-use Rattle.orders.specs.Starred.{small, nothing, levelled, serially, starred}
+use Rattle.orders.specs.Starred.{small, nothing, levelled, serially, starred, withTimed, tied, timedCases}
 use Rattle.order_file.specs.Contents.{Contents}
 use Rattle.order_file.specs.Agree.{Agree}
 use Rattle.order_file.specs.Table.{rowWidth, tableSize}
@@ -144,9 +146,11 @@ orderedPair-is : (m : Model) (x : ℕ → ℕ) (q : ℕ) → ordered m x q ≡ o
 unfolding ordered orderedPair
 orderedPair-is m x q = orderedIf-is (ltb (q / rowWidth) (m .steps) && ltb (q % rowWidth) (m .steps)) m x (q / rowWidth) (q % rowWidth)
 
-orders-listed : (m : Model) (x : ℕ → ℕ) → listed (fileOf m x .orders) (orderOf (fileOf m x)) ≡ ordersOf m x
-unfolding fileOf orderOf ordersOf orderAt
-orders-listed m x =
+orders-listed :
+    (number : ℕ → ℕ) (m : Model) (x : ℕ → ℕ)
+    → listed (fileWith number m x .orders) (orderOf (fileWith number m x)) ≡ ordersOf m x
+unfolding fileWith orderOf ordersOf orderAt
+orders-listed number m x =
     listed-nth (ordered m x) (orderAt m x) tableSize ∙ ap (λ p. passing tableSize p (orderAt m x)) (fun-ext (orderedPair-is m x))
 
 -- contents whose records are so listed
@@ -179,14 +183,14 @@ AnswersBy s (accepted rounds windows orders links) =
     let m = modelOf s in
     let c = fileOf m (planned m) in
     (jobCheck s ≡ Accepted) × (c .rounds ≡ rounds) × (listed (c .steps) (windowOf c) ≡ windows)
-    × (ordersOf m (planned m) ≡ orders) × (listed (c .links) (c .link) ≡ links)
+    × (ordersOf (clocked m) (planned m) ≡ orders) × (listed (c .links) (c .link) ≡ links)
 
 answers-by : (s : List ℕ) (e : Expected) → AnswersBy s e → Answers s e
-unfolding AnswersBy
+unfolding AnswersBy fileOf
 answers-by s (refused v) h = h
 answers-by s (accepted rounds windows orders links) h =
     let m = modelOf s in
-    (h .0, agree-listed (fileOf m (planned m)) (h .1) (h .2) (orders-listed m (planned m) ∙ h .3) (h .4))
+    (h .0, agree-listed (fileOf m (planned m)) (h .1) (h .2) (orders-listed (linkNumber m) (clocked m) (planned m) ∙ h .3) (h .4))
 
 AllAnswerBy : List Case → Type 0
 AllAnswerBy [] = Unit
@@ -203,15 +207,15 @@ abbrev pub _also_ : {A B : Type 0} → A → B → A × B
 a also b = (a, b)
 
 starred-computed : AllAnswerBy starred
-unfolding AllAnswerBy AnswersBy starred small nothing levelled serially jobBytes tablesOf joined offsets fact level step condition effect
-    usage goal u16Bytes u32Bytes listed windowOf ordersOf orderAt orderedPair orderedIf passing extend fileOf nthLink u16At
-    u32At biasedAt largest least sum tabulate any all lowest lowestOwner countsOf tableAt positionsOf jobOf countTooHigh
-    layoutAgrees _then_ refuseIf refuseLowest factOk levelOk stepOk conditionOk effectOk useOk goalOk bothWays usesTwice
+unfolding AllAnswerBy AnswersBy starred small nothing levelled serially jobBytes timedTable tablesOf editionOf joined offsets fact level step condition effect
+    usage goal timedFact u16Bytes u32Bytes listed windowOf ordersOf orderAt orderedPair orderedIf passing extend fileWith fileOf linkNumber nthLink u16At
+    u32At biasedAt largest least sum tabulate any all lowest lowestOwner headerWidth countsOf tableAt positionsOf jobOf countTooHigh
+    editionKnown marksWrong layoutAgrees _then_ refuseIf refuseLowest factOk levelOk stepOk conditionOk effectOk useOk goalOk timedOk bothWays usesTwice
     opposesOwn setBefore usedBefore opposesAny bothWaysStep usesTwiceStep opposesOwnStep headerCheck tableCheck recordCheck
-    againstStep stepCheck formCheck givenAt lastGiven seen afterAll risesBefore fallsBefore meets conflicts breaks conditionFails
+    againstStep stepCheck timedBothWays timedConflicts timedCheck formCheck givenAt lastGiven seen afterAll risesBefore fallsBefore meets conflicts breaks conditionFails
     passes levelFails undoes late goalFails overlaps crowded ruleCheck timingCheck jobCheck producer earliestProduced
     supporter linkOf conditionLink goalLink supportOrder supportGap opposingOrder opposingGap beforeOrder afterOrder
-    conditionGap levelOrder levelGap serialGap gapOf limitOf allowed latestOf demand raised after unchanged rounds earliest
+    conditionGap levelOrder levelGap serialGap gapOf clockGap clockLimit limitOf clockLatest allowed latestOf demand raised after unchanged rounds earliest
 starred-computed =
     (refl, refl, refl, refl, refl)
     also (refl, refl, refl, refl, refl)
@@ -230,3 +234,34 @@ starred-computed =
 -- the definitions answer the whole table as the paper does
 pub starred-answers : AllAnswer starred
 starred-answers = all-answer-by starred starred-computed
+
+timed-computed : AllAnswerBy timedCases
+unfolding AllAnswerBy AnswersBy timedCases withTimed tied jobBytes timedTable tablesOf editionOf joined offsets fact level step condition effect
+    usage goal timedFact u16Bytes u32Bytes listed windowOf ordersOf orderAt orderedPair orderedIf passing extend fileWith fileOf linkNumber nthLink u16At
+    u32At biasedAt largest least sum tabulate any all lowest lowestOwner headerWidth countsOf tableAt positionsOf jobOf countTooHigh
+    editionKnown marksWrong layoutAgrees _then_ refuseIf refuseLowest factOk levelOk stepOk conditionOk effectOk useOk goalOk timedOk bothWays usesTwice
+    opposesOwn setBefore usedBefore opposesAny bothWaysStep usesTwiceStep opposesOwnStep headerCheck tableCheck recordCheck
+    againstStep stepCheck timedBothWays timedConflicts timedCheck formCheck givenAt lastGiven seen afterAll risesBefore fallsBefore meets conflicts breaks conditionFails
+    passes levelFails undoes late goalFails overlaps crowded ruleCheck timingCheck jobCheck producer earliestProduced
+    supporter linkOf conditionLink goalLink supportOrder supportGap opposingOrder opposingGap beforeOrder afterOrder
+    conditionGap levelOrder levelGap serialGap gapOf clockGap clockLimit limitOf clockLatest allowed latestOf demand raised after unchanged rounds earliest
+timed-computed =
+    (refl, refl, refl, refl, refl)
+    also (refl, refl, refl, refl, refl)
+    also (refl, refl, refl, refl, refl)
+    also (refl, refl, refl, refl, refl)
+    also (refl, refl, refl, refl, refl)
+    also (refl, refl, refl, refl, refl)
+    also (refl, refl, refl, refl, refl)
+    also refl
+    also refl
+    also refl
+    also refl
+    also refl
+    also refl
+    also refl
+    also tt
+
+-- and that of timed facts
+pub timed-answers : AllAnswer timedCases
+timed-answers = all-answer-by timedCases timed-computed

@@ -1,11 +1,13 @@
--- Between crates: the starred cases of "A small job, and edges": one table of jobs, with the verdict of the job check or what is filed.
-use Prim.Native.Nat.{ℕ, _+_, _-_}
+-- Between crates: the starred cases of "A small job, and edges", and cases of timed facts: tables of jobs, each with the verdict of the
+-- job check or what is filed.
+use Prim.Native.Nat.{ℕ, _+_, _*_, _-_}
 use mathlib.Core.Path.{_≡_}
 use mathlib.Core.List.{List, [], _∷_, _++_, foldr}
 use lib.ListN.{length, getD}
 use Rattle.little_endian.specs.Bytes.{u16Bytes, u32Bytes}
 use Rattle.verdict.specs.declared.Verdict.{Verdict}
-use Rattle.verdict.specs.declared.Verdict.the-variants.{Accepted, ConditionFails, LevelOutOfBounds, GoalFails, StepsOverlap}
+use Rattle.verdict.specs.declared.Verdict.the-variants.{Accepted, RecordOutOfRange, StepAgainstItself, EffectsConflict, ConditionFails, LevelOutOfBounds}
+use Rattle.verdict.specs.declared.Verdict.the-variants.{GoalFails, StepsOverlap, TimedFactsConflict}
 use Rattle.job.specs.Model.{modelOf}
 use Rattle.validity.specs.Ticks.{planned}
 use Rattle.validity.specs.Checks.{jobCheck}
@@ -23,6 +25,7 @@ pub record Draft : Type 0 where
   pub effects : List (List ℕ)
   pub uses : List (List ℕ)
   pub goals : List (List ℕ)
+  pub timed : List (List ℕ)
 
 -- the records of "The job file", with an i32 as its bits
 unfoldable pub fact : ℕ → List ℕ
@@ -46,6 +49,9 @@ usage step level at amount = u16Bytes step ++ u16Bytes level ++ u32Bytes at ++ u
 unfoldable pub goal : ℕ → ℕ → ℕ → List ℕ
 goal fact value deadline = u16Bytes fact ++ u16Bytes value ++ u32Bytes deadline
 
+unfoldable pub timedFact : ℕ → ℕ → ℕ → List ℕ
+timedFact fact tick value = u16Bytes fact ++ u32Bytes tick ++ u16Bytes value
+
 -- the bits of the i32 that is so much below 0
 abbrev pub negative : ℕ → ℕ
 negative n = 4294967296 - n
@@ -59,21 +65,29 @@ unfoldable pub offsets : ℕ → List (List ℕ) → List ℕ
 offsets at [] = []
 offsets at (t ∷ ts) = u32Bytes at ++ offsets (at + length t) ts
 
--- the tables' bytes, in the tables' order
+-- the tables' bytes, in the tables' order; a draft without timed facts is of edition 1, which has no table of them
+unfoldable pub timedTable : List (List ℕ) → List (List ℕ)
+timedTable [] = []
+timedTable (t ∷ ts) = joined (t ∷ ts) ∷ []
+
 unfoldable pub tablesOf : Draft → List (List ℕ)
 tablesOf w =
     joined (w .facts) ∷ joined (w .levels) ∷ joined (w .steps) ∷ joined (w .conditions) ∷ joined (w .effects)
     ∷ joined (w .uses)
     ∷ joined (w .goals)
-    ∷ []
+    ∷ timedTable (w .timed)
 
--- the bytes of a job file: the header's ten numbers, which name goals before conditions, its seven offsets, then the tables
+unfoldable pub editionOf : List (List ℕ) → ℕ
+editionOf [] = 1
+editionOf (t ∷ ts) = 2
+
+-- the bytes of a job file: the header's ten numbers, which name goals before conditions, its offsets, then the tables
 unfoldable pub jobBytes : Draft → List ℕ
 jobBytes w =
-    u16Bytes 1 ++ u16Bytes (w .serial) ++ u16Bytes (length (w .facts)) ++ u16Bytes (length (w .levels))
+    u16Bytes (editionOf (w .timed)) ++ u16Bytes (w .serial) ++ u16Bytes (length (w .facts)) ++ u16Bytes (length (w .levels))
     ++ u16Bytes (length (w .steps)) ++ u16Bytes (length (w .goals)) ++ u16Bytes (length (w .conditions))
-    ++ u16Bytes (length (w .effects)) ++ u16Bytes (length (w .uses)) ++ u16Bytes 0
-    ++ offsets 48 (tablesOf w) ++ joined (tablesOf w)
+    ++ u16Bytes (length (w .effects)) ++ u16Bytes (length (w .uses)) ++ u16Bytes (length (w .timed))
+    ++ offsets (20 + 4 * length (tablesOf w)) (tablesOf w) ++ joined (tablesOf w)
 
 -- a window
 pub record Window : Type 0 where
@@ -151,12 +165,13 @@ small fixed start long from goals =
       effects = effect 0 1 5 1 ∷ effect 1 0 3 0 ∷ [];
       uses = [];
       goals = goals;
+      timed = [];
     })
 
 unfoldable pub nothing : List ℕ
 nothing =
     jobBytes
-    (record { serial = 0; facts = []; levels = []; steps = []; conditions = []; effects = []; uses = []; goals = [] })
+    (record { serial = 0; facts = []; levels = []; steps = []; conditions = []; effects = []; uses = []; goals = []; timed = [] })
 
 -- level 1 with bounds 0 to most, lowered and raised by 1 at tick 15
 unfoldable pub levelled : ℕ → List ℕ
@@ -171,6 +186,7 @@ levelled most =
       effects = [];
       uses = usage 0 0 5 (negative 1) ∷ usage 1 0 3 1 ∷ [];
       goals = [];
+      timed = [];
     })
 
 -- serial, lengths 5 and 2, starts 0 and the given one
@@ -186,6 +202,7 @@ serially start =
       effects = [];
       uses = [];
       goals = [];
+      timed = [];
     })
 
 -- the starred cases
@@ -233,4 +250,94 @@ starred =
     }
     -- starts 0 and 4
     ∷ record { job = serially 4; expected = refused (StepsOverlap 0) }
+    ∷ []
+
+-- a job of edition 2 on two facts, the first of them 1 at first: step 0 of 5 ticks, what it wants and does, goals, and timed facts
+unfoldable pub withTimed : ℕ → List (List ℕ) → List (List ℕ) → List (List ℕ) → List (List ℕ) → List ℕ
+withTimed fixed conditions effects goals timed =
+    jobBytes
+    (record {
+      serial = 0;
+      facts = fact 1 ∷ fact 0 ∷ [];
+      levels = [];
+      steps = step 20 5 fixed ∷ [];
+      conditions = conditions;
+      effects = effects;
+      uses = [];
+      goals = goals;
+      timed = timed;
+    })
+
+-- two steps, of which the first gives fact 1 at tick 7, at which the clock gives it as well, and the second wants it
+unfoldable pub tied : List ℕ
+tied =
+    jobBytes
+    (record {
+      serial = 0;
+      facts = fact 1 ∷ fact 0 ∷ [];
+      levels = [];
+      steps = step 2 5 0 ∷ step 20 3 0 ∷ [];
+      conditions = condition 1 1 0 3 1 ∷ [];
+      effects = effect 0 1 5 1 ∷ [];
+      uses = [];
+      goals = [];
+      timed = timedFact 1 7 1 ∷ [];
+    })
+
+-- what is expected of timed facts: one case a sentence, each of a choice that no theorem pins
+unfoldable pub timedCases : List Case
+timedCases =
+    -- "Its link is 512 plus its number", and "a point strictly after tick T gives start ≥ T + 1 − point"
+    record {
+      job = withTimed 0 (condition 0 1 2 4 1 ∷ []) [] [] (timedFact 0 3 1 ∷ timedFact 1 7 1 ∷ []);
+      expected = accepted 1 (window 6 noLatest 6 ∷ []) [] (513 ∷ []);
+    }
+    -- "A tie goes to a step's effect"
+    ∷ record {
+      job = tied;
+      expected = accepted 2 (window 0 noLatest 0 ∷ window 0 noLatest 6 ∷ []) (order 0 1 (plus 6) ∷ []) (0 ∷ []);
+    }
+    -- "then to the lower timed fact"
+    ∷ record {
+      job = withTimed 0 (condition 0 1 2 4 1 ∷ []) [] [] (timedFact 1 7 1 ∷ timedFact 1 7 1 ∷ []);
+      expected = accepted 1 (window 6 noLatest 6 ∷ []) [] (512 ∷ []);
+    }
+    -- "one strictly before gives start ≤ T − point − 1": the point is the condition's last tick
+    ∷ record {
+      job = withTimed 0 (condition 0 0 0 3 1 ∷ []) [] [] (timedFact 0 30 0 ∷ []);
+      expected = accepted 1 (window 0 26 0 ∷ []) [] (65535 ∷ []);
+    }
+    -- a fixed step keeps its start
+    ∷ record {
+      job = withTimed 1 (condition 0 0 0 3 1 ∷ []) [] [] (timedFact 0 30 0 ∷ []);
+      expected = accepted 1 (window 20 20 20 ∷ []) [] (65535 ∷ []);
+    }
+    -- an effect between two timed facts that oppose it; "the tightest counts"
+    ∷ record {
+      job =
+        withTimed 0 [] (effect 0 1 3 1 ∷ []) []
+        (timedFact 1 4 0 ∷ timedFact 1 30 0 ∷ timedFact 1 2 0 ∷ timedFact 1 40 0 ∷ []);
+      expected = accepted 1 (window 2 26 2 ∷ []) [] [];
+    }
+    -- a goal that a timed fact supports limits nobody
+    ∷ record {
+      job = withTimed 0 [] (effect 0 1 3 1 ∷ []) (goal 1 1 10 ∷ []) (timedFact 1 8 1 ∷ []);
+      expected = accepted 1 (window 0 noLatest 0 ∷ []) [] (512 ∷ []);
+    }
+    -- timed facts count in 10, at the step's effect; in 11, in the value seen and on the way; and in 13
+    ∷ record { job = withTimed 0 [] (effect 0 1 4 1 ∷ effect 0 0 3 0 ∷ []) [] (timedFact 0 23 1 ∷ []); expected = refused (EffectsConflict 1) }
+    ∷ record { job = withTimed 0 (condition 0 0 0 3 1 ∷ []) [] [] (timedFact 0 7 0 ∷ []); expected = refused (ConditionFails 0) }
+    ∷ record { job = withTimed 0 (condition 0 0 0 3 1 ∷ []) [] [] (timedFact 0 23 0 ∷ []); expected = refused (ConditionFails 0) }
+    ∷ record { job = withTimed 0 [] [] (goal 0 1 noLatest ∷ []) (timedFact 0 30 0 ∷ []); expected = refused (GoalFails 0) }
+    -- 6 after the goals
+    ∷ record { job = withTimed 0 [] [] [] (timedFact 0 30 0 ∷ timedFact 2 30 0 ∷ []); expected = refused (RecordOutOfRange 1) }
+    -- 17 at the lower one, and after 7
+    ∷ record {
+      job = withTimed 0 [] [] [] (timedFact 1 9 0 ∷ timedFact 0 9 1 ∷ timedFact 0 8 0 ∷ timedFact 0 9 0 ∷ []);
+      expected = refused (TimedFactsConflict 1);
+    }
+    ∷ record {
+      job = withTimed 0 [] (effect 0 1 3 1 ∷ effect 0 1 3 0 ∷ []) [] (timedFact 0 9 1 ∷ timedFact 0 9 0 ∷ []);
+      expected = refused (StepAgainstItself 0);
+    }
     ∷ []
