@@ -173,6 +173,19 @@ order-count m x =
           (λ q h t a. ordered-out m x q t .2 (gap-self m x _ _ (alone-same q h (eqb-true _ _ a)))),
     )
 
+-- each link of a valid schedule is an effect's number, or stands for the initial state
+pub nth-known :
+    (m : Model) (x : ℕ → ℕ) → ClockedForm m → Valid m x → (j : ℕ) → j < m .conditions + m .goals
+    → (nthLink m x j < m .effects) ⊎ (nthLink m x j ≡ initialState)
+unfolding nthLink
+nth-known m x w s j h =
+    elim (decLt j (m .conditions)) [
+      | yes l ↦ rw (lt-ltb _ _ l) (link-known m x _ _ _ _ (condition-supported m x w s j l))
+      | no l ↦
+          rw (le-ltb j (m .conditions) (omega arith))
+          (link-known m x _ _ _ _ (goal-supported m x w s (j - m .conditions) (omega arith)))
+    ]
+
 -- of a schedule within the range of starts
 module _ (m : Model) (x : ℕ → ℕ) (w : ClockedForm m) (s : Valid m x) (zero : x (m .steps) ≡ 0)
     (early : (k : ℕ) → k < m .steps → x k ≤ lastStart) where
@@ -209,15 +222,7 @@ module _ (m : Model) (x : ℕ → ℕ) (w : ClockedForm m) (s : Valid m x) (zero
         ⊎-elim (λ (l : link < m .effects). inl (last link l)) (λ (z : link ≡ initialState). inr (ap number z ∙ initial)) p
 
     link-most : (j : ℕ) → j < m .conditions + m .goals → (number (nthLink m x j) ≤ lastLink) ⊎ (number (nthLink m x j) ≡ initialState)
-    unfolding nthLink
-    link-most j h =
-        elim (decLt j (m .conditions)) [
-          | yes l ↦ rw (lt-ltb _ _ l) (numbered (conditionLink m x j) (link-known m x _ _ _ _ (condition-supported m x w s j l)))
-          | no l ↦
-              rw (le-ltb j (m .conditions) (omega arith))
-              (numbered (goalLink m x (j - m .conditions))
-              (link-known m x _ _ _ _ (goal-supported m x w s (j - m .conditions) (omega arith))))
-        ]
+    link-most j h = numbered (nthLink m x j) (nth-known m x w s j h)
 
     pub file-within : Within (fileWith number m x)
     unfolding fileWith

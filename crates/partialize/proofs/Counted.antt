@@ -9,7 +9,7 @@ use Rattle.laws.specs.Fold.{largest}
 use Rattle.laws.specs.Nth.{count}
 use Rattle.laws.proofs.Fold.{largest-ge, largest-le, largest-cong}
 use Rattle.job.specs.Model.{Model}
-use Rattle.job.specs.WellFormed.{WellFormed}
+use Rattle.job.specs.Clocked.{ClockedForm}
 use Rattle.validity.specs.Valid.{Valid}
 use Rattle.order_file.specs.Contents.{Contents}
 use Rattle.order_file.specs.Agree.{Agree}
@@ -18,7 +18,7 @@ use Rattle.orders.specs.Windows.{limitOf}
 use Rattle.rounds.specs.Rounds.{after, unchanged}
 use Rattle.order_file.specs.Contents.{gapBias}
 use Rattle.rows.specs.Raised.{single}
-use Rattle.orders.specs.File.{roundsOf, ordered, pairOf, fileOf}
+use Rattle.orders.specs.File.{roundsOf, ordered, pairOf, fileWith}
 use Rattle.partialize.specs.Demands.{filedGap, settledAfter}
 use Rattle.rounds.proofs.Rounds.{rounds-some, last-unchanged, earlier-changes}
 use Rattle.rounds.proofs.Same.{unchanged-same}
@@ -27,10 +27,10 @@ use Rattle.gaps.proofs.Filled.{single-le}
 use Rattle.orders.proofs.Planned.{planned-obeys}
 use Rattle.orders.proofs.Satisfied.{pair-filed, obeys-satisfied}
 
-module _ (m : Model) (x : ℕ → ℕ) (w : WellFormed m) where
+module _ (number : ℕ → ℕ) (m : Model) (x : ℕ → ℕ) (w : ClockedForm m) where
   -- the largest gap filed between two steps is the rules' gap
-  gap-filed : (i k : ℕ) → i < m .steps → k < m .steps → filedGap (fileOf m x) i k ≡ gapOf m x i k
-  unfolding filedGap fileOf
+  gap-filed : (i k : ℕ) → i < m .steps → k < m .steps → filedGap (fileWith number m x) i k ≡ gapOf m x i k
+  unfolding filedGap fileWith
   gap-filed i k h g =
       let f : ℕ → ℕ = λ o. single (pairOf m x o / rowWidth) (pairOf m x o % rowWidth)
       (gapOf m x (pairOf m x o / rowWidth) (pairOf m x o % rowWidth)) i k in
@@ -54,28 +54,28 @@ gap-agrees c d a i k =
     (λ o h. cc (a .first o h, a .second o h, a .gap o h))
 
 -- contents that agree with what is filed of a valid schedule
-module _ (m : Model) (x : ℕ → ℕ) (w : WellFormed m) (v : Valid m x) (c : Contents) (a : Agree c (fileOf m x)) where
+module _ (number : ℕ → ℕ) (m : Model) (x : ℕ → ℕ) (w : ClockedForm m) (v : Valid m x) (zero : x (m .steps) ≡ 0) (c : Contents) (a : Agree c (fileWith number m x)) where
   -- have its gaps
   pub filed-gap : (i k : ℕ) → i < m .steps → k < m .steps → filedGap c i k ≡ gapOf m x i k
-  filed-gap i k h g = gap-agrees c (fileOf m x) a i k ∙ gap-filed m x w i k h g
+  filed-gap i k h g = gap-agrees c (fileWith number m x) a i k ∙ gap-filed number m x w i k h g
 
-  settled : (r : ℕ) → settledAfter c r ≡ unchanged (m .steps) (gapOf m x) gapBias (after (m .steps) (gapOf m x) gapBias (limitOf m) r)
-  unfolding settledAfter fileOf
+  settled : (r : ℕ) → settledAfter c r ≡ unchanged (m .steps) (gapOf m x) gapBias (after (m .steps) (gapOf m x) gapBias (limitOf m x) r)
+  unfolding settledAfter fileWith
   settled r =
       ap (λ n. unchanged n (filedGap c) gapBias (after n (filedGap c) gapBias (c .limit) r)) (a .steps)
-      ∙ unchanged-same (m .steps) (filedGap c) (gapOf m x) gapBias (c .limit) (limitOf m) filed-gap (a .limit) r
+      ∙ unchanged-same (m .steps) (filedGap c) (gapOf m x) gapBias (c .limit) (limitOf m x) filed-gap (a .limit) r
 
   counted : c .rounds ≡ roundsOf m x
-  unfolding fileOf
+  unfolding fileWith
   counted = a .rounds
 
   pub some-counted : 0 < m .steps → 0 < c .rounds
-  some-counted h = omega (arith, counted, rounds-some (m .steps) (gapOf m x) gapBias (limitOf m) h)
+  some-counted h = omega (arith, counted, rounds-some (m .steps) (gapOf m x) gapBias (limitOf m x) h)
 
   pub last-counted : (r : ℕ) → suc r ≡ c .rounds → settledAfter c r ≡ true
   last-counted r e =
       settled r
-      ∙ last-unchanged (m .steps) (gapOf m x) gapBias (limitOf m) x (obeys-satisfied m x x (planned-obeys m x w v)) r (e ∙ counted)
+      ∙ last-unchanged (m .steps) (gapOf m x) gapBias (limitOf m x) x (obeys-satisfied m x x (planned-obeys m x w v zero)) r (e ∙ counted)
 
   pub earlier-counted : (r : ℕ) → suc r < c .rounds → settledAfter c r ≡ false
-  earlier-counted r h = settled r ∙ earlier-changes (m .steps) (gapOf m x) gapBias (limitOf m) r (omega (arith, counted))
+  earlier-counted r h = settled r ∙ earlier-changes (m .steps) (gapOf m x) gapBias (limitOf m x) r (omega (arith, counted))

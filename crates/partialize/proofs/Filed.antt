@@ -14,13 +14,13 @@ use Rattle.little_endian.specs.Bytes.{u16Bytes}
 use Rattle.laws.specs.Nth.{count, nth}
 use Rattle.laws.proofs.Nth.{count-cong, nth-cong}
 use Rattle.job.specs.Model.{Model}
-use Rattle.job.specs.WellFormed.{WellFormed}
+use Rattle.job.specs.Clocked.{ClockedForm}
 use Rattle.order_file.specs.Contents.{Contents}
 use Rattle.order_file.specs.Encode.{headerBytes, windowBytes, orderBytes, linkBytes, gapBits, upToWindow, upToOrder, upToLink, encode}
 use Rattle.order_file.specs.Agree.{Agree}
 use Rattle.orders.specs.Links.{nthLink}
 use Rattle.orders.specs.Gaps.{gapOf}
-use Rattle.orders.specs.File.{ordered, pairOf, fileOf}
+use Rattle.orders.specs.File.{ordered, pairOf, fileWith}
 use Rattle.order_file.specs.Held.{entered, heldIn}
 use Rattle.partialize.specs.Holds.{Holds}
 use Rattle.orders.proofs.Satisfied.{ordered-out, pair-ordered}
@@ -59,8 +59,8 @@ module _ (c d : Contents) (a : Agree c d) where
   encode-agree = ap₂ _++_ (ap₂ _++_ (ap₂ _++_ header-agrees windows-agree) orders-agree) links-agree
 
 module _
-    (m : Model) (x : ℕ → ℕ) (w : WellFormed m) (rounds : ℕ) (limits latest earliest gaps linked : List ℕ)
-    (h : Holds m x rounds limits latest earliest gaps linked)
+    (number : ℕ → ℕ) (m : Model) (x : ℕ → ℕ) (w : ClockedForm m) (rounds : ℕ) (limits latest earliest gaps linked : List ℕ)
+    (h : Holds number m x rounds limits latest earliest gaps linked)
   where
     -- the place of an entry from its pair of steps
     place : (q : ℕ) → rowWidth * (q / rowWidth) + q % rowWidth ≡ q
@@ -97,7 +97,7 @@ module _
         let p = ordered-out m x (pairOf m x o) (pair-ordered m x o l) in
         ap (gapAt gaps) (same-pair o) ∙ entry (pairOf m x o) (p .0) (p .1)
 
-    same-link : (j : ℕ) → j < m .conditions + m .goals → getD linked j 0 ≡ nthLink m x j
+    same-link : (j : ℕ) → j < m .conditions + m .goals → getD linked j 0 ≡ number (nthLink m x j)
     unfolding nthLink
     same-link j l =
         elim (decLt j (m .conditions)) [
@@ -108,8 +108,8 @@ module _
               (ap (λ k. getD linked k 0) (sym e) ∙ h .goalAt (j - m .conditions) (omega arith))
         ]
 
-    held-agrees : Agree (heldIn (m .steps) (m .conditions + m .goals) rounds limits latest earliest gaps linked) (fileOf m x)
-    unfolding heldIn fileOf
+    held-agrees : Agree (heldIn (m .steps) (m .conditions + m .goals) rounds limits latest earliest gaps linked) (fileWith number m x)
+    unfolding heldIn fileWith
     held-agrees =
         record {
           steps = refl;
@@ -126,6 +126,6 @@ module _
         }
 
     -- the bytes of what the lists hold are those of the file
-    pub held-file : encode (heldIn (m .steps) (m .conditions + m .goals) rounds limits latest earliest gaps linked) ≡ encode (fileOf m x)
+    pub held-file : encode (heldIn (m .steps) (m .conditions + m .goals) rounds limits latest earliest gaps linked) ≡ encode (fileWith number m x)
     held-file =
-        encode-agree (heldIn (m .steps) (m .conditions + m .goals) rounds limits latest earliest gaps linked) (fileOf m x) held-agrees
+        encode-agree (heldIn (m .steps) (m .conditions + m .goals) rounds limits latest earliest gaps linked) (fileWith number m x) held-agrees

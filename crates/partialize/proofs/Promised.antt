@@ -7,16 +7,18 @@ use mathlib.Core.List.{List}
 use mathlib.Core.Logic.{inl, inr, ⊎-elim}
 use native.Mathlib.Omega.{arith}
 use borrow.Author.Tests.{eq-eqb, ne-eqb}
-use lib.ListN.{length, take, drop}
+use lib.ListN.{length, take, drop, List·getD-eq-default}
 use lib.Dec.{leb, eqb}
 use lib.Seq.{take-append-seam}
 use Rattle.laws.proofs.Search.{either, contrary}
-use Rattle.laws.proofs.Listed.{getD-tabulate}
+use Rattle.laws.proofs.Listed.{length-tabulate, getD-tabulate}
 use Rattle.verdict.specs.declared.Verdict.{Verdict}
 use Rattle.verdict.specs.Verdict as verdict
-use Rattle.job.specs.Model.{Model, modelOf}
+use Rattle.job.specs.Model.{Model, modelOf, lastStart}
 use Rattle.job.specs.WellFormed.{WellFormed}
-use Rattle.validity.specs.Ticks.{scheduleOf, planned}
+use Rattle.job.specs.Clocked.{clocked, withClock, ClockedForm}
+use Rattle.job.proofs.Clocked.{clocked-form, clock-start}
+use Rattle.validity.specs.Ticks.{scheduleOf, plannedStarts, planned}
 use Rattle.validity.specs.Valid.{Valid}
 use Rattle.validity.specs.Checks.{jobCheck}
 use Rattle.validity.specs.Promise.{Sound, JobPromise}
@@ -35,7 +37,7 @@ use Rattle.partialize.specs.declared.answer.Answer.{Answer}
 use Rattle.partialize.specs.declared.answer.Answer.the-variants.{Filed, Refused, BufferTooShort}
 use Rattle.partialize.specs.Answer.{number, place, lengthOf}
 use Rattle.orders.specs.Obeys.{Obeys}
-use Rattle.orders.specs.File.{earliestOf, fileOf}
+use Rattle.orders.specs.File.{earliestOf, linkNumber, linkedEffect, fileWith, fileOf}
 use Rattle.order_file.specs.Held.{over}
 use Rattle.partialize.specs.Partialization.{looseOf, fileBytes, accepts, fits, answerTo, bufferAfter}
 use Rattle.partialize.specs.Demands.{Exact, Loose, Promise}
@@ -45,7 +47,8 @@ use Rattle.orders.proofs.Supporter.{links-supported}
 use Rattle.orders.proofs.Sound.{obeying-valid}
 use Rattle.orders.proofs.End.{same-end}
 use Rattle.orders.proofs.Satisfied.{satisfies-obeys, planned-satisfies, earliest-first, earliest-planned, earliest-satisfies}
-use Rattle.orders.proofs.Within.{file-within}
+use Rattle.orders.proofs.Within.{nth-known, file-within}
+use Rattle.orders.proofs.Numbers.{number-initial, number-last, link-back, obeys-clock}
 use Rattle.partialize.proofs.Counted.{filed-gap, some-counted, last-counted, earlier-counted}
 
 -- contents that agree are satisfied alike
@@ -78,79 +81,122 @@ starts-satisfy c y z w e s =
           omega (arith, e (c .first o) (w .firstCounted o h), e (c .second o) (w .secondCounted o h), s .keeps o h);
     }
 
--- the file of a valid schedule
-module _ (m : Model) (x : ℕ → ℕ) (w : WellFormed m) (v : Valid m x) where
-  read-back : Agree (contentsOf (encode (fileOf m x))) (fileOf m x)
-  read-back = round-trip (fileOf m x) (file-within m x w v)
+-- the planned schedule starts the clock at 0, and every step within the range of starts
+planned-zero : (m : Model) → planned m (m .steps) ≡ 0
+planned-zero m = List·getD-eq-default (plannedStarts m) 0 {n = m .steps} (omega (arith, length-tabulate (m .start) (m .steps)))
 
-  file-obeys : (y : ℕ → ℕ) → SatisfiesFile (encode (fileOf m x)) y → Obeys m x y
-  file-obeys y h = satisfies-obeys m x w y (agree-satisfies (contentsOf (encode (fileOf m x))) (fileOf m x) read-back y h)
+planned-early : (m : Model) → WellFormed m → (k : ℕ) → k < m .steps → planned m k ≤ lastStart
+planned-early m w k h = omega (arith, getD-tabulate (m .start) (m .steps) k 0 h, w .startRange k h)
+
+-- the file of a well-formed job whose planned schedule is valid
+module _ (m : Model) (w : WellFormed m) (v : Valid (clocked m) (planned m)) where
+  abbrev M : Model
+  M = clocked m
+
+  abbrev x : ℕ → ℕ
+  x = planned m
+
+  form : ClockedForm M
+  form = clocked-form m w
+
+  within : Within (fileOf m x)
+  unfolding fileOf
+  within = file-within M x form v (planned-zero m) (planned-early m w) (linkNumber m) (number-initial m) (number-last m w)
+
+  read-back : Agree (contentsOf (encode (fileOf m x))) (fileOf m x)
+  read-back = round-trip (fileOf m x) within
+
+  file-obeys : (y : ℕ → ℕ) → SatisfiesFile (encode (fileOf m x)) y → Obeys M x y
+  unfolding fileOf
+  file-obeys y h =
+      satisfies-obeys M x form (linkNumber m) y (agree-satisfies (contentsOf (encode (fileOf m x))) (fileOf m x) read-back y h)
+
+  -- so what satisfies it is sound, with the clock's start
+  file-valid : (y : ℕ → ℕ) → SatisfiesFile (encode (fileOf m x)) y → Valid M (withClock m y)
+  file-valid y h =
+      obeying-valid M x (withClock m y) form v (planned-zero m) (clock-start m y) (obeys-clock m x y (file-obeys y h))
+
+  -- and so is a list with one start a step, which gives the clock none
+  list-valid : (starts : List ℕ) → length starts ≡ m .steps → SatisfiesFile (encode (fileOf m x)) (scheduleOf starts) → Valid M (scheduleOf starts)
+  list-valid starts e h =
+      obeying-valid M x (scheduleOf starts) form v (planned-zero m) (List·getD-eq-default starts 0 {n = m .steps} (omega arith))
+      (file-obeys (scheduleOf starts) h)
 
   satisfies-file : (y : ℕ → ℕ) → Satisfies (fileOf m x) y → SatisfiesFile (encode (fileOf m x)) y
   satisfies-file y h = satisfies-agree (contentsOf (encode (fileOf m x))) (fileOf m x) read-back y h
 
-  earliest-filed : (k : ℕ) → k < m .steps → contentsOf (encode (fileOf m x)) .earliest k ≡ earliestOf m x k
-  unfolding fileOf
+  earliest-filed : (k : ℕ) → k < m .steps → contentsOf (encode (fileOf m x)) .earliest k ≡ earliestOf M x k
+  unfolding fileOf fileWith
   earliest-filed = read-back .earliest
 
   filed-satisfies : SatisfiesFile (encode (fileOf m x)) (contentsOf (encode (fileOf m x)) .earliest)
-  unfolding fileOf
+  unfolding fileOf fileWith
   filed-satisfies =
       satisfies-file (contentsOf (encode (fileOf m x)) .earliest)
-      (starts-satisfy (fileOf m x) (earliestOf m x) (contentsOf (encode (fileOf m x)) .earliest) (file-within m x w v)
+      (starts-satisfy (fileOf m x) (earliestOf M x) (contentsOf (encode (fileOf m x)) .earliest) within
       (λ k h. sym (earliest-filed k h))
-      (earliest-satisfies m x w v))
+      (earliest-satisfies M x form v (planned-zero m) (linkNumber m)))
+
+  planned-filed : SatisfiesFile (encode (fileOf m x)) x
+  unfolding fileOf
+  planned-filed = satisfies-file x (planned-satisfies M x form v (planned-zero m) (linkNumber m))
 
   rounds-filed : contentsOf (encode (fileOf m x)) .rounds ≤ m .steps
-  unfolding fileOf
-  rounds-filed = omega (arith, read-back .rounds, file-within m x w v .rounds)
+  unfolding fileOf fileWith
+  rounds-filed = omega (arith, read-back .rounds, within .rounds)
 
--- contents that agree with what is filed have its links
-filed-links :
-    (m : Model) (x : ℕ → ℕ) {c : Contents} → Agree c (fileOf m x) → (j : ℕ) → j < m .conditions + m .goals → c .link j ≡ nthLink m x j
-unfolding fileOf
-filed-links m x a = a .link
+  -- its links are read back as what supports
+  filed-links :
+      {c : Contents} → Agree c (fileOf m x) → (j : ℕ) → j < m .conditions + m .goals → linkedEffect m (c .link j) ≡ nthLink M x j
+  unfolding fileOf fileWith
+  filed-links a j h = ap (linkedEffect m) (a .link j h) ∙ link-back m w (nthLink M x j) (nth-known M x form v j h)
 
 -- demands 2 and 3 of the file of a sound job
 module _ (s : List ℕ) (p : Sound s (planned (modelOf s))) where
   exact-file : Exact s (encode (looseOf s))
-  unfolding looseOf
+  unfolding looseOf fileOf
   exact-file =
       let m = modelOf s in
-      let x : ℕ → ℕ = planned m in
-      let w = file-within m x (p .wellFormed) (p .valid) in
-      let a = read-back m x (p .wellFormed) (p .valid) in
+      let w = p .wellFormed in
+      let v = p .valid in
+      let a = read-back m w v in
+      let c = contentsOf (encode (looseOf s)) in
       record {
-        readable = encode-well-formed (looseOf s) w;
+        readable = encode-well-formed (looseOf s) (within m w v);
         contents = a;
-        returned = encoded-read-back (looseOf s) w;
-        supporters = links-supported m x (p .wellFormed) (p .valid) (contentsOf (encode (looseOf s)) .link) (filed-links m x a);
-        gaps = filed-gap m x (p .wellFormed) (p .valid) (contentsOf (encode (looseOf s))) a;
+        returned = encoded-read-back (looseOf s) (within m w v);
+        supporters =
+          links-supported (clocked m) (planned m) (form m w v) v (λ j. linkedEffect m (c .link j)) (filed-links m w v a);
+        gaps = filed-gap (linkNumber m) (clocked m) (planned m) (form m w v) v (planned-zero m) c a;
       }
 
   loose-file : Loose s (encode (looseOf s))
-  unfolding looseOf
+  unfolding looseOf fileOf
   loose-file =
       let m = modelOf s in
       let x : ℕ → ℕ = planned m in
       let w = p .wellFormed in
       let v = p .valid in
+      let f = form m w v in
+      let z = planned-zero m in
+      let number = linkNumber m in
+      let c = contentsOf (encode (fileOf m x)) in
       record {
-        valid = λ y h. obeying-valid m x y w v (file-obeys m x w v y h);
+        valid = file-valid m w v;
         accepted = λ starts e h.
-            schedule-promise s starts refl .complete e
-            (record { form = p .form; wellFormed = w; valid = obeying-valid m x (scheduleOf starts) w v (file-obeys m x w v (scheduleOf starts) h) });
-        ends = λ y h. valid-ends m y w (obeying-valid m x y w v (file-obeys m x w v y h));
-        sameEnd = λ y h. same-end m x y w v (file-obeys m x w v y h);
-        atOrAfter = λ y h k l. omega (arith, earliest-filed m x w v k l, earliest-first m x w v y (file-obeys m x w v y h) k l);
-        earliestSatisfy = filed-satisfies m x w v;
+            schedule-promise s starts refl .complete e (record { form = p .form; wellFormed = w; valid = list-valid m w v starts e h });
+        ends = λ y h. valid-ends (clocked m) (withClock m y) f (file-valid m w v y h);
+        sameEnd = λ y h.
+            same-end (clocked m) x (withClock m y) f v z (clock-start m y) (obeys-clock m x y (file-obeys m w v y h));
+        atOrAfter = λ y h k l. omega (arith, earliest-filed m w v k l, earliest-first (clocked m) x f v z y (file-obeys m w v y h) k l);
+        earliestSatisfy = filed-satisfies m w v;
         atMostPlanned = λ k l.
-            omega (arith, earliest-filed m x w v k l, earliest-planned m x w v k l, getD-tabulate (m .start) (m .steps) k 0 l);
-        plannedSatisfies = satisfies-file m x w v x (planned-satisfies m x w v);
-        fewRounds = rounds-filed m x w v;
-        someRound = some-counted m x w v (contentsOf (encode (fileOf m x))) (read-back m x w v);
-        lastUnchanged = last-counted m x w v (contentsOf (encode (fileOf m x))) (read-back m x w v);
-        earlierChanges = earlier-counted m x w v (contentsOf (encode (fileOf m x))) (read-back m x w v);
+            omega (arith, earliest-filed m w v k l, earliest-planned (clocked m) x f v z k l, getD-tabulate (m .start) (m .steps) k 0 l);
+        plannedSatisfies = planned-filed m w v;
+        fewRounds = rounds-filed m w v;
+        someRound = some-counted number (clocked m) x f v z c (read-back m w v);
+        lastUnchanged = last-counted number (clocked m) x f v z c (read-back m w v);
+        earlierChanges = earlier-counted number (clocked m) x f v z c (read-back m w v);
       }
 
 -- the number, the place and the length of an answer, by the cases of its definition

@@ -10,6 +10,7 @@ use Rattle.laws.specs.Fold.{largest}
 use Rattle.verdict.specs.declared.Verdict.{Verdict}
 use Rattle.verdict.specs.Verdict as verdict
 use Rattle.job.specs.Model.{modelOf}
+use Rattle.job.specs.Clocked.{clocked, withClock}
 use Rattle.validity.specs.Ticks.{scheduleOf, planned}
 use Rattle.validity.specs.Checks.{jobCheck, scheduleCheck}
 use Rattle.validity.specs.Valid.{Valid}
@@ -22,6 +23,7 @@ use Rattle.order_check.specs.WellFormed.{wellFormed}
 use Rattle.order_answers.specs.ReadBack.{ReadBack}
 use Rattle.orders.specs.Supporter.{LinksSupported}
 use Rattle.orders.specs.Gaps.{gapOf}
+use Rattle.orders.specs.File.{linkedEffect}
 use Rattle.orders.specs.Satisfies.{SatisfiesFile}
 use Rattle.partialize.specs.declared.answer.Answer.{Answer}
 use Rattle.partialize.specs.declared.answer.Answer.the-variants.{Refused, BufferTooShort}
@@ -39,30 +41,33 @@ pub record Exact (s file : List ℕ) : Type 0 where
   pub contents : Agree (contentsOf file) (looseOf s)
   -- reading it returns them all, and nothing else
   pub returned : ReadBack (looseOf s) file
-  -- the links are the supporters of rule 1, and nothing else is linked so
-  pub supporters : LinksSupported (modelOf s) (planned (modelOf s)) (contentsOf file .link)
+  -- the links are the supporters of rule 1, timed facts by 512 plus their number, and nothing else is linked so
+  pub supporters :
+      LinksSupported (clocked (modelOf s)) (planned (modelOf s)) (λ j. linkedEffect (modelOf s) (contentsOf file .link j))
   -- the orders filed between two steps have the gap of the rules, and none is filed where the rules give none
   pub gaps :
       (i k : ℕ) → i < modelOf s .steps → k < modelOf s .steps
-      → filedGap (contentsOf file) i k ≡ gapOf (modelOf s) (planned (modelOf s)) i k
+      → filedGap (contentsOf file) i k ≡ gapOf (clocked (modelOf s)) (planned (modelOf s)) i k
 
 -- whether one more round changes nothing, after r rounds over the filed orders that begin with the filed limits
 unfoldable pub settledAfter : Contents → ℕ → Bool
 settledAfter c r = unchanged (c .steps) (filedGap c) gapBias (after (c .steps) (filedGap c) gapBias (c .limit) r)
 
--- demand 3: whatever starts satisfy the file are a sound timing with the planned schedule's end
+-- demand 3: whatever starts satisfy the file are a sound timing with the planned schedule's end, timed facts acting as effects of the
+-- clock, which starts at 0
 pub record Loose (s file : List ℕ) : Type 0 where
   -- no condition fails, no opposing effects meet, no level passes a bound, no goal or deadline is missed, no serial steps overlap,
   -- every fixed step keeps its tick
-  pub valid : (y : ℕ → ℕ) → SatisfiesFile file y → Valid (modelOf s) y
+  pub valid : (y : ℕ → ℕ) → SatisfiesFile file y → Valid (clocked (modelOf s)) (withClock (modelOf s) y)
   -- so the timing check accepts a list of such starts
   pub accepted :
       (starts : List ℕ) → length starts ≡ modelOf s .steps → SatisfiesFile file (scheduleOf starts)
       → verdict.number (scheduleCheck s starts) ≡ 0
   -- it ends with the values set last and with all uses of each level
-  pub ends : (y : ℕ → ℕ) → SatisfiesFile file y → EndsWith (modelOf s) y
+  pub ends : (y : ℕ → ℕ) → SatisfiesFile file y → EndsWith (clocked (modelOf s)) (withClock (modelOf s) y)
   -- the end state is that of the job's own timing
-  pub sameEnd : (y : ℕ → ℕ) → SatisfiesFile file y → SameEnd (modelOf s) y (planned (modelOf s))
+  pub sameEnd :
+      (y : ℕ → ℕ) → SatisfiesFile file y → SameEnd (clocked (modelOf s)) (withClock (modelOf s) y) (planned (modelOf s))
   -- the printed earliest times are the least
   pub atOrAfter : (y : ℕ → ℕ) → SatisfiesFile file y → (k : ℕ) → k < modelOf s .steps → contentsOf file .earliest k ≤ y k
   -- are such a choice

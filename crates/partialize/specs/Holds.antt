@@ -20,17 +20,17 @@ use Rattle.gaps.specs.Table.{TableOf}
 use Rattle.partialize.specs.declared.answer.Answer.{Answer}
 use Rattle.partialize.specs.declared.answer.Answer.the-variants.{Filed, BufferTooShort}
 
--- lists that hold what is filed of a job
-pub record Holds (m : Model) (x : ℕ → ℕ) (rounds : ℕ) (limits latest earliest gaps linked : List ℕ) : Type 0 where
+-- lists that hold what is filed of a job, with the numbers of its links
+pub record Holds (number : ℕ → ℕ) (m : Model) (x : ℕ → ℕ) (rounds : ℕ) (limits latest earliest gaps linked : List ℕ) : Type 0 where
   pub roundCount : rounds ≡ roundsOf m x
-  pub limitAt : (k : ℕ) → k < m .steps → startIn limits k ≡ limitOf m k
+  pub limitAt : (k : ℕ) → k < m .steps → startIn limits k ≡ limitOf m x k
   pub latestAt : (k : ℕ) → k < m .steps → startIn latest k ≡ latestOf m x k
   pub earliestAt : (k : ℕ) → k < m .steps → startIn earliest k ≡ earliestOf m x k
   pub gapAt : (i k : ℕ) → i < m .steps → k < m .steps → gapIn gaps i k ≡ gapOf m x i k
   -- no entry for a step that is not counted
   pub emptyAt : (i k : ℕ) → i < rowWidth → k < rowWidth → (i < m .steps → k < m .steps → ⊥) → gapIn gaps i k ≡ 0
-  pub conditionAt : (c : ℕ) → c < m .conditions → getD linked c 0 ≡ conditionLink m x c
-  pub goalAt : (g : ℕ) → g < m .goals → getD linked (m .conditions + g) 0 ≡ goalLink m x g
+  pub conditionAt : (c : ℕ) → c < m .conditions → getD linked c 0 ≡ number (conditionLink m x c)
+  pub goalAt : (g : ℕ) → g < m .goals → getD linked (m .conditions + g) 0 ≡ number (goalLink m x g)
 
 -- links and gaps of a well-formed job that can be filed
 pub record Fileable (m : Model) (links gaps : List ℕ) : Type 0 where
