@@ -16,12 +16,6 @@ use Rattle.form.specs.Refusals.{formCheck}
 
 -- refusals 1 to 6 pass, so refusals 7 and 17 decide; or one of them stands
 module _ (s : List ℕ) where
-  pub form-passes :
-      number (headerCheck s then recordCheck (modelOf s)) ≡ 0 → number (stepCheck (modelOf s)) ≡ 0 → number (timedCheck (modelOf s)) ≡ 0
-      → number (formCheck s) ≡ 0
-  unfolding formCheck
-  form-passes r a b = zero-then _ _ (zero-then _ _ r a) b
-
   pub records-passed :
       number (headerCheck s then recordCheck (modelOf s)) ≡ 0 → (stepCheck (modelOf s) then timedCheck (modelOf s)) ≡ formCheck s
   unfolding formCheck
@@ -30,6 +24,12 @@ module _ (s : List ℕ) where
   pub records-refused : (number (headerCheck s then recordCheck (modelOf s)) ≡ 0 → ⊥) → (headerCheck s then recordCheck (modelOf s)) ≡ formCheck s
   unfolding formCheck
   records-refused = first-refused _ _ _
+
+  pub form-passes :
+      number (headerCheck s then recordCheck (modelOf s)) ≡ 0 → number (stepCheck (modelOf s)) ≡ 0 → number (timedCheck (modelOf s)) ≡ 0
+      → number (formCheck s) ≡ 0
+  unfolding formCheck
+  form-passes r a b = zero-then _ _ (zero-then _ _ r a) b
 
 -- the same of records that were read: the verdict of the form check with and without refusals 7 and 17
 module _ {s : List ℕ} {r : Form} (p : RecordsPromise s r) where
