@@ -401,14 +401,14 @@ module _ (m : Model) where
       subst (FirstOfTwo m) (sym (ap place (a .4))) (first-of-two (a .0) (a .1) (a .2) (a .3)))
       (lowest-outcome (m .timed) (timedConflicts m) TimedFactsConflict)
 
+-- refusal 3, the other way round: where an edition has no timed facts, none is counted
+none-counted : (a b : Bool) → (a && not b) ≡ false → a ≡ true → b ≡ true
+none-counted a b e t = not-false b (sym (ap (λ x. x && not b) t) ∙ e)
+
 -- refusal 4
 count-out : (c : Counts) → countTooHigh c ≡ true → (t : ℕ) × (t < 8) × (getD highest t 0 < getD (countList c) t 0)
 unfolding countTooHigh
 count-out c h = let f = any-elim (λ t. ltb (getD highest t 0) (getD (countList c) t 0)) 8 h in (f .0, f .1, ltb-true _ _ (f .2))
-
--- refusal 3: an edition without timed facts counts some
-none-counted : (a b : Bool) → (a && not b) ≡ false → a ≡ true → b ≡ true
-none-counted a b e t = not-false b (sym (ap (λ x. x && not b) t) ∙ e)
 
 form-own : (s : List ℕ) (k : ℕ) → Own (numberIn k) (formStep s k)
 form-own s zero = refuse-either (Own 1) _ _ (λ _. refl) (λ z. absurd (z refl))
@@ -433,10 +433,11 @@ implied : (a b : Bool) → (not a || b) ≡ true → a ≡ true → b ≡ true
 implied a b e t = sym (ap (λ x. not x || b) t) ∙ e
 
 module _ (s : List ℕ) {r : Verdict} (e : r ≡ formCheck s) where
-  -- none refuses, or the first that does gives its verdict and its number
+  -- check j is the first that refuses, and gives its verdict and its number
   abbrev Given : ℕ → Type 0
   Given j = FirstRefuses (formStep s) 9 j × (r ≡ formStep s j) × (number r ≡ numberIn j)
 
+  -- none refuses, or the first that does is given
   outcome : (number r ≡ 0) ⊎ ((j : ℕ) × Given j)
   outcome =
       ⊎-elim

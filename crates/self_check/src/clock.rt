@@ -1,4 +1,4 @@
-// Refusal 17: the clock against itself, by pairs of timed facts. It is asked only of the few jobs whose points disagree at one tick.
+// Refusal 17: the clock against itself, by pairs of timed facts, of which there are at most 64.
 ghost use mathlib.Core.Path.{_≡_};
 ghost use mathlib.Core.Bool.{_&&_, not};
 ghost use Prim.Native.Nat.{_<_};
