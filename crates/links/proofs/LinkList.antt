@@ -5,7 +5,7 @@ use mathlib.Core.List.{List}
 use native.Mathlib.Omega.{arith}
 use lib.ListN.{getD}
 use Rattle.job.specs.Model.{Model}
-use Rattle.job.specs.WellFormed.{WellFormed}
+use Rattle.job.specs.Clocked.{ClockedForm}
 use Rattle.validity.specs.Valid.{Valid}
 use Rattle.orders.specs.Links.{conditionLink, goalLink}
 use Rattle.links.specs.LinkList.{LinksOf, Named}
@@ -19,7 +19,7 @@ module _ (m : Model) (x : ℕ → ℕ) (links : List ℕ) (w : LinksOf m x links
   pub goal-link : (g : ℕ) → g < m .goals → getD links (m .conditions + g) 0 ≡ goalLink m x g
   goal-link g h = w .each (m .conditions + g) (omega arith) ∙ goal-nth m x g
 
-  pub valid-named : WellFormed m → Valid m x → Named m links
+  pub valid-named : ClockedForm m → Valid m x → Named m links
   valid-named f v c h d = named (condition-supported m x f v c h)
     where
       named : ConditionLinkedTo m x c (conditionLink m x c) → getD links c 0 < m .effects

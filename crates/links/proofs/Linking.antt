@@ -9,7 +9,7 @@ use native.Mathlib.Omega.{arith}
 use lib.Dec.{eqb}
 use lib.ListN.{length, getD, set}
 use Rattle.job.specs.Model.{Model}
-use Rattle.job.specs.WellFormed.{WellFormed}
+use Rattle.job.specs.Clocked.{ClockedForm}
 use Rattle.timeline.specs.declared.walk.Cursor.{Cursor}
 use Rattle.timeline.specs.Words.{numberAt, tickAt, valueAt}
 use Rattle.timeline.specs.Placed.{Parted, Run}
@@ -155,7 +155,7 @@ module _ {m : Model} {points begins before : List ℕ} where
       ])
 
   pub below-end :
-      {f : ℕ} {list : List ℕ} → WellFormed m → LinksPut m points begins (Below m f) before list → m .facts ≤ f
+      {f : ℕ} {list : List ℕ} → ClockedForm m → LinksPut m points begins (Below m f) before list → m .facts ≤ f
       → LinksPut m points begins (λ c. c < m .conditions) before list
   below-end {f} form so h x known valid =
       put-as (so x known valid) (λ k q. q .0) (λ k l. (l, omega (arith, form .conditionFact k l)))

@@ -12,7 +12,7 @@ use lib.ListN.{length, getD}
 use Rattle.laws.proofs.Search.{either, contrary, and-both, lowest-is}
 use Rattle.laws.proofs.Fold.{least-le, least-ge}
 use Rattle.job.specs.Model.{Model}
-use Rattle.job.specs.WellFormed.{WellFormed}
+use Rattle.job.specs.Clocked.{ClockedForm}
 use Rattle.timeline.specs.Words.{numberAt, tickAt, valueAt}
 use Rattle.timeline.specs.Placed.{Parted, Run}
 use Rattle.validity.specs.Ticks.{effectTick, firstTick}
@@ -20,13 +20,13 @@ use Rattle.validity.specs.Seen.{seen, afterAll}
 use Rattle.validity.specs.Valid.{Valid}
 use Rattle.validity.proofs.Seen.{Giver, lastGiven-ge, lastGiven-le, afterAll-ge}
 use Rattle.points.specs.Points.{PointsKnown, OneValue, wantedGroup}
-use Rattle.job.proofs.Ranged.{well-formed-ranged}
+use Rattle.points.proofs.ClockedRange.{form-range}
 use Rattle.points.proofs.Placed.{valid-one-value, placed-giver, giver-placed, placed-apart, seen-first, seen-before}
 use Rattle.order_file.specs.Contents.{initialState}
 use Rattle.orders.specs.Links.{lastOpposing, producer, earliestProduced, supporter, linkOf, conditionLink, goalLink, nthLink}
 use Rattle.links.specs.Linking.{runLink}
 
-module _ {m : Model} {x : ℕ → ℕ} {points begins : List ℕ} (known : PointsKnown m x points begins) (form : WellFormed m) (valid : Valid m x)
+module _ {m : Model} {x : ℕ → ℕ} {points begins : List ℕ} (known : PointsKnown m x points begins) (form : ClockedForm m) (valid : Valid m x)
     (f : ℕ) (h : f < m .facts) {t place run : ℕ} (parts : Parted points (getD begins f 0) (getD begins (f + 1) 0) t place)
     (so : Run points (getD begins f 0) place run) (v : ℕ) (b : v ≤ 1) (sees : seen m x f t ≡ v) where
   abbrev low : ℕ
@@ -40,7 +40,7 @@ module _ {m : Model} {x : ℕ → ℕ} {points begins : List ℕ} (known : Point
 
   -- the value seen at t is that of the point before
   last-is : low < place → valueAt points (place - 1) ≡ v
-  last-is l = sym (seen-before known f h (well-formed-ranged form) parts one l) ∙ sees
+  last-is l = sym (seen-before known f h (form-range form) parts one l) ∙ sees
 
   -- nothing opposes before t but what stands before the run
   opposed :
@@ -204,7 +204,7 @@ module _ {m : Model} {x : ℕ → ℕ} {points begins : List ℕ} (known : Point
             let from : low ≤ run = so .from in
             let to : run ≤ place = so .to in
             contrary
-            (ap₂ _&&_ (eq-eqb run low (omega arith)) (eq-eqb _ _ (sym (seen-first known f h (well-formed-ranged form) parts (omega arith)) ∙ sees)))
+            (ap₂ _&&_ (eq-eqb run low (omega arith)) (eq-eqb _ _ (sym (seen-first known f h (form-range form) parts (omega arith)) ∙ sees)))
             no-initial
       ]
 
@@ -222,7 +222,7 @@ module _ {m : Model} {x : ℕ → ℕ} {points begins : List ℕ} (known : Point
       (either initially)
       ∙ ap (λ c. cond (c && eqb (m .initial f) v) initialState (supporter m x f v t)) (sym unopposed)
 
-module _ {m : Model} {x : ℕ → ℕ} {points begins : List ℕ} (known : PointsKnown m x points begins) (form : WellFormed m) (valid : Valid m x) where
+module _ {m : Model} {x : ℕ → ℕ} {points begins : List ℕ} (known : PointsKnown m x points begins) (form : ClockedForm m) (valid : Valid m x) where
   -- The condition at place p among those of fact f.
   module _ (f p : ℕ) (h : f < m .facts) (from : getD begins (wantedGroup m f) 0 ≤ p) (to : p < getD begins (wantedGroup m f + 1) 0) where
     condition-sees : seen m x f (tickAt points p) ≡ valueAt points p

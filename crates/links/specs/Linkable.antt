@@ -4,7 +4,7 @@ use mathlib.Core.List.{List}
 use lib.ListN.{length}
 use Rattle.laws.specs.Listed.{Filled}
 use Rattle.job.specs.Model.{Model}
-use Rattle.job.specs.WellFormed.{WellFormed}
+use Rattle.job.specs.Clocked.{ClockedForm}
 use Rattle.validity.specs.Valid.{Valid}
 use Rattle.points.specs.Points.{PointsKnown}
 use Rattle.orders.specs.Links.{nthLink}
@@ -13,9 +13,9 @@ use Rattle.orders.specs.Links.{nthLink}
 abbrev pub OfValid : Model → List ℕ → List ℕ → Type 0
 OfValid m points begins = (x : ℕ → ℕ) × PointsKnown m x points begins × Valid m x
 
--- those of a well-formed job, and a list with room for all links
+-- those of a well-formed job with its timed facts among its effects, and a list with room for all links
 pub record Linkable (m : Model) (points begins links : List ℕ) : Type 0 where
-  pub form : WellFormed m
+  pub form : ClockedForm m
   pub some : OfValid m points begins
   pub room : m .conditions + m .goals ≤ length links
 

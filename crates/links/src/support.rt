@@ -5,7 +5,7 @@ ghost use Prim.Native.Nat.{_+_, _<_};
 ghost use lib.Dec.{eqb};
 ghost use lib.ListN.{length};
 ghost use Rattle.job.specs.Model.{view};
-ghost use Rattle.job.specs.WellFormed.{WellFormed};
+ghost use Rattle.job.specs.Clocked.{clocked, ClockedForm};
 ghost use Rattle.points.specs.Points.{Wanting};
 ghost use Rattle.links.specs.Linkable.{OfValid, Linkable, LinksFound};
 ghost use Rattle.links.specs.Linking.{runLink, LinkIs, LinksPut, FromTo};
@@ -32,7 +32,7 @@ fn run_link(
     run: usize,
 ) -> u16
     requires { ⌜ ((eqb run low && eqb (view job (now s) .initial fact) value) ≡ false → run < length (now points)) ⌝ }
-    ensures { λ r. ⌜ r ≡ runLink (view job (now (s .entry))) (now (points .entry)) fact value low run ⌝ }
+    ensures { λ r. ⌜ r ≡ runLink (clocked (view job (now (s .entry)))) (now (points .entry)) fact value low run ⌝ }
 {
     if (run == low) & (fact_at(s, job, fact) == value) {
         return INITIAL_STATE;
@@ -42,9 +42,9 @@ fn run_link(
 
 // Puts the link of each condition of a fact: along the conditions and, beside them, its setters.
 fn link_fact(s: &[u8], job: Job, points: &[u64], begins: &[u16], fact: u16, links: &mut [u16])
-    requires { ⌜ Linkable (view job (now s)) (now points) (now begins) (now links) × (fact < job .count .facts) ⌝ }
-    ensures { λ _. ⌜ LinksPut (view job (now (s .entry))) (now (points .entry)) (now (begins .entry))
-        (Wanting (view job (now (s .entry))) fact) (now (links .entry)) (now (links .exit)) ⌝ }
+    requires { ⌜ Linkable (clocked (view job (now s))) (now points) (now begins) (now links) × (fact < job .count .facts) ⌝ }
+    ensures { λ _. ⌜ LinksPut (clocked (view job (now (s .entry)))) (now (points .entry)) (now (begins .entry))
+        (Wanting (clocked (view job (now (s .entry)))) fact) (now (links .entry)) (now (links .exit)) ⌝ }
 {
     let low = begin_at(begins, fact as usize);
     let high = begin_at(begins, fact as usize + 1);
@@ -65,8 +65,8 @@ fn link_fact(s: &[u8], job: Job, points: &[u64], begins: &[u16], fact: u16, link
 }
 
 fn link_conditions(s: &[u8], job: Job, points: &[u64], begins: &[u16], links: &mut [u16])
-    requires { ⌜ Linkable (view job (now s)) (now points) (now begins) (now links) ⌝ }
-    ensures { λ _. ⌜ LinksPut (view job (now (s .entry))) (now (points .entry)) (now (begins .entry))
+    requires { ⌜ Linkable (clocked (view job (now s))) (now points) (now begins) (now links) ⌝ }
+    ensures { λ _. ⌜ LinksPut (clocked (view job (now (s .entry)))) (now (points .entry)) (now (begins .entry))
         (λ c. c < job .count .conditions) (now (links .entry)) (now (links .exit)) ⌝ }
 {
     let mut fact = 0;
@@ -77,8 +77,8 @@ fn link_conditions(s: &[u8], job: Job, points: &[u64], begins: &[u16], links: &m
 }
 
 fn goal_link(s: &[u8], job: Job, points: &[u64], begins: &[u16], g: u16) -> u16
-    requires { ⌜ WellFormed (view job (now s)) × OfValid (view job (now s)) (now points) (now begins) × (g < job .count .goals) ⌝ }
-    ensures { λ r. ⌜ LinkIs (view job (now (s .entry))) (now (points .entry)) (now (begins .entry)) (job .count .conditions + g) r ⌝ }
+    requires { ⌜ ClockedForm (clocked (view job (now s))) × OfValid (clocked (view job (now s))) (now points) (now begins) × (g < job .count .goals) ⌝ }
+    ensures { λ r. ⌜ LinkIs (clocked (view job (now (s .entry)))) (now (points .entry)) (now (begins .entry)) (job .count .conditions + g) r ⌝ }
 {
     let goal = goal_at(s, job, g);
     let fact = goal.fact;
@@ -90,8 +90,8 @@ fn goal_link(s: &[u8], job: Job, points: &[u64], begins: &[u16], g: u16) -> u16
 }
 
 fn link_goals(s: &[u8], job: Job, points: &[u64], begins: &[u16], links: &mut [u16])
-    requires { ⌜ Linkable (view job (now s)) (now points) (now begins) (now links) ⌝ }
-    ensures { λ _. ⌜ LinksPut (view job (now (s .entry))) (now (points .entry)) (now (begins .entry))
+    requires { ⌜ Linkable (clocked (view job (now s))) (now points) (now begins) (now links) ⌝ }
+    ensures { λ _. ⌜ LinksPut (clocked (view job (now (s .entry)))) (now (points .entry)) (now (begins .entry))
         (FromTo (job .count .conditions) (job .count .conditions + job .count .goals)) (now (links .entry)) (now (links .exit)) ⌝ }
 {
     let mut g = 0;
@@ -103,8 +103,8 @@ fn link_goals(s: &[u8], job: Job, points: &[u64], begins: &[u16], links: &mut [u
 
 // Puts the link of each condition, then of each goal, of a valid schedule into a list.
 pub fn find_links(s: &[u8], job: Job, points: &[u64], begins: &[u16], links: &mut [u16])
-    requires { ⌜ Linkable (view job (now s)) (now points) (now begins) (now links) ⌝ }
-    ensures { λ _. ⌜ LinksFound (view job (now (s .entry))) (now (points .entry)) (now (begins .entry))
+    requires { ⌜ Linkable (clocked (view job (now s))) (now points) (now begins) (now links) ⌝ }
+    ensures { λ _. ⌜ LinksFound (clocked (view job (now (s .entry)))) (now (points .entry)) (now (begins .entry))
         (now (links .entry)) (now (links .exit)) ⌝ }
 {
     link_conditions(s, job, points, begins, links);

@@ -6,18 +6,18 @@ use native.Mathlib.Decide.{decLt, ℕ-discrete}
 use native.Mathlib.Omega.{arith}
 use lib.ListN.{getD}
 use Rattle.job.specs.Model.{Model}
-use Rattle.job.specs.WellFormed.{WellFormed, Ranged}
+use Rattle.job.specs.Clocked.{ClockedForm}
 use Rattle.timeline.specs.Words.{numberAt, tickAt, valueAt}
 use Rattle.timeline.specs.Placed.{Parted}
 use Rattle.validity.specs.Ticks.{effectTick}
 use Rattle.validity.specs.Seen.{seen}
 use Rattle.validity.specs.Valid.{Valid}
 use Rattle.validity.proofs.Seen.{Giver, seen-by-effect, seen-by-initial}
-use Rattle.points.specs.Points.{PointsKnown, OneValue}
+use Rattle.points.specs.Points.{ClockedRange, PointsKnown, OneValue}
 
 -- in a well-formed job, steps of a valid schedule apart, no two effects give a fact different values at one tick
 pub one-value :
-    {m : Model} (x : ℕ → ℕ) → WellFormed m
+    {m : Model} (x : ℕ → ℕ) → ClockedForm m
     → ((e f : ℕ) → e < m .effects → f < m .effects → (m .effectStep e ≡ m .effectStep f → ⊥) → m .effectFact e ≡ m .effectFact f
     → effectTick m x e ≡ effectTick m x f
     → m .effectValue e ≡ m .effectValue f)
@@ -30,7 +30,7 @@ one-value {m} x form apart e f h g same tick =
       | no s ↦ apart e f h g s same tick
     ]
 
-pub valid-one-value : {m : Model} {x : ℕ → ℕ} → WellFormed m → Valid m x → OneValue m x
+pub valid-one-value : {m : Model} {x : ℕ → ℕ} → ClockedForm m → Valid m x → OneValue m x
 valid-one-value {m} {x} form valid = one-value x form (valid .effectsApart)
 
 -- The setters of fact f.
@@ -79,7 +79,7 @@ module _ {m : Model} {x : ℕ → ℕ} {points begins : List ℕ} (known : Point
             ∙ b .ofValue))
       ]
 
-  module _ (form : Ranged m) {t r : ℕ} (parts : Parted points (getD begins f 0) (getD begins (f + 1) 0) t r) where
+  module _ (form : ClockedRange m) {t r : ℕ} (parts : Parted points (getD begins f 0) (getD begins (f + 1) 0) t r) where
     -- where nothing stands before tick t, the initial value is seen
     pub seen-first : r ≤ getD begins f 0 → seen m x f t ≡ m .initial f
     seen-first none =

@@ -5,9 +5,11 @@ use mathlib.Core.List.{List}
 use native.Mathlib.Decide.{decLt}
 use native.Mathlib.Omega.{arith}
 use lib.ListN.{length, getD}
-use Rattle.job.specs.Model.{Model, longest}
+use borrow.Author.Tests.{le-ltb}
+use Rattle.job.specs.Clocked.{clocked}
+use Rattle.job.specs.Model.{Model, lastTimed}
 use Rattle.job.specs.WellFormed.{Ranged}
-use Rattle.points.specs.Points.{Setter, Wanting, Using, wantedGroup, usedGroup, groupCount, PointsKnown}
+use Rattle.points.specs.Points.{ClockedRange, Setter, Wanting, Using, wantedGroup, usedGroup, groupCount, PointsKnown}
 use Rattle.points.specs.Words.{pointCount, conditionWord, effectWord, useWord, WordsListed}
 use Rattle.timeline.proofs.Words.{step-back, value-back, number-back, tick-back, group-back}
 use Rattle.timeline.specs.Placed.{Placed}
@@ -154,11 +156,11 @@ module _ {P : ℕ → Type 0} {g : ℕ} {tick value step : ℕ → ℕ} {n group
         ordered = numbers-order;
       }
 
--- What the words of a job are made of, but for a start: offsets are at most the longest length.
+-- What the words of a job are made of, but for a start: no offset lies after the last tick of a timed fact.
 pub record Parts (g first last k v s : ℕ) : Type 0 where
   pub group : g < groupSpan
   pub rises : first ≤ last
-  pub within : last ≤ longest
+  pub within : last ≤ lastTimed
   pub number : k < numberSpan
   pub value : v < valueSpan
   pub step : s < stepSpan
@@ -189,6 +191,17 @@ module _ {m : Model} (form : Ranged m) where
         step = omega arith;
       }
 
+  pub timed-parts : (j : ℕ) → j < m .timed → Parts (m .timedFact j) (m .timedTick j) (m .timedTick j) (m .effects + j) (m .timedValue j) (m .steps)
+  timed-parts j h =
+      record {
+        group = omega (arith, form .timedFact j h);
+        rises = omega arith;
+        within = form .timedTick j h;
+        number = omega (arith, form .effectCount, form .timedCount);
+        value = omega (arith, form .timedValue j h);
+        step = omega (arith, form .stepCount);
+      }
+
   pub use-parts : (u : ℕ) → u < m .uses → Parts (usedGroup m (m .useLevel u)) (m .useAt u) (m .useAt u) u 0 (m .useStep u)
   use-parts u h =
       let step = form .useStep u h in
@@ -201,23 +214,47 @@ module _ {m : Model} (form : Ranged m) where
         step = omega arith;
       }
 
--- The words of a well-formed job.
-module _ {m : Model} {x : ℕ → ℕ} {list : List ℕ} (form : Ranged m) (known : WordsListed m x list) where
+-- The word and the tick of a timed fact, as an effect of the clock.
+pub clock-word :
+    (m : Model) (x : ℕ → ℕ) (j : ℕ)
+    → (wordOf (m .timedFact j) (x (m .steps) + m .timedTick j) (m .effects + j) (m .timedValue j) (m .steps) ≡ effectWord (clocked m) x (m .effects + j))
+    × (x (m .steps) + m .timedTick j ≡ effectTick (clocked m) x (m .effects + j))
+clock-word m x j =
+    let back : m .effects + j - m .effects ≡ j = omega arith in
+    rw (le-ltb (m .effects + j) (m .effects) (omega arith), back) (refl, refl)
+
+-- The words of a job, its timed facts among its effects.
+module _ {m : Model} {x : ℕ → ℕ} {list : List ℕ} (form : ClockedRange m) (known : WordsListed m x list) where
   condition-made : (c : ℕ) → c < m .conditions
       → Made (conditionWord m x c) (wantedGroup m (m .conditionFact c)) (firstTick m x c) c (m .conditionValue c) (m .conditionStep c)
   condition-made c h =
-      let a = condition-parts form c h in
-      record { is = refl; tick = known .conditions c h .1; number = a .number; value = a .value; step = a .step }
+      record {
+        is = refl;
+        tick = known .conditions c h .1;
+        number = omega (arith, form .conditionCount);
+        value = omega (arith, form .conditionValue c h);
+        step = omega (arith, form .conditionStep c h, form .stepCount);
+      }
 
   effect-made : (e : ℕ) → e < m .effects → Made (effectWord m x e) (m .effectFact e) (effectTick m x e) e (m .effectValue e) (m .effectStep e)
   effect-made e h =
-      let a = effect-parts form e h in
-      record { is = refl; tick = known .effects e h .1; number = a .number; value = a .value; step = a .step }
+      record {
+        is = refl;
+        tick = known .effects e h .1;
+        number = omega (arith, form .effectCount);
+        value = omega (arith, form .effectValue e h);
+        step = omega (arith, form .effectStep e h, form .stepCount);
+      }
 
   use-made : (u : ℕ) → u < m .uses → Made (useWord m x u) (usedGroup m (m .useLevel u)) (useTick m x u) u 0 (m .useStep u)
   use-made u h =
-      let a = use-parts form u h in
-      record { is = refl; tick = known .uses u h .1; number = a .number; value = a .value; step = a .step }
+      record {
+        is = refl;
+        tick = known .uses u h .1;
+        number = omega (arith, form .useCount);
+        value = omega arith;
+        step = omega (arith, form .useStep u h, form .stepCount);
+      }
 
   -- what holds of every place and word holds of each kind's
   each : (Q : ℕ → ℕ → Type 0)

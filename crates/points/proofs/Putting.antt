@@ -1,15 +1,18 @@
--- A loop that puts words into a list one by one, and the list that three such loops leave.
-use Prim.Native.Nat.{ℕ, _+_, _≤_, _<_}
-use mathlib.Core.Path.{_≡_, refl, _∙_}
+-- A loop that puts words into a list one by one, and the list that four such loops leave.
+use Prim.Native.Nat.{ℕ, _+_, _-_, _≤_, _<_}
+use mathlib.Core.Path.{_≡_, refl, ap, subst, _∙_}
 use mathlib.Core.List.{List}
-use native.Mathlib.Decide.{ℕ-discrete}
+use native.Mathlib.Decide.{decLt, ℕ-discrete}
 use native.Mathlib.Nat.{zero-add}
 use native.Mathlib.Omega.{arith}
 use lib.ListN.{length, set, getD, length-set}
 use lib.Seq.{getD-set-same, getD-set-other}
+use borrow.Author.Tests.{lt-ltb}
 use Rattle.job.specs.Model.{Model}
-use Rattle.points.specs.Words.{WordsPut, ConditionsPut, EffectsPut, UsesPut, WordsListed}
+use Rattle.job.specs.Clocked.{clocked}
+use Rattle.points.specs.Words.{effectWord, WordsPut, ConditionsPut, EffectsPut, TimedPut, UsesPut, WordsListed}
 use Rattle.timeline.specs.Words.{tickSpan}
+use Rattle.validity.specs.Ticks.{effectTick}
 
 -- What the loop keeps: of n words from place `from` on the first k are put.
 pub record Putting (from n : ℕ) (word tick : ℕ → ℕ) (before list : List ℕ) (k : ℕ) : Type 0 where
@@ -56,15 +59,39 @@ module _ {from n : ℕ} {word tick : ℕ → ℕ} {before : List ℕ} where
     pub putting-end : n ≤ k → WordsPut from n word tick before list
     putting-end h = let q : k ≡ n = omega (arith, i .within) in rw q at (i .put)
 
--- Conditions, then effects, then uses: each loop leaves alone what those before it put.
-pub words-listed :
-    {m : Model} {x : ℕ → ℕ} {list₀ list₁ list₂ list₃ : List ℕ} → ConditionsPut m x list₀ list₁ → EffectsPut m x list₁ list₂ → UsesPut m x list₂ list₃
-    → WordsListed m x list₃
-words-listed {m} conditions effects uses =
-    record {
-      conditions = λ c h.
-          let put = rw zero-add at (conditions .each c h) in
-          (uses .kept c (omega arith) ∙ effects .kept c h ∙ put .0, put .1);
-      effects = λ e h. let put = effects .each e h in (uses .kept (m .conditions + e) (omega arith) ∙ put .0, put .1);
-      uses = λ u h. uses .each u h;
-    }
+-- Conditions, then effects, then timed facts, then uses: each loop leaves alone what those before it put.
+module _ (m : Model) (x : ℕ → ℕ) {list₀ list₁ list₂ list₃ list₄ : List ℕ} (conditions : ConditionsPut m x list₀ list₁)
+    (effects : EffectsPut m x list₁ list₂) (timed : TimedPut m x list₂ list₃) (uses : UsesPut (clocked m) x list₃ list₄) where
+  own-listed :
+      (e : ℕ) → e < m .effects
+      → (getD list₄ (m .conditions + e) 0 ≡ effectWord (clocked m) x e) × (effectTick (clocked m) x e < tickSpan)
+  own-listed e h =
+      let put = effects .each e h in
+      rw (lt-ltb e (m .effects) h)
+      (uses .kept (m .conditions + e) (omega arith) ∙ timed .kept (m .conditions + e) (omega arith) ∙ put .0, put .1)
+
+  timed-listed :
+      (j : ℕ) → j < m .timed
+      → (getD list₄ (m .conditions + (m .effects + j)) 0 ≡ effectWord (clocked m) x (m .effects + j))
+      × (effectTick (clocked m) x (m .effects + j) < tickSpan)
+  timed-listed j h =
+      let put = timed .each j h in
+      let at : m .conditions + (m .effects + j) ≡ m .conditions + m .effects + j = omega arith in
+      (uses .kept (m .conditions + (m .effects + j)) (omega arith) ∙ ap (λ p. getD list₃ p 0) at ∙ put .0, put .1)
+
+  pub words-listed : WordsListed (clocked m) x list₄
+  words-listed =
+      record {
+        conditions = λ c h.
+            let put = rw zero-add at (conditions .each c h) in
+            (uses .kept c (omega arith) ∙ timed .kept c (omega arith) ∙ effects .kept c h ∙ put .0, put .1);
+        effects = λ e h.
+            elim (decLt e (m .effects)) [
+              | yes l ↦ own-listed e l
+              | no l ↦
+                  subst (λ k. (getD list₄ (m .conditions + k) 0 ≡ effectWord (clocked m) x k) × (effectTick (clocked m) x k < tickSpan))
+                  (let back : m .effects + (e - m .effects) ≡ e = omega arith in back)
+                  (timed-listed (e - m .effects) (omega arith))
+            ];
+        uses = λ u h. uses .each u h;
+      }

@@ -1,11 +1,31 @@
 -- Between crates: what is known of a job's points before they are walked along: the setters of each fact, its conditions, and the uses of each level.
-use Prim.Native.Nat.{ℕ, _+_, _<_}
+use Prim.Native.Nat.{ℕ, _+_, _≤_, _<_}
 use mathlib.Core.Path.{_≡_}
 use mathlib.Core.List.{List}
 use lib.ListN.{length, getD}
+use Rattle.job.specs.Layout.{mostFacts, mostLevels, mostSteps, mostConditions, mostUses}
 use Rattle.job.specs.Model.{Model}
+use Rattle.job.specs.Clocked.{mostSetters}
 use Rattle.timeline.specs.Placed.{Placed}
 use Rattle.validity.specs.Ticks.{effectTick, firstTick, useTick}
+
+-- what the points of a job rely on, its timed facts among its effects: what refusals 1 to 6 leave of it
+pub record ClockedRange (m : Model) : Type 0 where
+  pub factCount : m .facts ≤ mostFacts
+  pub levelCount : m .levels ≤ mostLevels
+  pub stepCount : m .steps ≤ mostSteps
+  pub conditionCount : m .conditions ≤ mostConditions
+  pub effectCount : m .effects ≤ mostSetters
+  pub useCount : m .uses ≤ mostUses
+  pub initialValue : (k : ℕ) → k < m .facts → m .initial k ≤ 1
+  pub conditionStep : (k : ℕ) → k < m .conditions → m .conditionStep k < m .steps
+  pub conditionFact : (k : ℕ) → k < m .conditions → m .conditionFact k < m .facts
+  pub conditionValue : (k : ℕ) → k < m .conditions → m .conditionValue k ≤ 1
+  pub effectStep : (k : ℕ) → k < m .effects → m .effectStep k ≤ m .steps
+  pub effectFact : (k : ℕ) → k < m .effects → m .effectFact k < m .facts
+  pub effectValue : (k : ℕ) → k < m .effects → m .effectValue k ≤ 1
+  pub useStep : (k : ℕ) → k < m .uses → m .useStep k < m .steps
+  pub useLevel : (k : ℕ) → k < m .uses → m .useLevel k < m .levels
 
 -- an effect on fact f, a condition on fact f, a use of level l
 abbrev pub Setter : Model → ℕ → ℕ → Type 0

@@ -1,10 +1,13 @@
--- Between crates: the points of a job as words: those of its conditions, then of its effects, then of its uses, before they are sorted.
+-- Between crates: the points of a job as words: those of its conditions, then of its effects, its timed facts behind them, then of its uses,
+-- before they are sorted.
 use Prim.Native.Nat.{ℕ, _+_, _≤_, _<_}
 use mathlib.Core.Path.{_≡_}
 use mathlib.Core.List.{List}
 use lib.ListN.{length, getD}
 use Rattle.job.specs.declared.layout.Counts.{Counts}
+use Rattle.job.specs.declared.layout.Job.{Job}
 use Rattle.job.specs.Model.{Model}
+use Rattle.job.specs.Clocked.{clocked}
 use Rattle.points.specs.Points.{wantedGroup, usedGroup, groupCount}
 use Rattle.timeline.specs.Words.{tickSpan, wordOf}
 use Rattle.validity.specs.Ticks.{effectTick, firstTick, useTick}
@@ -36,6 +39,11 @@ ConditionsPut m x = WordsPut 0 (m .conditions) (conditionWord m x) (firstTick m 
 abbrev pub EffectsPut : Model → (ℕ → ℕ) → List ℕ → List ℕ → Type 0
 EffectsPut m x = WordsPut (m .conditions) (m .effects) (effectWord m x) (effectTick m x)
 
+-- those of its timed facts behind its effects
+abbrev pub TimedPut : Model → (ℕ → ℕ) → List ℕ → List ℕ → Type 0
+TimedPut m x =
+    WordsPut (m .conditions + m .effects) (m .timed) (λ j. effectWord (clocked m) x (m .effects + j)) (λ j. effectTick (clocked m) x (m .effects + j))
+
 abbrev pub UsesPut : Model → (ℕ → ℕ) → List ℕ → List ℕ → Type 0
 UsesPut m x = WordsPut (m .conditions + m .effects) (m .uses) (useWord m x) (useTick m x)
 
@@ -58,7 +66,33 @@ fewPoints = 192
 abbrev pub fewGroups : ℕ
 fewGroups = 80
 
+-- how many points and groups there are, by the counts
+unfoldable pub pointsCounted : Counts → ℕ
+pointsCounted n = n .conditions + (n .effects + n .timed) + n .uses
+
+unfoldable pub groupsCounted : Counts → ℕ
+groupsCounted n = n .facts + n .facts + n .levels
+
 -- the counts of a small job
 pub record Small (n : Counts) : Type 0 where
-  pub points : n .conditions + n .effects + n .uses ≤ fewPoints
+  pub points : n .conditions + n .effects + n .timed + n .uses ≤ fewPoints
   pub groups : n .facts + n .facts + n .levels ≤ fewGroups
+
+-- a job without its timed facts
+unfoldable pub untimed : Job → Job
+untimed j =
+    record {
+      edition = j .edition;
+      serial = j .serial;
+      count = record {
+        facts = j .count .facts;
+        levels = j .count .levels;
+        steps = j .count .steps;
+        conditions = j .count .conditions;
+        effects = j .count .effects;
+        uses = j .count .uses;
+        goals = j .count .goals;
+        timed = 0;
+      };
+      at = j .at;
+    }

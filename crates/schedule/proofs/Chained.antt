@@ -14,7 +14,7 @@ use Rattle.verdict.specs.declared.Verdict.the-variants.{Accepted, EffectsConfli
 use Rattle.verdict.specs.Verdict.{number, _then_, refuseIf, refuseLowest}
 use Rattle.verdict.proofs.Chain.{first-refused, lowest-refused, lowest-passed, then-zero, refuse-zero}
 use Rattle.job.specs.Model.{Model}
-use Rattle.job.specs.WellFormed.{WellFormed}
+use Rattle.job.specs.Clocked.{ClockedForm}
 use Rattle.validity.specs.declared.Rule.the-variants.{FixedSteps, Effects, Conditions, Levels, Goals, Steps}
 use Rattle.validity.specs.Ticks.{scheduleOf}
 use Rattle.validity.specs.Checks.{conflicts, countCheck, ruleCheck, timingCheck}
@@ -61,7 +61,7 @@ module _ (m : Model) (x : ℕ → ℕ) {k : ℕ} (found : k ≡ lowest (m .effec
   others-decide h e = e ∙ ap (settledCheck m x) (lowest-passed (m .effects) (conflicts m x) EffectsConflict found h)
 
   -- and no two effects give a fact different values at one tick
-  pub none-conflict : WellFormed m → m .effects ≤ k → OneValue m x
+  pub none-conflict : ClockedForm m → m .effects ≤ k → OneValue m x
   none-conflict form h =
       one-value x form
       (λ e f i j steps same tick.

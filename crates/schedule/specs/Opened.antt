@@ -8,6 +8,7 @@ use Rattle.job.specs.Layout.{jobOf}
 use Rattle.job_reader.specs.Laid.{Laid}
 use Rattle.job.specs.Model.{view, modelOf}
 use Rattle.job.specs.WellFormed.{Ranged}
+use Rattle.job.specs.Clocked.{clocked}
 use Rattle.record_check.specs.declared.Form.{Form}
 use Rattle.record_check.specs.Header.{headerCheck}
 use Rattle.record_check.specs.Records.{recordCheck}
@@ -31,4 +32,4 @@ pub record Opened (s : List ℕ) (r : Form) : Type 0 where
 pub record Planned (s : List ℕ) (job : Job) (starts points begins : List ℕ) : Type 0 where
   pub read : Read s job
   pub written : starts ≡ plannedStarts (view job s)
-  pub known : PointsKnown (view job s) (scheduleOf starts) points begins
+  pub known : PointsKnown (clocked (view job s)) (scheduleOf starts) points begins

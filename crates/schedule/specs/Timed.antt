@@ -9,6 +9,7 @@ use Rattle.verdict.specs.Verdict.{_then_}
 use Rattle.job.specs.declared.layout.Job.{Job}
 use Rattle.job.specs.Model.{Model, view}
 use Rattle.job.specs.WellFormed.{WellFormed}
+use Rattle.job.specs.Clocked.{clocked}
 use Rattle.validity.specs.declared.Rule.the-variants.{Conditions, Levels, Goals, Steps}
 use Rattle.validity.specs.Ticks.{scheduleOf}
 use Rattle.validity.specs.Checks.{conditionFails, ruleCheck}
@@ -18,7 +19,7 @@ use Rattle.schedule.specs.Opened.{Read}
 -- a file that refusals 1 to 6 pass, and its points in the order of their ticks
 pub record Ordered (s : List ℕ) (job : Job) (starts points begins : List ℕ) : Type 0 where
   pub read : Read s job
-  pub known : PointsKnown (view job s) (scheduleOf starts) points begins
+  pub known : PointsKnown (clocked (view job s)) (scheduleOf starts) points begins
 
 -- nothing is against itself, no two effects give a fact different values at one tick, and no condition fails
 pub record Clear (m : Model) (x : ℕ → ℕ) : Type 0 where
@@ -33,18 +34,18 @@ pub record Clear (m : Model) (x : ℕ → ℕ) : Type 0 where
       → m .effectValue e ≡ m .conditionValue c
   pub noneFails : m .conditions ≡ lowest (m .conditions) (conditionFails m x)
 
--- a well-formed job and its points in order
+-- a well-formed job and its points in order, those of its timed facts among them
 pub record FormedPoints (m : Model) (x : ℕ → ℕ) (points begins : List ℕ) : Type 0 where
   pub form : WellFormed m
-  pub known : PointsKnown m x points begins
+  pub known : PointsKnown (clocked m) x points begins
 
 -- besides, one start a step, no two effects that give a fact different values at one tick, and the lowest condition that fails
 pub record Settled (m : Model) (starts points begins : List ℕ) (c : ℕ) : Type 0 where
   pub form : WellFormed m
-  pub known : PointsKnown m (scheduleOf starts) points begins
-  pub oneValue : OneValue m (scheduleOf starts)
+  pub known : PointsKnown (clocked m) (scheduleOf starts) points begins
+  pub oneValue : OneValue (clocked m) (scheduleOf starts)
   pub counted : length starts ≡ m .steps
-  pub failing : c ≡ lowest (m .conditions) (conditionFails m (scheduleOf starts))
+  pub failing : c ≡ lowest (m .conditions) (conditionFails (clocked m) (scheduleOf starts))
 
 -- refusals 11 to 14 after a verdict
 abbrev pub settledCheck : Model → (ℕ → ℕ) → Verdict → Verdict

@@ -4,9 +4,12 @@ ghost use mathlib.Core.Bool.{true};
 ghost use lib.ListN.{length};
 ghost use Rattle.job.specs.Model.{view};
 ghost use Rattle.job.specs.WellFormed.{Ranged};
+ghost use Rattle.job.specs.Clocked.{clocked};
+ghost use Rattle.job_reader.specs.Laid.{Laid};
 ghost use Rattle.verdict.specs.declared.Verdict.the-variants.{Accepted};
 ghost use Rattle.verdict.specs.Verdict.{_then_};
 ghost use Rattle.self_check.specs.Against.{stepCheck};
+ghost use Rattle.self_check.specs.Clock.{timedCheck};
 ghost use Rattle.validity.specs.declared.Rule.the-variants.{FixedSteps};
 ghost use Rattle.validity.specs.Ticks.{scheduleOf};
 ghost use Rattle.validity.specs.Checks.{ruleCheck, timingCheck, countCheck, startsCheck};
@@ -43,7 +46,7 @@ fn check_settled(
     c: u16,
 ) -> Verdict
     requires { ⌜ Settled (view job (now s)) (now starts) (now points) (now begins) c ⌝ }
-    ensures { λ r. ⌜ r ≡ settledCheck (view job (now (s .entry))) (scheduleOf (now (starts .entry))) Accepted ⌝ }
+    ensures { λ r. ⌜ r ≡ settledCheck (clocked (view job (now (s .entry)))) (scheduleOf (now (starts .entry))) Accepted ⌝ }
 {
     let v = Verdict::Accepted;
     let v = refuse_if(v, c < job.count.conditions, Verdict::ConditionFails(c));
@@ -59,10 +62,10 @@ fn check_settled(
 fn check_timing(s: &[u8], job: Job, starts: &[u32], points: &[u64], begins: &[u16]) -> Verdict
     requires { ⌜ FormedPoints (view job (now s)) (scheduleOf (now starts)) (now points) (now begins)
         × (length (now starts) ≡ job .count .steps) ⌝ }
-    ensures { λ r. ⌜ r ≡ timingCheck (view job (now (s .entry))) (scheduleOf (now (starts .entry))) ⌝ }
+    ensures { λ r. ⌜ r ≡ timingCheck (clocked (view job (now (s .entry)))) (scheduleOf (now (starts .entry))) ⌝ }
 {
     let e = effects::first_conflict(s, job, starts, points, begins);
-    if e < job.count.effects {
+    if e < job.count.effects + job.count.timed {
         return Verdict::EffectsConflict(e);
     }
     let c = conditions::first_contested(s, job, starts, points, begins);
@@ -71,8 +74,8 @@ fn check_timing(s: &[u8], job: Job, starts: &[u32], points: &[u64], begins: &[u1
 
 // Refusals 8 and 9.
 fn check_starts(s: &[u8], job: Job, starts: &[u32]) -> Verdict
-    ensures { λ r. ⌜ r ≡ (countCheck (view job (now (s .entry))) (now (starts .entry))
-        then ruleCheck (view job (now (s .entry))) (scheduleOf (now (starts .entry))) FixedSteps) ⌝ }
+    ensures { λ r. ⌜ r ≡ (countCheck (clocked (view job (now (s .entry)))) (now (starts .entry))
+        then ruleCheck (clocked (view job (now (s .entry)))) (scheduleOf (now (starts .entry))) FixedSteps) ⌝ }
 {
     let other = starts.len() != job.count.steps as usize;
     let v = refuse_if(Verdict::Accepted, other, Verdict::StartsMiscounted);
@@ -83,7 +86,7 @@ fn check_starts(s: &[u8], job: Job, starts: &[u32]) -> Verdict
 // Refusals 8 to 14, of a well-formed job, rule by rule.
 fn check_formed(s: &[u8], job: Job, starts: &[u32], points: &[u64], begins: &[u16]) -> Verdict
     requires { ⌜ FormedPoints (view job (now s)) (scheduleOf (now starts)) (now points) (now begins) ⌝ }
-    ensures { λ r. ⌜ r ≡ startsCheck (view job (now (s .entry))) (now (starts .entry)) ⌝ }
+    ensures { λ r. ⌜ r ≡ startsCheck (clocked (view job (now (s .entry)))) (now (starts .entry)) ⌝ }
 {
     let v = check_starts(s, job, starts);
     if number(v) != 0 {
@@ -95,8 +98,8 @@ fn check_formed(s: &[u8], job: Job, starts: &[u32], points: &[u64], begins: &[u1
 // Refusals 8, 9 and 12 to 14, where the walks found nothing else wrong.
 fn check_clear(s: &[u8], job: Job, starts: &[u32], points: &[u64], begins: &[u16]) -> Verdict
     requires { ⌜ FormedPoints (view job (now s)) (scheduleOf (now starts)) (now points) (now begins)
-        × Clear (view job (now s)) (scheduleOf (now starts)) ⌝ }
-    ensures { λ r. ⌜ r ≡ startsCheck (view job (now (s .entry))) (now (starts .entry)) ⌝ }
+        × Clear (clocked (view job (now s))) (scheduleOf (now starts)) ⌝ }
+    ensures { λ r. ⌜ r ≡ startsCheck (clocked (view job (now (s .entry)))) (now (starts .entry)) ⌝ }
 {
     let v = check_starts(s, job, starts);
     if number(v) != 0 {
@@ -107,8 +110,8 @@ fn check_clear(s: &[u8], job: Job, starts: &[u32], points: &[u64], begins: &[u16
 
 // Whether the walks find nothing wrong: nothing is against itself, nothing conflicts, and no condition fails.
 fn is_clear(s: &[u8], job: Job, starts: &[u32], points: &[u64], begins: &[u16]) -> bool
-    requires { ⌜ Ranged (view job (now s)) × PointsKnown (view job (now s)) (scheduleOf (now starts)) (now points) (now begins) ⌝ }
-    ensures { λ r. ⌜ (r ≡ true → Clear (view job (now (s .entry))) (scheduleOf (now (starts .entry)))) ⌝ }
+    requires { ⌜ Ranged (view job (now s)) × PointsKnown (clocked (view job (now s))) (scheduleOf (now starts)) (now points) (now begins) ⌝ }
+    ensures { λ r. ⌜ (r ≡ true → Clear (clocked (view job (now (s .entry)))) (scheduleOf (now (starts .entry)))) ⌝ }
 {
     if effects::any_mixed(job.count.facts, points, begins) {
         return false;
@@ -119,22 +122,36 @@ fn is_clear(s: &[u8], job: Job, starts: &[u32], points: &[u64], begins: &[u16]) 
     conditions::first_contested(s, job, starts, points, begins) == job.count.conditions
 }
 
-// Refusals 7 to 14, where the walks found something wrong: the search by pairs says whether a step is against itself.
-fn check_named(s: &[u8], job: Job, starts: &[u32], points: &[u64], begins: &[u16]) -> Verdict
-    requires { ⌜ Ordered (now s) job (now starts) (now points) (now begins) ⌝ }
-    ensures { λ r. ⌜ r ≡ (stepCheck (view job (now (s .entry))) then startsCheck (view job (now (s .entry))) (now (starts .entry))) ⌝ }
+// Refusals 7 and 17.
+fn check_against(s: &[u8], job: Job) -> Verdict
+    requires { ⌜ Laid job (now s) × Ranged (view job (now s)) ⌝ }
+    ensures { λ r. ⌜ r ≡ (stepCheck (view job (now (s .entry))) then timedCheck (view job (now (s .entry)))) ⌝ }
 {
     let v = self_check::check_steps(s, job);
+    if number(v) != 0 {
+        return v;
+    }
+    self_check::clock::check_clock(s, job)
+}
+
+// Refusals 7 to 14 and 17, where the walks found something wrong: the search by pairs says whether a step or the clock is against itself.
+fn check_named(s: &[u8], job: Job, starts: &[u32], points: &[u64], begins: &[u16]) -> Verdict
+    requires { ⌜ Ordered (now s) job (now starts) (now points) (now begins) ⌝ }
+    ensures { λ r. ⌜ r ≡ (stepCheck (view job (now (s .entry))) then timedCheck (view job (now (s .entry)))
+        then startsCheck (clocked (view job (now (s .entry)))) (now (starts .entry))) ⌝ }
+{
+    let v = check_against(s, job);
     if number(v) != 0 {
         return v;
     }
     check_formed(s, job, starts, points, begins)
 }
 
-// Refusals 7 to 14, of points in the order of their ticks.
+// Refusals 7 to 14 and 17, of points in the order of their ticks.
 fn check_ordered(s: &[u8], job: Job, starts: &[u32], points: &[u64], begins: &[u16]) -> Verdict
     requires { ⌜ Ordered (now s) job (now starts) (now points) (now begins) ⌝ }
-    ensures { λ r. ⌜ r ≡ (stepCheck (view job (now (s .entry))) then startsCheck (view job (now (s .entry))) (now (starts .entry))) ⌝ }
+    ensures { λ r. ⌜ r ≡ (stepCheck (view job (now (s .entry))) then timedCheck (view job (now (s .entry)))
+        then startsCheck (clocked (view job (now (s .entry)))) (now (starts .entry))) ⌝ }
 {
     if is_clear(s, job, starts, points, begins) {
         check_clear(s, job, starts, points, begins)
@@ -143,10 +160,11 @@ fn check_ordered(s: &[u8], job: Job, starts: &[u32], points: &[u64], begins: &[u
     }
 }
 
-// Refusals 7 to 14 of a small job.
+// Refusals 7 to 14 and 17 of a small job.
 fn check_small(s: &[u8], job: Job, starts: &[u32]) -> Verdict
     requires { ⌜ Read (now s) job × Small (job .count) ⌝ }
-    ensures { λ r. ⌜ r ≡ (stepCheck (view job (now (s .entry))) then startsCheck (view job (now (s .entry))) (now (starts .entry))) ⌝ }
+    ensures { λ r. ⌜ r ≡ (stepCheck (view job (now (s .entry))) then timedCheck (view job (now (s .entry)))
+        then startsCheck (clocked (view job (now (s .entry)))) (now (starts .entry))) ⌝ }
 {
     let mut spare = [0u64; FEW_POINTS];
     let mut points = [0u64; FEW_POINTS];
@@ -155,10 +173,11 @@ fn check_small(s: &[u8], job: Job, starts: &[u32]) -> Verdict
     check_ordered(s, job, starts, &points, &begins)
 }
 
-// Refusals 7 to 14.
+// Refusals 7 to 14 and 17.
 fn check_read(s: &[u8], job: Job, starts: &[u32]) -> Verdict
     requires { ⌜ Read (now s) job ⌝ }
-    ensures { λ r. ⌜ r ≡ (stepCheck (view job (now (s .entry))) then startsCheck (view job (now (s .entry))) (now (starts .entry))) ⌝ }
+    ensures { λ r. ⌜ r ≡ (stepCheck (view job (now (s .entry))) then timedCheck (view job (now (s .entry)))
+        then startsCheck (clocked (view job (now (s .entry)))) (now (starts .entry))) ⌝ }
 {
     if is_small(job) {
         return check_small(s, job, starts);
@@ -185,7 +204,8 @@ pub fn check_planned(s: &[u8], job: Job, starts: &[u32], points: &[u64], begins:
     check_ordered(s, job, starts, points, begins)
 }
 
-// Whether a job is sound: accepted, or the first of refusals 1 to 7 and 10 to 14 that fits, on the written starts.
+// Whether a job is sound: accepted, or the first of refusals 1 to 7, 17 and 10 to 14 that fits, on the written
+// starts.
 pub fn check_job(s: &[u8]) -> Verdict
     ensures { λ r. ⌜ JobPromise (now (s .entry)) r ⌝ }
 {
@@ -200,7 +220,7 @@ pub fn check_job(s: &[u8]) -> Verdict
     check_read(s, job, &starts[..n])
 }
 
-// Whether a list of starts is a sound timing of a job: accepted, or the first of refusals 1 to 14 that fits.
+// Whether a list of starts is a sound timing of a job: accepted, or the first of refusals 1 to 7, 17 and 8 to 14 that fits.
 pub fn check_schedule(s: &[u8], starts: &[u32]) -> Verdict
     ensures { λ r. ⌜ SchedulePromise (now (s .entry)) (now (starts .entry)) r ⌝ }
 {

@@ -3,6 +3,7 @@ use mathlib.Core.Path.{sym, ap, _∙_}
 use native.Mathlib.Omega.{arith}
 use denote.Ref.{now}
 use Rattle.job.specs.Model.{view}
+use Rattle.job.specs.Clocked.{clocked}
 use Rattle.verdict.specs.Verdict.{number}
 use Rattle.verdict.proofs.Chain.{stands, decides}
 use Rattle.validity.specs.Checks.{startsCheck}
@@ -21,7 +22,7 @@ check-clear-spec =
     (λ c. stands _ (c .before .before .check-starts .ensures) (c .before .number .ensures) (c .if1 .taken))
     (λ c κs.
     let start = c .before .before .before .before .before .before .before in
-    let m = view (start .args .job) (now (start .args .s)) in
+    let m = clocked (view (start .args .job) (now (start .args .s))) in
     let passed = sym (ap number (c .before .before .check-starts .ensures)) ∙ sym (c .before .number .ensures) ∙ c .if1 .left in
     let p = start .pre in
     record {

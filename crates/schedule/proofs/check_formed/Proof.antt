@@ -2,6 +2,7 @@
 use mathlib.Core.Path.{sym, ap, _∙_}
 use denote.Ref.{now}
 use Rattle.job.specs.Model.{view}
+use Rattle.job.specs.Clocked.{clocked}
 use Rattle.verdict.specs.Verdict.{number}
 use Rattle.verdict.proofs.Chain.{stands, decides}
 use Rattle.validity.specs.Checks.{startsCheck}
@@ -19,7 +20,7 @@ check-formed-spec =
     (λ c. stands _ (c .before .before .check-starts .ensures) (c .before .number .ensures) (c .if1 .taken))
     (λ c κs.
     let start = c .before .before .before .before .before .before .before in
-    let m = view (start .args .job) (now (start .args .s)) in
+    let m = clocked (view (start .args .job) (now (start .args .s))) in
     let passed = sym (ap number (c .before .before .check-starts .ensures)) ∙ sym (c .before .number .ensures) ∙ c .if1 .left in
     (start .pre, starts-counted m (now (start .args .starts)) passed))
     (λ c. decides (c .before .before .before .check-starts .ensures) (c .before .before .number .ensures) (c .before .if1 .left) (c .check-timing .ensures)))

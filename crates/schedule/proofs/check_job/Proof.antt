@@ -6,6 +6,7 @@ use native.Mathlib.Omega.{arith}
 use Rattle.verdict.specs.Verdict.{_then_}
 use Rattle.job.specs.declared.layout.Job.{Job}
 use Rattle.job.specs.Model.{view}
+use Rattle.job.specs.Clocked.{clocked}
 use Rattle.validity.specs.Ticks.{planned}
 use Rattle.validity.specs.Checks.{startsCheck, timingCheck, jobCheck}
 use Rattle.validity.proofs.Accepted.{job-promise}
@@ -40,5 +41,5 @@ check-job-spec =
     job-promise s
     (c .check-read .ensures
     ∙ ap₂ _then_ (read-form (passed d))
-    (ap (startsCheck (view j s)) (c .before .before .planned-starts .ensures .1) ∙ planned-check (view j s)
-    ∙ ap (λ (k : Job). timingCheck (view k s) (planned (view k s))) (passed d .header)))))
+    (ap (startsCheck (clocked (view j s))) (c .before .before .planned-starts .ensures .1) ∙ planned-check (clocked (view j s))
+    ∙ ap (λ (k : Job). timingCheck (clocked (view k s)) (planned (view k s))) (passed d .header)))))

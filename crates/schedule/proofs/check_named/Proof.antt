@@ -1,4 +1,4 @@
--- Refusal 7, then the others.
+-- Refusals 7 and 17, then the others.
 use mathlib.Core.Path.{sym, ap, _∙_}
 use Rattle.verdict.specs.Verdict.{number}
 use Rattle.verdict.proofs.Chain.{stands, decides}
@@ -13,9 +13,9 @@ check-named-spec =
     (tie.spec
     (λ c κs. let r = c .before .before .before .before .pre .read in (read-lies r, read-in-range r))
     (λ c κs. search needs)
-    (λ c. stands _ (c .before .before .check-steps .ensures) (c .before .number .ensures) (c .if1 .taken))
+    (λ c. stands _ (c .before .before .check-against .ensures) (c .before .number .ensures) (c .if1 .taken))
     (λ c κs.
     let p = c .before .before .before .before .before .before .before .pre in
-    let passed = sym (ap number (c .before .before .check-steps .ensures)) ∙ sym (c .before .number .ensures) ∙ c .if1 .left in
+    let passed = sym (ap number (c .before .before .check-against .ensures)) ∙ sym (c .before .number .ensures) ∙ c .if1 .left in
     record { form = read-formed (p .read) passed; known = p .known })
-    (λ c. decides (c .before .before .before .check-steps .ensures) (c .before .before .number .ensures) (c .before .if1 .left) (c .check-formed .ensures)))
+    (λ c. decides (c .before .before .before .check-against .ensures) (c .before .before .number .ensures) (c .before .if1 .left) (c .check-formed .ensures)))

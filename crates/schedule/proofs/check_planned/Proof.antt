@@ -4,6 +4,7 @@ use denote.Ref.{now}
 use Rattle.verdict.specs.Verdict.{_then_}
 use Rattle.job.specs.declared.layout.Job.{Job}
 use Rattle.job.specs.Model.{view}
+use Rattle.job.specs.Clocked.{clocked}
 use Rattle.validity.specs.Ticks.{planned}
 use Rattle.validity.specs.Checks.{startsCheck, timingCheck, jobCheck}
 use Rattle.validity.proofs.Accepted.{job-promise}
@@ -21,8 +22,8 @@ check-planned-spec =
     (λ c.
     let d = c .before .before .before .before .before in
     let s = now (d .args .s) in
-    let m = view (d .args .job) s in
+    let m = clocked (view (d .args .job) s) in
     job-promise s
     (c .check-ordered .ensures
     ∙ ap₂ _then_ (read-form (d .pre .read))
-    (ap (startsCheck m) (d .pre .written) ∙ planned-check m ∙ ap (λ (j : Job). timingCheck (view j s) (planned (view j s))) (d .pre .read .header)))))
+    (ap (startsCheck m) (d .pre .written) ∙ planned-check m ∙ ap (λ (j : Job). timingCheck (clocked (view j s)) (planned (view j s))) (d .pre .read .header)))))

@@ -5,6 +5,7 @@ use Rattle.verdict.specs.Verdict.{number, _then_}
 use Rattle.verdict.proofs.Chain.{then-refused}
 use Rattle.job.specs.declared.layout.Job.{Job}
 use Rattle.job.specs.Model.{view}
+use Rattle.job.specs.Clocked.{clocked}
 use Rattle.form.proofs.Decides.{read-refused}
 use Rattle.validity.specs.Checks.{startsCheck, scheduleCheck}
 use Rattle.validity.proofs.Accepted.{schedule-promise}
@@ -35,4 +36,4 @@ check-schedule-spec =
     let a = c .before .before .before .before .before .before .before .args in
     schedule-promise _ _
     (c .check-read .ensures
-    ∙ ap₂ _then_ (read-form (passed d)) (ap (λ (j : Job). startsCheck (view j (now (a .s))) (now (a .starts))) (passed d .header)))))
+    ∙ ap₂ _then_ (read-form (passed d)) (ap (λ (j : Job). startsCheck (clocked (view j (now (a .s)))) (now (a .starts))) (passed d .header)))))

@@ -3,6 +3,7 @@ use mathlib.Core.Path.{refl, ap₂, _∙_}
 use denote.Ref.{now}
 use Rattle.verdict.specs.Verdict.{_then_}
 use Rattle.job.specs.Model.{view}
+use Rattle.job.specs.Clocked.{clocked}
 use Rattle.validity.specs.Ticks.{scheduleOf}
 use Rattle.validity.specs.declared.Rule.the-variants.{Conditions, Levels, Goals, Steps}
 use Rattle.validity.specs.Checks.{ruleCheck, broken, countUnder, refusalOf}
@@ -31,7 +32,7 @@ check-settled-spec =
     let second = third .before .before .before in
     let first = second .before .before .before in
     let start = first .before .before .before .before .before .before in
-    let m = view (start .args .job) (now (start .args .s)) in
+    let m = clocked (view (start .args .job) (now (start .args .s))) in
     let x = scheduleOf (now (start .args .starts)) in
     let p = start .pre in
     c .refuse-if4 .ensures

@@ -2,6 +2,7 @@
 use mathlib.Core.Path.{ap₂, _∙_}
 use denote.Ref.{now}
 use Rattle.job.specs.Model.{view}
+use Rattle.job.specs.Clocked.{clocked}
 use Rattle.verdict.specs.Verdict.{_then_}
 use Rattle.verdict.proofs.Chain.{accepted-then}
 use Rattle.validity.specs.Ticks.{scheduleOf}
@@ -20,7 +21,7 @@ check-starts-spec =
     (λ c. search needs) (λ c κs. search needs) (λ c κs. search needs) (λ c κs. search needs)
     (λ c.
     let start = c .before .before .before .before .before .before .before in
-    let m = view (start .args .job) (now (start .args .s)) in
+    let m = clocked (view (start .args .job) (now (start .args .s))) in
     let x = scheduleOf (now (start .args .starts)) in
     c .refuse-if2 .ensures
     ∙ ap₂ _then_ (c .before .before .before .refuse-if .ensures ∙ accepted-then _)

@@ -1,5 +1,6 @@
 -- A conflict of effects is refused; without one, the other four rules decide.
 use Rattle.job.proofs.Ranged.{well-formed-ranged}
+use Rattle.job.proofs.Clocked.{clocked-form}
 use Rattle.schedule.proofs.Chained.{conflict-refused, others-decide, none-conflict}
 use Rattle.values.proofs.Contested.{contested-lowest}
 use borrow.Author.Needs.{needs}
@@ -17,15 +18,15 @@ check-timing-spec =
     record {
       form = well-formed-ranged (p .0 .form);
       known = p .0 .known;
-      oneValue = none-conflict _ _ (c .before .before .first-conflict .ensures) (p .0 .form) (c .if1 .left);
+      oneValue = none-conflict _ _ (c .before .before .first-conflict .ensures) (clocked-form _ (p .0 .form)) (c .if1 .left);
     })
     (λ c κs.
     let p = c .before .before .before .before .before .before .before .before .pre in
     record {
       form = p .0 .form;
       known = p .0 .known;
-      oneValue = none-conflict _ _ (c .before .before .before .first-conflict .ensures) (p .0 .form) (c .before .if1 .left);
+      oneValue = none-conflict _ _ (c .before .before .before .first-conflict .ensures) (clocked-form _ (p .0 .form)) (c .before .if1 .left);
       counted = p .1;
-      failing = contested-lowest _ _ (p .0 .form .keepsOwn) (c .first-contested .ensures);
+      failing = contested-lowest _ _ (clocked-form _ (p .0 .form) .keepsOwn) (c .first-contested .ensures);
     })
     (λ c. others-decide _ _ (c .before .before .before .before .first-conflict .ensures) (c .before .before .if1 .left) (c .check-settled .ensures)))

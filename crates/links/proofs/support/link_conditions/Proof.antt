@@ -2,6 +2,7 @@
 use Prim.Native.Nat.{_-_}
 use native.Mathlib.Omega.{arith}
 use Rattle.job.specs.Model.{view}
+use Rattle.job.specs.Clocked.{clocked}
 use Rattle.links.specs.Linkable.{Linkable}
 use Rattle.links.specs.Linking.{Below, LinksPut}
 use Rattle.links.proofs.Putting.{links-size, links-room}
@@ -14,7 +15,7 @@ link-conditions-spec =
     tie.close
     (tie.spec
     (λ s job points begins links₀ fact₀ links fact.
-    Linkable (view job s) points begins links₀ × LinksPut (view job s) points begins (Below (view job s) fact) links₀ links)
+    Linkable (clocked (view job s)) points begins links₀ × LinksPut (clocked (view job s)) points begins (Below (clocked (view job s)) fact) links₀ links)
     (λ s job points begins links₀ fact₀ links fact. job .count .facts - fact)
     (λ c. (c .before .before .before .before .pre, below-start))
     (λ c κs. let i = c .before .before .before .loop .inv in (links-room (i .0) (i .1), c .before .if1 .taken))

@@ -3,6 +3,7 @@ use Prim.Native.Nat.{_-_}
 use native.Mathlib.Omega.{arith}
 use borrow.Author.Needs.{needs}
 use Rattle.job.specs.Model.{view}
+use Rattle.job.specs.Clocked.{clocked}
 use Rattle.links.specs.Linking.{Linking}
 use Rattle.links.proofs.Linking.{linking-start, linking-there, linking-room, linking-some, linking-more, linking-end}
 use Rattle.links.proofs.Putting.{links-size}
@@ -14,7 +15,7 @@ link-fact-spec =
     tie.close
     (tie.spec
     (λ s job points begins fact links₀ low high group end p₀ cursor₀ links p cursor.
-    Linking (view job s) points begins fact low high end p cursor links₀ links)
+    Linking (clocked (view job s)) points begins fact low high end p cursor links₀ links)
     (λ s job points begins fact links₀ low high group end p₀ cursor₀ links p cursor. end - p)
     (λ c κs. let pre = c .before .before .before .before .pre in omega (arith, pre .0 .some .1 .room))
     (λ c. search needs)

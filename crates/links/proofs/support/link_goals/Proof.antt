@@ -3,6 +3,7 @@ use Prim.Native.Nat.{_+_, _-_, _≤_}
 use native.Mathlib.Omega.{arith}
 use borrow.Author.Needs.{needs}
 use Rattle.job.specs.Model.{view}
+use Rattle.job.specs.Clocked.{clocked}
 use Rattle.links.specs.Linkable.{Linkable}
 use Rattle.links.specs.Linking.{FromTo, LinksPut}
 use Rattle.links.proofs.Putting.{links-size, links-room}
@@ -15,8 +16,8 @@ link-goals-spec =
     tie.close
     (tie.spec
     (λ s job points begins links₀ g₀ links g.
-    Linkable (view job s) points begins links₀ × (g ≤ job .count .goals)
-    × LinksPut (view job s) points begins (FromTo (job .count .conditions) (job .count .conditions + g)) links₀ links)
+    Linkable (clocked (view job s)) points begins links₀ × (g ≤ job .count .goals)
+    × LinksPut (clocked (view job s)) points begins (FromTo (job .count .conditions) (job .count .conditions + g)) links₀ links)
     (λ s job points begins links₀ g₀ links g. job .count .goals - g)
     (λ c. (c .before .before .before .before .pre, omega arith, goals-start))
     (λ c κs. let i = c .before .before .loop .inv in (i .0 .form, i .0 .some, c .if1 .taken))

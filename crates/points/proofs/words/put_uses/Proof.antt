@@ -13,12 +13,12 @@ pub put-uses-spec : {M : Type 1} → statement M
 put-uses-spec =
     tie.close
     (tie.spec
-    (λ s job starts points₀ from n u₀ points u.
+    (λ s job starts points₀ setters from n u₀ points u.
     Putting from n (useWord (view job s) (scheduleOf starts)) (useTick (view job s) (scheduleOf starts)) points₀ points u)
-    (λ s job starts points₀ from n u₀ points u. n - u)
-    (λ c. search needs) (λ c. search needs) (λ c. search needs)
+    (λ s job starts points₀ setters from n u₀ points u. n - u)
+    (λ c. search needs) (λ c. search needs) (λ c. search needs) (λ c. search needs) (λ c. search needs)
     (λ c. putting-start (omega arith))
-    (λ c κs. let p = c .before .before .before .before .before .before .before .pre in (p .0, c .loop-test .taken, p .2))
+    (λ c κs. let p = c .before .before .before .before .before .before .before .before .pre in (p .0, c .loop-test .taken, p .2))
     (λ c. search needs) (λ c. search needs) (λ c. search needs)
     (λ c. putting-room (c .before .before .loop .inv) (c .before .loop-test .taken))
     (λ c. search needs) (λ c. search needs)
