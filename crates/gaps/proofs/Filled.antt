@@ -25,9 +25,9 @@ use Rattle.gaps.specs.Rules.{Cleared}
 joins : (a b c d e : ℕ) → c ≡ max b d → a ≡ max c e → a ≡ max b (max d e)
 joins a b c d e p q = omega arith
 
-pub raised-none : (n : ℕ) (f : ℕ → ℕ → ℕ) (gaps : List ℕ) → ((i k : ℕ) → f i k ≡ 0) → Raised n f gaps gaps
+pub raised-none : (n : ℕ) (f : ℕ → ℕ → ℕ) (gaps : List ℕ) → ((i k : ℕ) → i < n → f i k ≡ 0) → Raised n f gaps gaps
 raised-none n f gaps z =
-    record { whole = λ g. g; below = λ i k h l d. omega (arith, z i k); rest = λ i k h d out. refl }
+    record { whole = λ g. g; below = λ i k h l d. omega (arith, z i k h); rest = λ i k h d out. refl }
 
 module _ (n : ℕ) (f g : ℕ → ℕ → ℕ) (before : List ℕ) where
   -- first by f, then by g
@@ -45,7 +45,7 @@ module _ (n : ℕ) (f g : ℕ → ℕ → ℕ) (before : List ℕ) where
 module _ (n : ℕ) (order : ℕ → ℕ → ℕ → ℕ) (before : List ℕ) where
   pub raised-start : Raised n (λ i k. largest 0 (order i k)) before before
   unfolding largest
-  raised-start = raised-none n (λ i k. largest 0 (order i k)) before (λ i k. refl)
+  raised-start = raised-none n (λ i k. largest 0 (order i k)) before (λ i k _. refl)
 
   pub raised-more :
       (j : ℕ) (mid after : List ℕ) → Raised n (λ i k. largest j (order i k)) before mid → Raised n (λ i k. order i k j) mid after

@@ -2,5 +2,6 @@
 pub mod Filled
 pub mod Pairs
 pub mod Rules
+pub mod Own
 pub mod Supported
 pub mod Serial

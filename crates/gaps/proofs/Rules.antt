@@ -13,12 +13,14 @@ use Rattle.laws.specs.Fold.{largest}
 use Rattle.laws.proofs.Fold.{largest-le}
 use Rattle.laws.proofs.Search.{and-both}
 use Rattle.job.specs.Model.{Model}
+use Rattle.job.specs.Clocked.{clocked}
+use Rattle.job.proofs.Clocked.{step-near, clocked-form}
 use Rattle.timeline.specs.Words.{wordStep, wordValue, wordTick, numberAt, valueSpan}
 use Rattle.validity.specs.Ticks.{scheduleOf, effectTick, firstTick, lastTick, useTick, opposes}
 use Rattle.points.specs.Points.{wantedGroup, usedGroup}
 use Rattle.orders.specs.Gaps.{opposingOrder, opposingGap, beforeOrder, afterOrder, conditionGap, levelOrder, levelGap}
 use Rattle.orders.proofs.Orders.{condition-ge}
-use Rattle.orders.proofs.Near.{effect-near, from-near, to-near, use-near}
+use Rattle.orders.proofs.Near.{from-near, to-near, use-near}
 use Rattle.rows.specs.declared.origin.Fact.{Fact}
 use Rattle.rows.specs.declared.origin.Origin.{Origin}
 use Rattle.rows.specs.Raised.{Raised}
@@ -121,7 +123,7 @@ module _ {m : Model} {x : ℕ → ℕ} {points begins : List ℕ} where
           two = f .effectValue;
           timed = λ e. refl;
           inside = f .effectStep;
-          near = effect-near m f;
+          near = step-near m f;
         }
 
     unfoldable conditionList : Listed m x points begins
@@ -141,7 +143,7 @@ module _ {m : Model} {x : ℕ → ℕ} {points begins : List ℕ} where
           two = f .conditionValue;
           timed = λ c. refl;
           inside = f .conditionStep;
-          near = from-near m f;
+          near = from-near (clocked m) (clocked-form m f);
         }
 
     unfoldable useList : Listed m x points begins
@@ -161,7 +163,7 @@ module _ {m : Model} {x : ℕ → ℕ} {points begins : List ℕ} where
           two = λ u h. omega arith;
           timed = λ u. refl;
           inside = f .useStep;
-          near = use-near m f;
+          near = use-near (clocked m) (clocked-form m f);
         }
 
     -- Rule 2.
@@ -203,7 +205,7 @@ module _ {m : Model} {x : ℕ → ℕ} {points begins : List ℕ} where
               let both = and-both (eqb (m .effectFact e) (m .conditionFact c)) (not (eqb (m .effectValue e) (m .conditionValue c))) against in
               absurd
               (eqb-false _ _ (not-true _ (both .1))
-              (known .valid .conditionKept c e h l (λ q. apart (sym q)) (eqb-true _ _ (both .0)) (omega arith) (omega arith)))
+              (known .kept c e h l (λ q. apart (sym q)) (eqb-true _ _ (both .0)) (omega arith) (omega arith)))
         ]
 
     after-is :
@@ -284,7 +286,7 @@ module _ {m : Model} {starts points begins : List ℕ} (known : ValidPoints m (s
   fact-known f h =
       record {
         placed = record { setters = opposing-known f h; wanted = listed-group (conditionList known) f h each; few = known .form .stepCount };
-        ended = λ p a b. to-near m (known .form) (numberAt points p) (known .known .wanted f h .holds p a b .0);
+        ended = λ p a b. to-near (clocked m) (clocked-form m (known .form)) (numberAt points p) (known .known .wanted f h .holds p a b .0);
       }
 
   pub level-known : (l : ℕ) → l < m .levels → Group (m .steps) starts points (getD begins (usedGroup m l) 0) (getD begins (usedGroup m l + 1) 0)

@@ -8,9 +8,9 @@ use lib.ListN.{length, getD}
 use Rattle.laws.specs.Fold.{largest}
 use Rattle.job.specs.Model.{Model}
 use Rattle.job.specs.WellFormed.{WellFormed}
-use Rattle.points.specs.Points.{PointsKnown}
-use Rattle.validity.specs.Valid.{Valid}
-use Rattle.links.specs.LinkList.{LinksOf, Named}
+use Rattle.points.specs.Points.{PointsKnown, OneValue}
+use Rattle.validity.specs.Ticks.{effectTick, firstTick, lastTick}
+use Rattle.links.specs.LinkList.{LinksOf}
 use Rattle.orders.specs.Gaps.{serialGap}
 use Rattle.order_file.specs.Table.{Gaps, rowWidth, noOrder}
 use Rattle.rows.specs.declared.origin.Fact.{Fact}
@@ -22,10 +22,9 @@ pub record Cleared (n : ℕ) (before after : List ℕ) : Type 0 where
   pub own : (i : ℕ) → i < n → getD after (rowWidth * i + i) 0 ≡ noOrder
   pub rest : (p : ℕ) → ((i : ℕ) → i < n → p ≡ rowWidth * i + i → ⊥) → getD after p 0 ≡ getD before p 0
 
--- rule 1 reads links that name effects of the job, into a whole table
+-- rule 1 reads links, into a whole table
 pub record SupportKnown (m : Model) (links gaps : List ℕ) : Type 0 where
   pub form : WellFormed m
-  pub named : Named m links
   pub room : m .conditions + m .goals ≤ length links
   pub whole : Gaps gaps
 
@@ -33,11 +32,16 @@ pub record SupportKnown (m : Model) (links gaps : List ℕ) : Type 0 where
 abbrev pub RaisedByLinks : Model → List ℕ → (Model → (ℕ → ℕ) → ℕ → ℕ → ℕ) → List ℕ → List ℕ → Type 0
 RaisedByLinks m links rule before after = (x : ℕ → ℕ) → LinksOf m x links → Raised (m .steps) (rule m x) before after
 
--- rules 2, 3 and 4 order the points of a valid schedule
+-- rules 2, 3 and 4 order the points of the steps in a valid schedule: what rules 2 and 3 use of its being valid
 pub record ValidPoints (m : Model) (x : ℕ → ℕ) (points begins : List ℕ) : Type 0 where
   pub form : WellFormed m
   pub known : PointsKnown m x points begins
-  pub valid : Valid m x
+  pub one : OneValue m x
+  pub kept :
+      (c e : ℕ) → c < m .conditions → e < m .effects → (m .effectStep e ≡ m .conditionStep c → ⊥) → m .effectFact e ≡ m .conditionFact c
+      → firstTick m x c ≤ effectTick m x e
+      → effectTick m x e ≤ lastTick m x c
+      → m .effectValue e ≡ m .conditionValue c
 
 -- the places of a fact's setters and of its conditions
 abbrev pub factAt : List ℕ → ℕ → ℕ → Fact

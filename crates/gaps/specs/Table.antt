@@ -5,6 +5,7 @@ use mathlib.Core.List.{List}
 use lib.ListN.{length, getD}
 use Rattle.job.specs.Model.{Model, lastStart}
 use Rattle.job.specs.WellFormed.{WellFormed}
+use Rattle.job.specs.Clocked.{clocked}
 use Rattle.points.specs.Points.{PointsKnown}
 use Rattle.validity.specs.Ticks.{scheduleOf}
 use Rattle.validity.specs.Valid.{Valid}
@@ -16,12 +17,12 @@ pub record Writable (m : Model) (starts : List ℕ) : Type 0 where
   pub each : m .steps ≤ length starts
   pub early : (k : ℕ) → k < m .steps → scheduleOf starts k ≤ lastStart
 
--- a valid schedule whose points are listed and whose links are found, and an empty table
+-- a valid schedule whose steps' points are listed and whose links, to timed facts too, are found, and an empty table
 pub record Fillable (m : Model) (x : ℕ → ℕ) (points begins links gaps : List ℕ) : Type 0 where
   pub form : WellFormed m
   pub known : PointsKnown m x points begins
-  pub valid : Valid m x
-  pub linked : LinksOf m x links
+  pub valid : Valid (clocked m) x
+  pub linked : LinksOf (clocked m) x links
   pub room : m .conditions + m .goals ≤ length links
   pub size : length gaps ≡ tableSize
   pub empty : (p : ℕ) → getD gaps p 0 ≡ 0

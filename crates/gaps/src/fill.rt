@@ -4,6 +4,7 @@ ghost use Prim.Native.Nat.{ℕ, _+_, _≤_, _<_};
 ghost use mathlib.Core.List.{List};
 ghost use lib.ListN.{length};
 ghost use Rattle.job.specs.Model.{view};
+ghost use Rattle.job.specs.Clocked.{clocked};
 ghost use Rattle.job.specs.WellFormed.{WellFormed};
 ghost use Rattle.job_reader.specs.Laid.{Laid};
 ghost use Rattle.validity.specs.Ticks.{scheduleOf};
@@ -18,7 +19,6 @@ use job::layout::Job;
 use job::records::step_length;
 use job_reader::laid::condition_of;
 use job_reader::laid::effect_of;
-use order_file::layout::INITIAL_STATE;
 use order_file::table::ENTRY_BIAS;
 use order_file::table::NO_ORDER;
 use order_file::table::WIDTH;
@@ -33,15 +33,16 @@ use rows::raise_conditions;
 use rows::raise_setters;
 use timeline::word::begin_at;
 
-// Rule 1 for condition c, by its link.
+// Rule 1 for condition c, by its link. One to the initial state or to a timed fact, which are numbered behind the effects, orders no two steps.
 fn raise_support(s: &[u8], job: Job, links: &[u16], c: u16, gaps: &mut [u32])
     requires { ⌜ SupportKnown (view job (now s)) (now links) (now gaps) × (c < job .count .conditions) × Laid job (now s) ⌝ }
-    ensures { λ _. ⌜ RaisedByLinks (view job (now (s .entry))) (now (links .entry)) (λ m x i k. supportOrder m x i k c) (now (gaps .entry))
-        (now (gaps .exit)) ⌝ }
+    ensures { λ _. ⌜ RaisedByLinks (clocked (view job (now (s .entry)))) (now (links .entry)) (λ m x i k. supportOrder m x i k c)
+        (now (gaps .entry)) (now (gaps .exit)) ⌝ }
     ensures { λ _. ⌜ Gaps (now (gaps .exit)) ⌝ }
 {
+    let effects = job.count.effects;
     let link = links[c as usize];
-    if link == INITIAL_STATE {
+    if link >= effects {
         return;
     }
     let condition = condition_of(s, job, c);
@@ -57,7 +58,7 @@ fn raise_support(s: &[u8], job: Job, links: &[u16], c: u16, gaps: &mut [u32])
 // Rule 1.
 fn fill_support(s: &[u8], job: Job, links: &[u16], gaps: &mut [u32])
     requires { ⌜ SupportKnown (view job (now s)) (now links) (now gaps) × Laid job (now s) ⌝ }
-    ensures { λ _. ⌜ RaisedByLinks (view job (now (s .entry))) (now (links .entry)) supportGap (now (gaps .entry)) (now (gaps .exit)) ⌝ }
+    ensures { λ _. ⌜ RaisedByLinks (clocked (view job (now (s .entry)))) (now (links .entry)) supportGap (now (gaps .entry)) (now (gaps .exit)) ⌝ }
 {
     let n = job.count.conditions;
     let mut c = 0;
@@ -267,7 +268,7 @@ pub fn fill_gaps(
 )
     requires { ⌜ Fillable (view job (now s)) (scheduleOf (now starts)) (now points) (now begins) (now links) (now gaps) × Laid job (now s)
         × Writable (view job (now s)) (now starts) ⌝ }
-    ensures { λ _. ⌜ TableOf (job .count .steps) (gapOf (view job (now (s .entry))) (scheduleOf (now (starts .entry)))) (now (gaps .exit)) ⌝ }
+    ensures { λ _. ⌜ TableOf (job .count .steps) (gapOf (clocked (view job (now (s .entry)))) (scheduleOf (now (starts .entry)))) (now (gaps .exit)) ⌝ }
 {
     fill_support(s, job, links, gaps);
     fill_opposing(job, starts, points, begins, gaps);

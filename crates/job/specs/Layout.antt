@@ -18,12 +18,15 @@ latestEdition = 2
 abbrev pub timedEdition : ℕ
 timedEdition = 2
 
--- the bytes of the shortest header, and of an edition's: timed facts add an offset
+-- the bytes of the shortest header, of the longest, and of an edition's: timed facts add an offset
 abbrev pub shortestHeader : ℕ
 shortestHeader = 48
 
+abbrev pub longestHeader : ℕ
+longestHeader = 52
+
 unfoldable pub headerWidth : ℕ → ℕ
-headerWidth edition = cond (eqb edition timedEdition) 52 shortestHeader
+headerWidth edition = cond (eqb edition timedEdition) longestHeader shortestHeader
 
 -- "Widths in bytes": a record's, table by table
 abbrev pub factWidth : ℕ

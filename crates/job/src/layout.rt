@@ -1,7 +1,7 @@
 // The job file's header: counts, limits, and where the tables lie.
 ghost use Prim.Native.Nat.{_+_, _*_, _^_, _≤_};
 ghost use mathlib.Core.Path.{_≡_};
-ghost use Rattle.job.specs.Layout.{headerWidth, countsOf, positionsOf, jobOf, countTooHigh};
+ghost use Rattle.job.specs.Layout.{headerWidth, longestHeader, countsOf, positionsOf, jobOf, countTooHigh};
 use little_endian::SIGN_BIAS;
 
 // The tables, in their order in the file.
@@ -55,10 +55,10 @@ pub const LATEST_EDITION: u16 = 2;
 // The edition that has timed facts.
 pub const TIMED_EDITION: u16 = 2;
 
-// The bytes of the shortest header, and of one with timed facts.
+// The bytes of the shortest header, and of the longest, which has an offset for timed facts.
 pub const SHORTEST_HEADER: usize = 48;
 
-const TIMED_HEADER: usize = 52;
+pub const LONGEST_HEADER: usize = 52;
 
 // Record widths in bytes, in the tables' order.
 pub const WIDTHS: [usize; 8] = [1, 12, 10, 14, 10, 12, 8, 8];
@@ -133,10 +133,10 @@ impl Job {
 
 // The bytes of an edition's header.
 pub fn header_width(edition: u16) -> usize
-    ensures { λ r. ⌜ (r ≡ headerWidth edition) × (r ≤ 52) ⌝ }
+    ensures { λ r. ⌜ (r ≡ headerWidth edition) × (r ≤ longestHeader) ⌝ }
 {
     if edition == TIMED_EDITION {
-        TIMED_HEADER
+        LONGEST_HEADER
     } else {
         SHORTEST_HEADER
     }
@@ -163,7 +163,7 @@ impl Counts {
 impl Positions {
     // The tables follow the header without gaps.
     fn of(header: usize, count: Counts) -> Positions
-        requires { ⌜ header ≤ 52 ⌝ }
+        requires { ⌜ header ≤ longestHeader ⌝ }
         ensures { λ r. ⌜ r ≡ positionsOf header count ⌝ }
     {
         let facts = header as u32;

@@ -2,6 +2,7 @@
 ghost use mathlib.Core.Path.{_≡_};
 ghost use Prim.Native.Nat.{ℕ, _≤_, _<_};
 ghost use Rattle.laws.specs.Search.{lowest};
+ghost use Rattle.job.specs.Clocked.{clocked};
 ghost use Rattle.job.specs.Model.{view};
 ghost use Rattle.validity.specs.Checks.{levelFails};
 ghost use Rattle.points.specs.Points.{PointsKnown};
@@ -25,7 +26,7 @@ pub struct Sums {
 // The sums with use u at the place.
 fn with_use(s: &[u8], job: Job, sums: Sums, u: u16) -> Sums
     requires { ⌜ (sums .place < placeLimit) × (sums .rises ≤ sumLimit) × (sums .falls ≤ sumLimit) ⌝ }
-    ensures { λ r. ⌜ Added (view job (now (s .entry))) u sums r ⌝ }
+    ensures { λ r. ⌜ Added (clocked (view job (now (s .entry)))) u sums r ⌝ }
 {
     let amount = use_amount(s, job, u);
     let place = sums.place + 1;
@@ -48,8 +49,9 @@ fn with_use(s: &[u8], job: Job, sums: Sums, u: u16) -> Sums
 
 // The sums with all uses at the tick of the first use that they leave out.
 fn sums_at(s: &[u8], job: Job, points: &[u64], high: usize, before: Sums) -> Sums
-    requires { ⌜ (before .place < high) × ((low : ℕ) × Stretch (now points) low high × Summed (view job (now s)) (now points) low high before) ⌝ }
-    ensures { λ r. ⌜ SummedTick (view job (now (s .entry))) (now (points .entry)) high before r ⌝ }
+    requires { ⌜ (before .place < high)
+        × ((low : ℕ) × Stretch (now points) low high × Summed (clocked (view job (now s))) (now points) low high before) ⌝ }
+    ensures { λ r. ⌜ SummedTick (clocked (view job (now (s .entry)))) (now (points .entry)) high before r ⌝ }
 {
     let first = before.place;
     let tick = tick_of(points[first]);
@@ -68,7 +70,7 @@ fn sums_at(s: &[u8], job: Job, points: &[u64], high: usize, before: Sums) -> Sum
 // At a tick the level from earlier ticks bears all of that tick's falls, and all of its rises: those before it, and those with it.
 fn in_bounds(s: &[u8], job: Job, l: u16, before: Sums, after: Sums) -> bool
     requires { ⌜ (before .rises ≤ sumLimit) × (before .falls ≤ sumLimit) × (after .rises ≤ sumLimit) × (after .falls ≤ sumLimit) ⌝ }
-    ensures { λ r. ⌜ r ≡ inBounds (view job (now (s .entry))) l before after ⌝ }
+    ensures { λ r. ⌜ r ≡ inBounds (clocked (view job (now (s .entry)))) l before after ⌝ }
 {
     let level = level_at(s, job, l);
     let initial = level.initial;
@@ -82,8 +84,8 @@ fn in_bounds(s: &[u8], job: Job, l: u16, before: Sums, after: Sums) -> bool
 // Whether level l, whose uses stand from place low to high, passes a bound.
 fn level_fails(s: &[u8], job: Job, points: &[u64], low: usize, high: usize, l: u16) -> bool
     requires { ⌜ Stretch (now points) low high ⌝ }
-    ensures { λ r. ⌜ ((x : ℕ → ℕ) → UsesPlaced (view job (now (s .entry))) x l (now (points .entry)) low high
-        → r ≡ levelFails (view job (now (s .entry))) x l) ⌝ }
+    ensures { λ r. ⌜ ((x : ℕ → ℕ) → UsesPlaced (clocked (view job (now (s .entry)))) x l (now (points .entry)) low high
+        → r ≡ levelFails (clocked (view job (now (s .entry)))) x l) ⌝ }
 {
     let mut sums = Sums {
         place: low,
@@ -102,9 +104,9 @@ fn level_fails(s: &[u8], job: Job, points: &[u64], low: usize, high: usize, l: u
 
 // The lowest level that passes a bound, or the count of levels.
 pub fn first_out_of_bounds(s: &[u8], job: Job, points: &[u64], begins: &[u16]) -> u16
-    requires { ⌜ ((x : ℕ → ℕ) × PointsKnown (view job (now s)) x (now points) (now begins)) ⌝ }
-    ensures { λ r. ⌜ ((x : ℕ → ℕ) → PointsKnown (view job (now (s .entry))) x (now (points .entry)) (now (begins .entry))
-        → r ≡ lowest (job .count .levels) (levelFails (view job (now (s .entry))) x)) ⌝ }
+    requires { ⌜ ((x : ℕ → ℕ) × PointsKnown (clocked (view job (now s))) x (now points) (now begins)) ⌝ }
+    ensures { λ r. ⌜ ((x : ℕ → ℕ) → PointsKnown (clocked (view job (now (s .entry)))) x (now (points .entry)) (now (begins .entry))
+        → r ≡ lowest (job .count .levels) (levelFails (clocked (view job (now (s .entry)))) x)) ⌝ }
 {
     let n = job.count.levels;
     let mut l = 0;

@@ -99,7 +99,7 @@ module _ (m : Model) (w : WellFormed m) (v : Valid (clocked m) (planned m)) wher
   form : ClockedForm M
   form = clocked-form m w
 
-  within : Within (fileOf m x)
+  pub within : Within (fileOf m x)
   unfolding fileOf
   within = file-within M x form v (planned-zero m) (planned-early m w) (linkNumber m) (number-initial m) (number-last m w)
 

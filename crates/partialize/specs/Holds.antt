@@ -1,22 +1,28 @@
 -- Inner: lists of links and gaps to be filed, lists that hold what is filed, and the answer and the buffer once it is filed.
-use Prim.Native.Nat.{ℕ, _+_, _<_}
+use Prim.Native.Nat.{ℕ, _+_, _≤_, _<_}
 use mathlib.Core.Path.{_≡_}
 use mathlib.Core.Bool.{cond}
 use mathlib.Core.List.{List}
 use lib.ListN.{length, getD}
 use lib.Dec.{leb}
-use Rattle.job.specs.Model.{Model}
-use Rattle.job.specs.WellFormed.{WellFormed}
+use Rattle.job.specs.declared.layout.Counts.{Counts}
+use Rattle.job.specs.declared.layout.Job.{Job}
+use Rattle.job.specs.Layout.{mostSteps}
+use Rattle.job.specs.Model.{Model, view}
+use Rattle.job.specs.Clocked.{clocked}
 use Rattle.order_file.specs.Contents.{Contents, linkLimit}
 use Rattle.order_file.specs.Encode.{encode}
 use Rattle.order_file.specs.Table.{rowWidth, gapIn, startIn, Gaps}
 use Rattle.order_file.specs.Held.{NoneFrom, over}
-use Rattle.orders.specs.Links.{conditionLink, goalLink}
+use Rattle.orders.specs.Links.{conditionLink, goalLink, nthLink}
 use Rattle.orders.specs.Gaps.{gapOf}
 use Rattle.orders.specs.Windows.{limitOf, latestOf}
-use Rattle.orders.specs.File.{roundsOf, earliestOf, fileOf}
-use Rattle.links.specs.LinkList.{LinksOf}
+use Rattle.orders.specs.File.{roundsOf, earliestOf, linkNumber, fileOf}
+use Rattle.limits.specs.Timed.{mostLimit}
+use Rattle.windows.specs.Starts.{Bounded}
 use Rattle.gaps.specs.Table.{TableOf}
+use Rattle.partialize.specs.declared.Windows.{Windows}
+use Rattle.partialize.specs.Found.{WindowsOf}
 use Rattle.partialize.specs.declared.answer.Answer.{Answer}
 use Rattle.partialize.specs.declared.answer.Answer.the-variants.{Filed, BufferTooShort}
 
@@ -32,19 +38,25 @@ pub record Holds (number : ℕ → ℕ) (m : Model) (x : ℕ → ℕ) (rounds : 
   pub conditionAt : (c : ℕ) → c < m .conditions → getD linked c 0 ≡ number (conditionLink m x c)
   pub goalAt : (g : ℕ) → g < m .goals → getD linked (m .conditions + g) 0 ≡ number (goalLink m x g)
 
--- links and gaps of a well-formed job that can be filed
-pub record Fileable (m : Model) (links gaps : List ℕ) : Type 0 where
-  pub form : WellFormed m
+-- what can be filed, by the counts of a job
+pub record Fileable (n : Counts) (w : Windows) (links gaps : List ℕ) : Type 0 where
+  pub stepCount : n .steps ≤ mostSteps
+  pub linkCount : n .conditions + n .goals ≤ linkLimit
+  pub limits : Bounded (n .steps) mostLimit (w .limits .at)
+  pub latest : length (w .latest .at) ≡ rowWidth
+  pub linked : length links ≡ linkLimit
   pub table : Gaps gaps
-  pub linkCount : length links ≡ linkLimit
-  pub rows : NoneFrom (m .steps) gaps
+  pub rows : NoneFrom (n .steps) gaps
 
 -- the answer and the buffer where contents c are to be filed: the file's length and the file, or 15 and no change
 pub record Filing (c : Contents) (before after : List ℕ) (r : Answer) : Type 0 where
   pub answer : r ≡ cond (leb (length (encode c)) (length before)) (Filed (length (encode c))) BufferTooShort
   pub buffer : after ≡ cond (leb (length (encode c)) (length before)) (over (encode c) before) before
 
--- what is filed of links and gaps, whatever schedule they belong to
-abbrev pub FiledOf : Model → List ℕ → List ℕ → List ℕ → List ℕ → Answer → Type 0
-FiledOf m links gaps before after r =
-    (x : ℕ → ℕ) → LinksOf m x links → TableOf (m .steps) (gapOf m x) gaps → Filing (fileOf m x) before after r
+-- what is filed of windows, links and gaps, whatever job and schedule they belong to
+abbrev pub FiledOf : Job → Windows → List ℕ → List ℕ → List ℕ → List ℕ → Answer → Type 0
+FiledOf job w links gaps before after r =
+    (s : List ℕ) (x : ℕ → ℕ) → WindowsOf (view job s) x w
+    → ((k : ℕ) → k < job .count .conditions + job .count .goals → getD links k 0 ≡ linkNumber (view job s) (nthLink (clocked (view job s)) x k))
+    → TableOf (job .count .steps) (gapOf (clocked (view job s)) x) gaps
+    → Filing (fileOf (view job s) x) before after r

@@ -3,4 +3,6 @@ pub mod Formed
 pub mod Answer
 pub mod Partialization
 pub mod Demands
+pub mod Found
+pub mod Numbered
 pub mod Holds

@@ -5,22 +5,28 @@ ghost use Rattle.validity.specs.Ticks.{scheduleOf};
 ghost use Rattle.orders.specs.File.{fileOf};
 ghost use Rattle.schedule.specs.Opened.{Planned};
 ghost use Rattle.points.specs.Words.{Small};
-ghost use Rattle.gaps.specs.Table.{Writable};
-ghost use Rattle.gaps.specs.Rules.{ValidPoints};
+ghost use Rattle.limits.specs.Timed.{TimedPoints, TimedLinks};
 ghost use Rattle.partialize.specs.Formed.{Formed};
+ghost use Rattle.partialize.specs.Found.{ValidSchedule, Timed, Linked, WindowsOf};
 ghost use Rattle.partialize.specs.Holds.{Fileable, Filing, FiledOf};
 ghost use Rattle.partialize.specs.Demands.{Promise};
 
 pub mod answer;
+mod numbers;
 
 use answer::Answer;
 use gaps::fill;
 use job::layout::Job;
+use limits::earliest;
+use limits::latest;
 use links::support;
+use numbers::number_links;
 use order_file::layout::MOST_LINKS;
+use order_file::layout::NO_LATEST;
 use order_file::layout::link_at;
 use order_file::table::ENTRIES;
 use order_file::table::NO_ORDER;
+use order_file::table::WIDTH;
 use order_file::write::Header;
 use order_file::write::count_orders;
 use order_file::write::write_file;
@@ -30,20 +36,50 @@ use points::words::FEW_POINTS;
 use points::words::MOST_GROUPS;
 use points::words::MOST_POINTS;
 use points::words::is_small;
+use points::words::list_own_points;
 use points::words::list_points;
 use verdict::number;
 use windows::starts;
+use windows::starts::Starts;
 use windows::window;
 
-// Files what the links and the gaps of a valid schedule say, if the buffer is long enough for it.
-fn file_found(s: &[u8], job: Job, links: &[u16], gaps: &[u32], out: &mut [u8]) -> Answer
-    requires { ⌜ Fileable (view job (now s)) (now links) (now gaps) ⌝ }
-    ensures { λ r. ⌜ FiledOf (view job (now (s .entry))) (now (links .entry)) (now (gaps .entry)) (now (out .entry)) (now (out .exit)) r ⌝ }
+// The limits and the latest starts of the steps.
+pub struct Windows {
+    pub limits: Starts,
+    pub latest: Starts,
+}
+
+// Finds them for a valid schedule: those that timed facts leave, then written starts and deadlines.
+fn find_windows(
+    s: &[u8],
+    job: Job,
+    starts: &[u32],
+    points: &[u64],
+    begins: &[u16],
+    links: &[u16],
+) -> Windows
+    requires { ⌜ TimedPoints (view job (now s)) (now starts) (now points) (now begins) × TimedLinks (view job (now s)) (now starts) (now links)
+        × Laid job (now s) ⌝ }
+    ensures { λ r. ⌜ WindowsOf (view job (now (s .entry))) (scheduleOf (now (starts .entry))) r ⌝ }
+{
+    let mut early = [0u32; WIDTH];
+    earliest::clock_limits(s, job, starts, points, begins, links, &mut early);
+    let mut late = [NO_LATEST; WIDTH];
+    latest::clock_latest(s, job, starts, points, begins, &mut late);
+    let limits = window::limits(s, job, &early);
+    let latest = window::latest_starts(s, job, links, &late);
+    Windows { limits, latest }
+}
+
+// Files what windows, links and gaps say, if the buffer is long enough for it.
+fn file_found(job: Job, windows: Windows, links: &[u16], gaps: &[u32], out: &mut [u8]) -> Answer
+    requires { ⌜ Fileable (job .count) windows (now links) (now gaps) ⌝ }
+    ensures { λ r. ⌜ FiledOf job windows (now (links .entry)) (now (gaps .entry)) (now (out .entry)) (now (out .exit)) r ⌝ }
 {
     let steps = job.count.steps as usize;
     let count = job.count.conditions as usize + job.count.goals as usize;
-    let limits = window::limits(s, job);
-    let latest = window::latest_starts(s, job, links);
+    let limits = windows.limits;
+    let latest = windows.latest;
     let found = starts::earliest_starts(limits, steps, gaps);
     let orders = count_orders(gaps, steps);
     let length = link_at(steps, orders, count);
@@ -64,7 +100,39 @@ fn file_found(s: &[u8], job: Job, links: &[u16], gaps: &[u32], out: &mut [u8]) -
     Answer::Filed(length as u32)
 }
 
-// Finds the links and the gaps of a valid schedule whose points are in order, and files them.
+// Finds the gaps and the windows of a valid schedule whose links are found and whose steps' points are in order, and files them.
+fn file_points(
+    s: &[u8],
+    job: Job,
+    starts: &[u32],
+    points: &[u64],
+    begins: &[u16],
+    links: &mut [u16],
+    out: &mut [u8],
+) -> Answer
+    requires { ⌜ Linked (view job (now s)) (now starts) (now points) (now begins) (now links) × Laid job (now s) ⌝ }
+    ensures { λ r. ⌜ Filing (fileOf (view job (now (s .entry))) (scheduleOf (now (starts .entry)))) (now (out .entry)) (now (out .exit)) r ⌝ }
+{
+    let mut gaps = [NO_ORDER; ENTRIES];
+    fill::fill_gaps(s, job, starts, points, begins, links, &mut gaps);
+    let windows = find_windows(s, job, starts, points, begins, links);
+    number_links(job, links);
+    file_found(job, windows, links, &gaps, out)
+}
+
+// The same where there are timed facts: the rules order the points of steps alone.
+fn file_timed(s: &[u8], job: Job, starts: &[u32], links: &mut [u16], out: &mut [u8]) -> Answer
+    requires { ⌜ Timed (view job (now s)) (now starts) (now links) × Laid job (now s) ⌝ }
+    ensures { λ r. ⌜ Filing (fileOf (view job (now (s .entry))) (scheduleOf (now (starts .entry)))) (now (out .entry)) (now (out .exit)) r ⌝ }
+{
+    let mut spare = [0u64; MOST_POINTS];
+    let mut points = [0u64; MOST_POINTS];
+    let mut begins = [0u16; MOST_GROUPS + 2];
+    list_own_points(s, job, starts, &mut spare, &mut points, &mut begins);
+    file_points(s, job, starts, &points, &begins, links, out)
+}
+
+// Finds the links of a valid schedule whose points are in order, and files what it allows.
 fn file_schedule(
     s: &[u8],
     job: Job,
@@ -73,15 +141,15 @@ fn file_schedule(
     begins: &[u16],
     out: &mut [u8],
 ) -> Answer
-    requires { ⌜ ValidPoints (view job (now s)) (scheduleOf (now starts)) (now points) (now begins) × Laid job (now s)
-        × Writable (view job (now s)) (now starts) ⌝ }
+    requires { ⌜ ValidSchedule (view job (now s)) (now starts) (now points) (now begins) × Laid job (now s) ⌝ }
     ensures { λ r. ⌜ Filing (fileOf (view job (now (s .entry))) (scheduleOf (now (starts .entry)))) (now (out .entry)) (now (out .exit)) r ⌝ }
 {
     let mut links = [0u16; MOST_LINKS];
     support::find_links(s, job, points, begins, &mut links);
-    let mut gaps = [NO_ORDER; ENTRIES];
-    fill::fill_gaps(s, job, starts, points, begins, &links, &mut gaps);
-    file_found(s, job, &links, &gaps, out)
+    if job.count.timed == 0 {
+        return file_points(s, job, starts, points, begins, &mut links, out);
+    }
+    file_timed(s, job, starts, &mut links, out)
 }
 
 // Checks a job whose points at its planned starts are in order, and files it.

@@ -66,13 +66,6 @@ fewPoints = 192
 abbrev pub fewGroups : ℕ
 fewGroups = 80
 
--- how many points and groups there are, by the counts
-unfoldable pub pointsCounted : Counts → ℕ
-pointsCounted n = n .conditions + (n .effects + n .timed) + n .uses
-
-unfoldable pub groupsCounted : Counts → ℕ
-groupsCounted n = n .facts + n .facts + n .levels
-
 -- the counts of a small job
 pub record Small (n : Counts) : Type 0 where
   pub points : n .conditions + n .effects + n .timed + n .uses ≤ fewPoints

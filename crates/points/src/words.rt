@@ -9,7 +9,7 @@ ghost use Rattle.job.specs.Model.{view};
 ghost use Rattle.job.specs.WellFormed.{Ranged};
 ghost use Rattle.points.specs.Points.{PointsKnown};
 ghost use Rattle.points.specs.Words as spec;
-ghost use Rattle.points.specs.Words.{pointsCounted, groupsCounted, pointCount, conditionWord, effectWord, useWord};
+ghost use Rattle.points.specs.Words.{pointCount, conditionWord, effectWord, useWord};
 ghost use Rattle.points.specs.Words.{ConditionsPut, EffectsPut, TimedPut, UsesPut, WordsListed, PointRoom, Small};
 ghost use Rattle.timeline.specs.Words.{tickSpan};
 ghost use Rattle.validity.specs.Ticks.{scheduleOf, effectTick, firstTick, useTick};
@@ -38,14 +38,14 @@ pub const FEW_GROUPS: usize = 80;
 
 // How many points a job has, and in how many groups.
 fn points_counted(count: Counts) -> usize
-    ensures { λ r. ⌜ r ≡ pointsCounted count ⌝ }
+    ensures { λ r. ⌜ r ≡ count .conditions + (count .effects + count .timed) + count .uses ⌝ }
 {
     let setters = count.effects as usize + count.timed as usize;
     count.conditions as usize + setters + count.uses as usize
 }
 
 fn groups_counted(count: Counts) -> usize
-    ensures { λ r. ⌜ r ≡ groupsCounted count ⌝ }
+    ensures { λ r. ⌜ r ≡ count .facts + count .facts + count .levels ⌝ }
 {
     let facts = count.facts as usize;
     facts + facts + count.levels as usize

@@ -18,8 +18,9 @@ use Rattle.verdict.specs.declared.Verdict.the-variants.{FileTooShort, UnknownEd
 use Rattle.verdict.specs.Verdict.{number, place, _then_, refuseIf}
 use Rattle.verdict.proofs.Chain.{then-refused, first-refused, then-zero, refuse-zero}
 use Rattle.job.specs.declared.layout.Counts.{Counts}
-use Rattle.job.specs.Layout.{edition, headerWidth, countsOf, countList, highest, tableAt, positionsOf, countTooHigh}
-use Rattle.record_check.specs.Header.{layoutAgrees, headerCheck}
+use Rattle.job.specs.Layout.{timedEdition, shortestHeader, longestHeader, headerWidth, countsOf, countList, highest, tableAt, positionsOf, jobOf}
+use Rattle.job.specs.Layout.{countTooHigh}
+use Rattle.record_check.specs.Header.{editionKnown, marksWrong, layoutAgrees, headerCheck}
 use Rattle.form.specs.Refusals.{formCheck}
 use Rattle.validity.specs.Checks.{jobCheck}
 use Rattle.partialize.specs.Partialization.{accepts}
@@ -30,16 +31,25 @@ use Rattle.printout.specs.Shown.{shown, mostJob, inputMost, ShowsInput}
 -- refusals 1 to 4
 front : List ℕ → Verdict
 front s =
-    refuseIf (ltb (length s) headerWidth) FileTooShort
-    then refuseIf (not (eqb (u16At s 0) edition)) UnknownEdition
-    then refuseIf (ltb 1 (u16At s 2) || not (eqb (u16At s 18) 0)) MarkOutOfRange
-    then refuseIf (countTooHigh (countsOf s)) CountTooHigh
+    refuseIf (ltb (length s) shortestHeader) FileTooShort
+    then refuseIf (not (editionKnown (jobOf s .edition))) UnknownEdition
+    then refuseIf (ltb (length s) (headerWidth (jobOf s .edition))) FileTooShort
+    then refuseIf (marksWrong (jobOf s)) MarkOutOfRange
+    then refuseIf (countTooHigh (jobOf s .count)) CountTooHigh
+
+header-most : (edition : ℕ) → headerWidth edition ≤ longestHeader
+unfolding headerWidth
+header-most edition =
+    ⊎-elim
+    (λ (t : eqb edition timedEdition ≡ true). rw t (omega arith))
+    (λ (t : eqb edition timedEdition ≡ false). rw t (omega arith))
+    (either (eqb edition timedEdition))
 
 -- the tables end within the longest job where no count is too high
-end-most : (c : Counts) → countTooHigh c ≡ false → tableAt c 7 ≤ mostJob
+end-most : (header : ℕ) (c : Counts) → header ≤ longestHeader → countTooHigh c ≡ false → tableAt header c 8 ≤ mostJob
 unfolding countTooHigh tableAt
-end-most c e =
-    let n : (t : ℕ) → t < 7 → getD (countList c) t 0 ≤ getD highest t 0 = λ t h. ltb-false _ _ (any-false _ 7 e t h) in
+end-most header c h e =
+    let n : (t : ℕ) → t < 8 → getD (countList c) t 0 ≤ getD highest t 0 = λ t h. ltb-false _ _ (any-false _ 8 e t h) in
     omega (
       arith,
       n 0 (omega arith),
@@ -49,19 +59,22 @@ end-most c e =
       n 4 (omega arith),
       n 5 (omega arith),
       n 6 (omega arith),
+      n 7 (omega arith),
     )
 
 module _ (s : List ℕ) (long : mostJob < length s) where
-  whole : layoutAgrees s (positionsOf (countsOf s)) ≡ true → length s ≡ tableAt (countsOf s) 7
-  unfolding layoutAgrees positionsOf
-  whole t = eqb-true (length s) (tableAt (countsOf s) 7) (search (and-l, and-r, t))
+  whole : layoutAgrees s (jobOf s) ≡ true → length s ≡ tableAt (headerWidth (u16At s 0)) (countsOf s) 8
+  unfolding layoutAgrees jobOf positionsOf
+  whole t = eqb-true (length s) (tableAt (headerWidth (u16At s 0)) (countsOf s) 8) (search (and-l, and-r, t))
 
-  disagrees : countTooHigh (countsOf s) ≡ false → layoutAgrees s (positionsOf (countsOf s)) ≡ false
+  disagrees : countTooHigh (jobOf s .count) ≡ false → layoutAgrees s (jobOf s) ≡ false
+  unfolding jobOf
   disagrees e =
       ⊎-elim
-      (λ (t : layoutAgrees s (positionsOf (countsOf s)) ≡ true). absurd (omega (arith, whole t, end-most (countsOf s) e)))
-      (λ (t : layoutAgrees s (positionsOf (countsOf s)) ≡ false). t)
-      (either (layoutAgrees s (positionsOf (countsOf s))))
+      (λ (t : layoutAgrees s (jobOf s) ≡ true).
+      absurd (omega (arith, whole t, end-most (headerWidth (u16At s 0)) (countsOf s) (header-most (u16At s 0)) e)))
+      (λ (t : layoutAgrees s (jobOf s) ≡ false). t)
+      (either (layoutAgrees s (jobOf s)))
 
   -- 5 at the latest
   header-long : headerCheck s ≡ (front s then LayoutDisagrees)
@@ -69,7 +82,7 @@ module _ (s : List ℕ) (long : mostJob < length s) where
   header-long =
       elim (ℕ-discrete (number (front s)) 0) [
         | yes z ↦
-            let e = refuse-zero (countTooHigh (countsOf s)) CountTooHigh (λ y. let q : _≡_ {A = ℕ} 4 0 = y in omega arith) (then-zero _ _ z .1) in
+            let e = refuse-zero (countTooHigh (jobOf s .count)) CountTooHigh (λ y. let q : _≡_ {A = ℕ} 4 0 = y in omega arith) (then-zero _ _ z .1) in
             ap (λ (b : Bool). front s then refuseIf (not b) LayoutDisagrees) (disagrees e)
         | no n ↦ sym (then-refused _ _ n) ∙ then-refused _ _ n
       ]
@@ -95,24 +108,34 @@ module _ (s : List ℕ) (long : mostJob < length s) where
   shown-long = rw not-accepted (ap (λ (v : Verdict). refusedText (number v) (place v)) job-long)
 
 -- two files with the same header
-front-same :
-    (s t : List ℕ) → ltb (length s) headerWidth ≡ ltb (length t) headerWidth
-    → ((at : ℕ) → at < headerWidth → u16At s at ≡ u16At t at) → front s ≡ front t
-unfolding front countsOf
-front-same s t l r =
-    cc (
-      l,
-      r 0 (omega arith),
-      r 2 (omega arith),
-      r 4 (omega arith),
-      r 6 (omega arith),
-      r 8 (omega arith),
-      r 10 (omega arith),
-      r 12 (omega arith),
-      r 14 (omega arith),
-      r 16 (omega arith),
-      r 18 (omega arith),
-    )
+module _ (s t : List ℕ) (long : longestHeader ≤ length s) (other : longestHeader ≤ length t)
+    (r : (at : ℕ) → at < shortestHeader → u16At s at ≡ u16At t at) where
+  job-same : jobOf s ≡ jobOf t
+  unfolding jobOf countsOf
+  job-same =
+      cc (
+        r 0 (omega arith),
+        r 2 (omega arith),
+        r 4 (omega arith),
+        r 6 (omega arith),
+        r 8 (omega arith),
+        r 10 (omega arith),
+        r 12 (omega arith),
+        r 14 (omega arith),
+        r 16 (omega arith),
+        r 18 (omega arith),
+      )
+
+  front-same : front s ≡ front t
+  unfolding front
+  front-same =
+      rw (
+        le-ltb (length s) shortestHeader (omega arith),
+        le-ltb (length t) shortestHeader (omega arith),
+        le-ltb (length s) (headerWidth (jobOf s .edition)) (omega (arith, header-most (jobOf s .edition))),
+        le-ltb (length t) (headerWidth (jobOf t .edition)) (omega (arith, header-most (jobOf t .edition))),
+        job-same,
+      )
 
 read-beginning : (n : ℕ) (s : List ℕ) (at : ℕ) → at + 1 < n → u16At (take n s) at ≡ u16At s at
 unfolding u16At
@@ -126,11 +149,7 @@ shown-beginning n s room =
       | no h ↦
           let begun = take n s in
           let l : length begun ≡ n = length-take-le n s (omega arith) in
-          let e =
-          front-same begun s
-          (le-ltb (length begun) headerWidth (omega arith) ∙ sym (le-ltb (length s) headerWidth (omega arith)))
-          (λ at b. read-beginning n s at (omega arith))
-          in
+          let e = front-same begun s (omega arith) (omega arith) (λ at b. read-beginning n s at (omega arith)) in
           shown-long begun (omega arith)
           ∙ ap (λ (v : Verdict). refusedText (number (v then LayoutDisagrees)) (place (v then LayoutDisagrees))) e
           ∙ sym (shown-long s (omega arith))

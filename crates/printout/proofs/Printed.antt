@@ -11,14 +11,13 @@ use lib.ListN.{length, take}
 use Rattle.laws.proofs.Search.{either}
 use Rattle.verdict.specs.Verdict as verdict
 use Rattle.job.specs.Model.{modelOf}
-use Rattle.validity.specs.Ticks.{planned}
 use Rattle.validity.specs.Checks.{jobCheck}
 use Rattle.validity.proofs.Accepted.{job-promise}
 use Rattle.order_file.specs.Contents.{stepLimit, orderLimit, linkLimit}
 use Rattle.order_file.specs.Layout.{fileLength, contentsOf}
 use Rattle.order_file.specs.Within.{Within}
 use Rattle.order_file.proofs.Encode.{length-encode}
-use Rattle.orders.proofs.Within.{file-within}
+use Rattle.partialize.proofs.Promised.{within}
 use Rattle.partialize.specs.declared.answer.Answer.{Answer}
 use Rattle.partialize.specs.declared.answer.Answer.the-variants.{Filed, Refused}
 use Rattle.partialize.specs.Answer.{number, place, lengthOf}
@@ -37,9 +36,7 @@ mostFile = fileLength stepLimit orderLimit linkLimit
 module _ (s : List ℕ) (t : accepts s ≡ true) where
   loose-within : Within (looseOf s)
   unfolding accepts looseOf
-  loose-within =
-      let p = job-promise s refl .sound (eqb-true _ _ t) in
-      file-within (modelOf s) (planned (modelOf s)) (p .wellFormed) (p .valid)
+  loose-within = let p = job-promise s refl .sound (eqb-true _ _ t) in within (modelOf s) (p .wellFormed) (p .valid)
 
   file-short : length (fileBytes s) ≤ mostFile
   unfolding fileBytes

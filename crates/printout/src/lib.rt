@@ -7,10 +7,11 @@ use job::layout::CONDITION;
 use job::layout::EFFECT;
 use job::layout::FACT;
 use job::layout::GOAL;
-use job::layout::HEADER;
 use job::layout::Job;
 use job::layout::LEVEL;
+use job::layout::LONGEST_HEADER;
 use job::layout::STEP;
+use job::layout::TIMED;
 use job::layout::USE;
 use job::layout::WIDTHS;
 use order_file::layout::FILE_WIDTHS;
@@ -25,14 +26,15 @@ use partialize::answer;
 use partialize::partialize;
 
 // The longest job, with every table at its highest count.
-const MOST_JOB: usize = HEADER
+const MOST_JOB: usize = LONGEST_HEADER
     + WIDTHS[FACT] * Job::FACTS as usize
     + WIDTHS[LEVEL] * Job::LEVELS as usize
     + WIDTHS[STEP] * Job::STEPS as usize
     + WIDTHS[CONDITION] * Job::CONDITIONS as usize
     + WIDTHS[EFFECT] * Job::EFFECTS as usize
     + WIDTHS[USE] * Job::USES as usize
-    + WIDTHS[GOAL] * Job::GOALS as usize;
+    + WIDTHS[GOAL] * Job::GOALS as usize
+    + WIDTHS[TIMED] * Job::TIMED as usize;
 
 // As much of any input decides what is printed of it.
 pub const INPUT: usize = MOST_JOB + 1;

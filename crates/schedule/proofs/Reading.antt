@@ -25,7 +25,7 @@ use Rattle.schedule.specs.Opened.{Read}
 use Rattle.schedule.specs.Timed.{Clear}
 
 -- where the walks find nothing wrong, neither a step nor the clock is against itself
-module _ {m : Model} {x : ℕ → ℕ} (clear : Clear (clocked m) x) where
+module _ (m : Model) {x : ℕ → ℕ} (clear : Clear (clocked m) x) where
   abbrev M : Model
   M = clocked m
 

@@ -5,6 +5,7 @@ ghost use lib.ListN.{length};
 ghost use Rattle.laws.specs.Search.{any, lowest};
 ghost use Rattle.laws.specs.Listed.{Filled};
 ghost use Rattle.job.specs.Layout.{mostSteps};
+ghost use Rattle.job.specs.Clocked.{clocked};
 ghost use Rattle.job.specs.Model.{view};
 ghost use Rattle.validity.specs.Ticks.{scheduleOf};
 ghost use Rattle.validity.specs.Checks as spec;
@@ -17,14 +18,14 @@ use points::ticks::finish;
 use points::ticks::start_of;
 
 fn moved(s: &[u8], job: Job, starts: &[u32], k: u16) -> bool
-    ensures { λ r. ⌜ r ≡ spec.moved (view job (now (s .entry))) (scheduleOf (now (starts .entry))) k ⌝ }
+    ensures { λ r. ⌜ r ≡ spec.moved (clocked (view job (now (s .entry)))) (scheduleOf (now (starts .entry))) k ⌝ }
 {
     (step_fixed(s, job, k) == 1) & (start_of(starts, k) != step_start(s, job, k))
 }
 
 // The lowest fixed step that has another start, or the count of steps.
 pub fn first_moved(s: &[u8], job: Job, starts: &[u32]) -> u16
-    ensures { λ r. ⌜ r ≡ lowest (job .count .steps) (spec.moved (view job (now (s .entry))) (scheduleOf (now (starts .entry)))) ⌝ }
+    ensures { λ r. ⌜ r ≡ lowest (job .count .steps) (spec.moved (clocked (view job (now (s .entry)))) (scheduleOf (now (starts .entry)))) ⌝ }
 {
     let n = job.count.steps;
     let mut k = 0;
@@ -40,7 +41,7 @@ pub fn first_moved(s: &[u8], job: Job, starts: &[u32]) -> u16
 // Lists when each step finishes.
 fn list_finishes(s: &[u8], job: Job, starts: &[u32], finishes: &mut [usize])
     requires { ⌜ job .count .steps ≤ length (now finishes) ⌝ }
-    ensures { λ _. ⌜ Filled (job .count .steps) (finishOf (view job (now (s .entry))) (scheduleOf (now (starts .entry))))
+    ensures { λ _. ⌜ Filled (job .count .steps) (finishOf (clocked (view job (now (s .entry)))) (scheduleOf (now (starts .entry))))
         (now (finishes .entry)) (now (finishes .exit)) ⌝ }
 {
     let n = job.count.steps;
@@ -91,7 +92,7 @@ fn first_overlapped(starts: &[u32], finishes: &[usize], n: usize) -> usize
 // The lowest step of a serial job that another overlaps, or the count of steps.
 pub fn first_crowded(s: &[u8], job: Job, starts: &[u32]) -> u16
     requires { ⌜ (job .count .steps ≤ mostSteps) × (length (now starts) ≡ job .count .steps) ⌝ }
-    ensures { λ r. ⌜ r ≡ lowest (job .count .steps) (spec.crowded (view job (now (s .entry))) (scheduleOf (now (starts .entry)))) ⌝ }
+    ensures { λ r. ⌜ r ≡ lowest (job .count .steps) (spec.crowded (clocked (view job (now (s .entry)))) (scheduleOf (now (starts .entry)))) ⌝ }
 {
     if job.serial != 1 {
         return job.count.steps;

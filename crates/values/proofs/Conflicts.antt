@@ -10,8 +10,11 @@ use borrow.Author.Tests.{eqb-true, eqb-false, not-true, eq-eqb, ne-eqb}
 use lib.Dec.{eqb}
 use lib.ListN.{length, getD}
 use Rattle.laws.specs.Search.{lowest}
-use Rattle.laws.proofs.Search.{either, contrary, by-order, and-both, any-none, lowest-is}
+use Rattle.laws.proofs.Search.{either, contrary, by-order, and-both, any-none, any-false, lowest-is, lowest-facts}
 use Rattle.job.specs.Model.{Model}
+use Rattle.job.specs.Clocked.{clocked}
+use Rattle.job.specs.WellFormed.{WellFormed}
+use Rattle.job.proofs.Clocked.{of-effect, of-timed, clocked-form}
 use Rattle.timeline.specs.Words.{tickAt, valueAt}
 use Rattle.timeline.specs.Placed.{Parted}
 use Rattle.timeline.specs.Walking.{Walking}
@@ -46,6 +49,76 @@ module _ (m : Model) (x : ℕ → ℕ) (e k : ℕ) where
       (ap₂ _&&_ (ap not (ne-eqb _ _ (λ q. o .another (sym q)))) (ap₂ _&&_ (eq-eqb _ _ (sym (o .ofFact))) (ap not (ne-eqb _ _ (λ q. o .differs
       (sym q))))))
       (eq-eqb (effectTick m x e) (effectTick m x k) (omega (arith, o .late, o .early)))
+
+-- a conflict is of both
+pub meets-back : (m : Model) (x : ℕ → ℕ) (e k : ℕ) → meets m x e k ≡ true → meets m x k e ≡ true
+meets-back m x e k t =
+    let o = meets-out m x e k t in
+    meets-in m x k e
+    (record {
+      ofFact = sym (o .ofFact);
+      differs = λ q. o .differs (sym q);
+      another = λ q. o .another (sym q);
+      late = o .early;
+      early = o .late;
+    })
+
+-- what is read of a step's effect
+module _ (m : Model) where
+  pub own-listed : WellFormed m → (e : ℕ) → e < m .effects → clocked m .effectFact e < m .facts
+  own-listed w e h = clocked-form m w .effectFact e (omega arith)
+
+  module _ (e : ℕ) (h : e < m .effects) {v : ℕ} where
+    pub own-fact : v ≡ m .effectFact e → v ≡ clocked m .effectFact e
+    own-fact q = q ∙ sym (of-effect m (m .effectFact) (m .timedFact) e h)
+
+    pub own-value : v ≡ m .effectValue e → v ≡ clocked m .effectValue e
+    own-value q = q ∙ sym (of-effect m (m .effectValue) (m .timedValue) e h)
+
+    pub own-step : v ≡ m .effectStep e → v ≡ clocked m .effectStep e
+    own-step q = q ∙ sym (of-effect m (m .effectStep) (λ _. m .steps) e h)
+
+-- The clock has no conflict with itself: where a timed fact conflicts, an effect of a step does, whose number is lower.
+module _ (m : Model) (x : ℕ → ℕ) where
+  clock-apart : (e k : ℕ) → m .effects ≤ e → m .effects ≤ k → meets (clocked m) x e k ≡ false
+  clock-apart e k l g =
+      ⊎-elim
+      (λ (t : meets (clocked m) x e k ≡ true).
+      absurd
+      (meets-out (clocked m) x e k t .another
+      (of-timed m (m .effectStep) (λ _. m .steps) k g ∙ sym (of-timed m (m .effectStep) (λ _. m .steps) e l))))
+      (λ (n : meets (clocked m) x e k ≡ false). n)
+      (either (meets (clocked m) x e k))
+
+  pub conflict-of-step :
+      ((e : ℕ) → e < m .effects → conflicts (clocked m) x e ≡ false) → (e : ℕ) → e < clocked m .effects
+      → conflicts (clocked m) x e ≡ false
+  unfolding conflicts
+  conflict-of-step none e h =
+      elim (decLt e (m .effects)) [
+        | yes l ↦ none e l
+        | no l ↦
+            any-none (meets (clocked m) x e) (clocked m .effects)
+            (λ k g.
+            elim (decLt k (m .effects)) [
+              | yes i ↦
+                  ⊎-elim
+                  (λ (t : meets (clocked m) x e k ≡ true).
+                  contrary (meets-back (clocked m) x e k t) (any-false (meets (clocked m) x k) (clocked m .effects) (none k i) e h))
+                  (λ (n : meets (clocked m) x e k ≡ false). n)
+                  (either (meets (clocked m) x e k))
+              | no i ↦ clock-apart e k (omega arith) (omega arith)
+            ])
+      ]
+
+  pub no-step-conflicts :
+      (e : ℕ) → lowest e (conflicts (clocked m) x) ≡ e → m .effects ≤ e
+      → clocked m .effects ≡ lowest (clocked m .effects) (conflicts (clocked m) x)
+  no-step-conflicts e none all =
+      sym
+      (lowest-is (conflicts (clocked m) x) (clocked m .effects) (clocked m .effects) (omega arith)
+      (conflict-of-step (λ k l. lowest-facts (conflicts (clocked m) x) e .1 k (omega (arith, none))))
+      (λ l. absurd (let z : clocked m .effects < clocked m .effects = l in omega arith)))
 
 -- The setters of an effect's fact.
 module _ {m : Model} {x : ℕ → ℕ} {points begins : List ℕ} (known : PointsKnown m x points begins) (e : ℕ) (h : m .effectFact e < m .facts) where

@@ -12,7 +12,7 @@ use lib.ListN.{length, getD}
 use Rattle.laws.specs.Search.{any, lowest}
 use Rattle.laws.proofs.Search.{either, contrary, and-both, any-none}
 use Rattle.job.specs.Model.{Model, noDeadline}
-use Rattle.job.specs.WellFormed.{WellFormed}
+use Rattle.job.specs.Clocked.{ClockedForm}
 use Rattle.timeline.specs.Words.{numberAt, tickAt, valueAt}
 use Rattle.timeline.specs.Placed.{Parted, Run}
 use Rattle.validity.specs.Ticks.{effectTick, opposes}
@@ -21,7 +21,7 @@ use Rattle.validity.specs.Checks.{undoes, late, goalFails}
 use Rattle.validity.proofs.Seen.{Giver, seen-by-effect, seen-by-initial, afterAll-ge}
 use Rattle.validity.proofs.Tested.{goal-holds, goal-in-time}
 use Rattle.points.specs.Points.{PointsKnown, OneValue}
-use Rattle.job.proofs.Ranged.{well-formed-ranged}
+use Rattle.points.proofs.ClockedRange.{form-range}
 use Rattle.points.proofs.Placed.{placed-giver, giver-placed, placed-apart, seen-first, seen-before}
 use Rattle.values.specs.GoalRuns.{GoalsKnown, LateRun}
 
@@ -29,7 +29,7 @@ use Rattle.values.specs.GoalRuns.{GoalsKnown, LateRun}
 passed : (b : Bool) → (b ≡ false → ⊥) → b ≡ true
 passed b h = ⊎-elim (λ (t : b ≡ true). t) (λ (f : b ≡ false). absurd (h f)) (either b)
 
-module _ (m : Model) (x : ℕ → ℕ) (form : WellFormed m) (g : ℕ) (h : g < m .goals) where
+module _ (m : Model) (x : ℕ → ℕ) (form : ClockedForm m) (g : ℕ) (h : g < m .goals) where
   -- a goal fails that is not seen after all effects, or at a tick after its deadline
   missed-last : (seen m x (m .goalFact g) (afterAll m x) ≡ m .goalValue g → ⊥) → true ≡ goalFails m x g
   missed-last other = sym (passed (goalFails m x g) (λ f. other (goal-holds m x g f .0)))
@@ -88,7 +88,7 @@ module _ (m : Model) (x : ℕ → ℕ) (form : WellFormed m) (g : ℕ) (h : g < 
       met (stays (afterAll m x)) (λ _. (stays (suc (m .goalDeadline g)), λ e o. absurd (none e o)))
 
 -- The places from low to high are those of the setters of goal g's fact.
-module _ (m : Model) (x : ℕ → ℕ) {points begins : List ℕ} (known : PointsKnown m x points begins) (one : OneValue m x) (form : WellFormed m) (g : ℕ)
+module _ (m : Model) (x : ℕ → ℕ) {points begins : List ℕ} (known : PointsKnown m x points begins) (one : OneValue m x) (form : ClockedForm m) (g : ℕ)
     (h : g < m .goals) {low high value : ℕ} (from : low ≡ getD begins (m .goalFact g) 0) (to : high ≡ getD begins (m .goalFact g + 1) 0)
     (wanted : value ≡ m .goalValue g) where
   -- all of them are before the tick after all
@@ -118,13 +118,13 @@ module _ (m : Model) (x : ℕ → ℕ) {points begins : List ℕ} (known : Point
         | no i ↦
             ap not (e ∙ ne-eqb _ _ i)
             ∙ missed-last m x form g h
-            (λ s. i (sym (seen-first known (m .goalFact g) (form .goalFact g h) (well-formed-ranged form) all-before (omega arith)) ∙ s ∙ sym wanted))
+            (λ s. i (sym (seen-first known (m .goalFact g) (form .goalFact g h) (form-range form) all-before (omega arith)) ∙ s ∙ sym wanted))
       ]
 
   -- the last of them gives the value after all effects
   last-seen : low < high → seen m x (m .goalFact g) (afterAll m x) ≡ valueAt points (high - 1)
   last-seen some =
-      seen-before known (m .goalFact g) (form .goalFact g h) (well-formed-ranged form) all-before one (omega arith)
+      seen-before known (m .goalFact g) (form .goalFact g h) (form-range form) all-before one (omega arith)
       ∙ ap (λ k. valueAt points (k - 1)) (sym to)
 
   unseen : low < high → (valueAt points (high - 1) ≡ value → ⊥) → true ≡ goalFails m x g
@@ -211,7 +211,7 @@ module _ (m : Model) (x : ℕ → ℕ) {points begins : List ℕ} (known : Point
             let first : low ≤ run = so .from in
             unkept
             (sym
-            (seen-first known (m .goalFact g) (form .goalFact g h) (well-formed-ranged form) (begins-at-run (λ p a b. absurd (omega arith)))
+            (seen-first known (m .goalFact g) (form .goalFact g h) (form-range form) (begins-at-run (λ p a b. absurd (omega arith)))
             (omega arith)) ∙ s ∙ sym wanted)
             (omega arith)
 
@@ -226,7 +226,7 @@ module _ (m : Model) (x : ℕ → ℕ) {points begins : List ℕ} (known : Point
             in
             differ
             (sym
-            (seen-before known (m .goalFact g) (form .goalFact g h) (well-formed-ranged form)
+            (seen-before known (m .goalFact g) (form .goalFact g h) (form-range form)
             (begins-at-run
             (λ p a b.
             elim (decLt p (run - 1)) [

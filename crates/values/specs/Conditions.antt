@@ -4,18 +4,17 @@ use mathlib.Core.Path.{_≡_}
 use mathlib.Core.List.{List}
 use lib.ListN.{length, getD}
 use Rattle.job.specs.Model.{Model}
-use Rattle.job.specs.WellFormed.{Ranged}
 use Rattle.timeline.specs.Words.{wordStep, wordValue, wordTick, wordNumber, tickAt}
 use Rattle.timeline.specs.Placed.{Parted, Run}
 use Rattle.validity.specs.Ticks.{firstTick}
-use Rattle.points.specs.Points.{PointsKnown, OneValue}
+use Rattle.points.specs.Points.{ClockedRange, PointsKnown, OneValue}
 use Rattle.values.specs.declared.conditions.Setters.{Setters}
 use Rattle.values.specs.declared.conditions.Walk.{Walk}
 use Rattle.values.specs.Against.{Rising, OfValue}
 
 -- what the search for a contested condition knows of a job and its points
 pub record ConditionsKnown (m : Model) (x : ℕ → ℕ) (points begins : List ℕ) : Type 0 where
-  pub form : Ranged m
+  pub form : ClockedRange m
   pub known : PointsKnown m x points begins
   pub oneValue : OneValue m x
 

@@ -5,14 +5,14 @@ use mathlib.Core.Bool.{Bool, false, _&&_, not}
 use mathlib.Core.List.{List}
 use lib.Dec.{ltb, eqb}
 use Rattle.job.specs.Model.{Model, noDeadline}
-use Rattle.job.specs.WellFormed.{WellFormed}
+use Rattle.job.specs.Clocked.{ClockedForm}
 use Rattle.timeline.specs.Words.{tickAt}
 use Rattle.timeline.specs.Placed.{Run}
 use Rattle.points.specs.Points.{PointsKnown}
 
 -- a well-formed job, and its points in some schedule
 pub record GoalsKnown (m : Model) (points begins : List ℕ) : Type 0 where
-  pub form : WellFormed m
+  pub form : ClockedForm m
   pub known : (x : ℕ → ℕ) × PointsKnown m x points begins
 
 -- r tells whether there is a deadline and the run that ends the group begins after it; not where the run is the whole group and goes

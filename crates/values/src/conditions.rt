@@ -5,6 +5,7 @@ ghost use Prim.Native.Nat.{max, min, _-_, _≤_, _<_};
 ghost use lib.Dec.{eqb, ltb};
 ghost use lib.ListN.{length};
 ghost use Rattle.laws.specs.Search.{lowest};
+ghost use Rattle.job.specs.Clocked.{clocked};
 ghost use Rattle.job.specs.Model.{view};
 ghost use Rattle.timeline.specs.Words.{wordTick, wordNumber, valueAt};
 ghost use Rattle.validity.specs.Ticks.{scheduleOf};
@@ -123,7 +124,7 @@ fn seen_at(points: &[u64], setters: Setters, place: usize) -> u16
     }
 }
 
-// A step that no point is of.
+// A step that no point is of, nor is it the clock.
 const NO_STEP: u16 = STEP_SPAN as u16 - 1;
 
 // Whether a point from a place on, before tick `last`, has another value, whatever its step.
@@ -172,8 +173,8 @@ fn is_contested(
     walk: Walk,
     word: u64,
 ) -> bool
-    requires { ⌜ ConditionAt (view job (now s)) (scheduleOf (now starts)) (now points) setters walk word ⌝ }
-    ensures { λ r. ⌜ r ≡ contested (view job (now (s .entry))) (scheduleOf (now (starts .entry))) (wordNumber word) ⌝ }
+    requires { ⌜ ConditionAt (clocked (view job (now s))) (scheduleOf (now starts)) (now points) setters walk word ⌝ }
+    ensures { λ r. ⌜ r ≡ contested (clocked (view job (now (s .entry)))) (scheduleOf (now (starts .entry))) (wordNumber word) ⌝ }
 {
     let value = value_of(word);
     let step = step_of(word);
@@ -192,9 +193,9 @@ fn contested_of(
     begins: &[u16],
     fact: u16,
 ) -> u16
-    requires { ⌜ ConditionsKnown (view job (now s)) (scheduleOf (now starts)) (now points) (now begins) × (fact < job .count .facts) ⌝ }
-    ensures { λ r. ⌜ Noted (job .count .conditions) (contested (view job (now (s .entry))) (scheduleOf (now (starts .entry))))
-        (Wanting (view job (now (s .entry))) fact) r ⌝ }
+    requires { ⌜ ConditionsKnown (clocked (view job (now s))) (scheduleOf (now starts)) (now points) (now begins) × (fact < job .count .facts) ⌝ }
+    ensures { λ r. ⌜ Noted (job .count .conditions) (contested (clocked (view job (now (s .entry)))) (scheduleOf (now (starts .entry))))
+        (Wanting (clocked (view job (now (s .entry)))) fact) r ⌝ }
 {
     let setters = Setters {
         low: begin_at(begins, fact as usize),
@@ -223,8 +224,8 @@ fn contested_of(
 
 // The lowest contested condition, or the count of conditions.
 pub fn first_contested(s: &[u8], job: Job, starts: &[u32], points: &[u64], begins: &[u16]) -> u16
-    requires { ⌜ ConditionsKnown (view job (now s)) (scheduleOf (now starts)) (now points) (now begins) ⌝ }
-    ensures { λ r. ⌜ r ≡ lowest (job .count .conditions) (contested (view job (now (s .entry))) (scheduleOf (now (starts .entry)))) ⌝ }
+    requires { ⌜ ConditionsKnown (clocked (view job (now s))) (scheduleOf (now starts)) (now points) (now begins) ⌝ }
+    ensures { λ r. ⌜ r ≡ lowest (job .count .conditions) (contested (clocked (view job (now (s .entry)))) (scheduleOf (now (starts .entry)))) ⌝ }
 {
     let mut best = job.count.conditions;
     let mut fact = 0;

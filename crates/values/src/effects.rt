@@ -1,10 +1,11 @@
-// Refusal 10: opposing effects of two steps at one tick.
+// Refusal 10: opposing effects of two steps, or of a step and the clock, at one tick.
 ghost use mathlib.Core.Path.{_≡_};
 ghost use mathlib.Core.Bool.{false, not, _&&_};
 ghost use Prim.Native.Nat.{_+_, _≤_, _<_};
 ghost use lib.Dec.{eqb};
 ghost use lib.ListN.{length, getD};
 ghost use Rattle.laws.specs.Search.{lowest};
+ghost use Rattle.job.specs.Clocked.{clocked};
 ghost use Rattle.job.specs.Model.{view};
 ghost use Rattle.job.specs.WellFormed.{WellFormed};
 ghost use Rattle.timeline.specs.Words.{wordTick, wordValue};
@@ -97,9 +98,9 @@ pub(crate) fn opposed_from(
 
 // Whether effect e conflicts with one of its fact's setters at its tick.
 fn conflicts(s: &[u8], job: Job, starts: &[u32], points: &[u64], begins: &[u16], e: u16) -> bool
-    requires { ⌜ WellFormed (view job (now s)) × PointsKnown (view job (now s)) (scheduleOf (now starts)) (now points) (now begins)
+    requires { ⌜ WellFormed (view job (now s)) × PointsKnown (clocked (view job (now s))) (scheduleOf (now starts)) (now points) (now begins)
         × (e < job .count .effects) ⌝ }
-    ensures { λ r. ⌜ r ≡ spec.conflicts (view job (now (s .entry))) (scheduleOf (now (starts .entry))) e ⌝ }
+    ensures { λ r. ⌜ r ≡ spec.conflicts (clocked (view job (now (s .entry)))) (scheduleOf (now (starts .entry))) e ⌝ }
 {
     let fact = effect_fact(s, job, e) as usize;
     let low = begin_at(begins, fact);
@@ -126,10 +127,12 @@ fn conflicts(s: &[u8], job: Job, starts: &[u32], points: &[u64], begins: &[u16],
     )
 }
 
-// The lowest effect that conflicts, found one by one: only jobs that are refused come here.
+// The lowest effect that conflicts, found one by one: only jobs that are refused come here. A timed fact conflicts with effects of steps
+// alone, so it is never the lowest.
 fn lowest_conflict(s: &[u8], job: Job, starts: &[u32], points: &[u64], begins: &[u16]) -> u16
-    requires { ⌜ WellFormed (view job (now s)) × PointsKnown (view job (now s)) (scheduleOf (now starts)) (now points) (now begins) ⌝ }
-    ensures { λ r. ⌜ r ≡ lowest (job .count .effects) (spec.conflicts (view job (now (s .entry))) (scheduleOf (now (starts .entry)))) ⌝ }
+    requires { ⌜ WellFormed (view job (now s)) × PointsKnown (clocked (view job (now s))) (scheduleOf (now starts)) (now points) (now begins) ⌝ }
+    ensures { λ r. ⌜ r ≡ lowest (job .count .effects + job .count .timed)
+        (spec.conflicts (clocked (view job (now (s .entry)))) (scheduleOf (now (starts .entry)))) ⌝ }
 {
     let mut e = 0;
     while e < job.count.effects {
@@ -138,17 +141,18 @@ fn lowest_conflict(s: &[u8], job: Job, starts: &[u32], points: &[u64], begins: &
         }
         e += 1;
     }
-    e
+    job.count.effects + job.count.timed
 }
 
-// The lowest effect that an opposing effect of another step shares a tick with, or the count of effects.
+// The lowest effect that an opposing effect of another step shares a tick with, or the count of effects and timed facts.
 pub fn first_conflict(s: &[u8], job: Job, starts: &[u32], points: &[u64], begins: &[u16]) -> u16
-    requires { ⌜ WellFormed (view job (now s)) × PointsKnown (view job (now s)) (scheduleOf (now starts)) (now points) (now begins) ⌝ }
-    ensures { λ r. ⌜ r ≡ lowest (job .count .effects) (spec.conflicts (view job (now (s .entry))) (scheduleOf (now (starts .entry)))) ⌝ }
+    requires { ⌜ WellFormed (view job (now s)) × PointsKnown (clocked (view job (now s))) (scheduleOf (now starts)) (now points) (now begins) ⌝ }
+    ensures { λ r. ⌜ r ≡ lowest (job .count .effects + job .count .timed)
+        (spec.conflicts (clocked (view job (now (s .entry)))) (scheduleOf (now (starts .entry)))) ⌝ }
 {
     if any_mixed(job.count.facts, points, begins) {
         lowest_conflict(s, job, starts, points, begins)
     } else {
-        job.count.effects
+        job.count.effects + job.count.timed
     }
 }

@@ -3,6 +3,7 @@ ghost use mathlib.Core.Path.{_≡_};
 ghost use Prim.Native.Nat.{ℕ, _≤_, _<_};
 ghost use lib.ListN.{length};
 ghost use Rattle.laws.specs.Search.{lowest};
+ghost use Rattle.job.specs.Clocked.{clocked};
 ghost use Rattle.job.specs.Model.{view};
 ghost use Rattle.validity.specs.Checks.{goalFails};
 ghost use Rattle.points.specs.Points.{PointsKnown, OneValue};
@@ -30,9 +31,9 @@ fn late(points: &[u64], low: usize, high: usize, kept: bool, deadline: usize) ->
 
 // Whether goal g fails or comes after its deadline.
 fn goal_fails(s: &[u8], job: Job, points: &[u64], begins: &[u16], g: u16) -> bool
-    requires { ⌜ GoalsKnown (view job (now s)) (now points) (now begins) × (g < job .count .goals) ⌝ }
-    ensures { λ r. ⌜ ((x : ℕ → ℕ) → PointsKnown (view job (now (s .entry))) x (now (points .entry)) (now (begins .entry))
-        → OneValue (view job (now (s .entry))) x → r ≡ goalFails (view job (now (s .entry))) x g) ⌝ }
+    requires { ⌜ GoalsKnown (clocked (view job (now s))) (now points) (now begins) × (g < job .count .goals) ⌝ }
+    ensures { λ r. ⌜ ((x : ℕ → ℕ) → PointsKnown (clocked (view job (now (s .entry)))) x (now (points .entry)) (now (begins .entry))
+        → OneValue (clocked (view job (now (s .entry)))) x → r ≡ goalFails (clocked (view job (now (s .entry)))) x g) ⌝ }
 {
     let goal = goal_at(s, job, g);
     let fact = goal.fact;
@@ -52,9 +53,9 @@ fn goal_fails(s: &[u8], job: Job, points: &[u64], begins: &[u16], g: u16) -> boo
 
 // The lowest goal that fails or comes after its deadline, or the count of goals.
 pub fn first_missed(s: &[u8], job: Job, points: &[u64], begins: &[u16]) -> u16
-    requires { ⌜ GoalsKnown (view job (now s)) (now points) (now begins) ⌝ }
-    ensures { λ r. ⌜ ((x : ℕ → ℕ) → PointsKnown (view job (now (s .entry))) x (now (points .entry)) (now (begins .entry))
-        → OneValue (view job (now (s .entry))) x → r ≡ lowest (job .count .goals) (goalFails (view job (now (s .entry))) x)) ⌝ }
+    requires { ⌜ GoalsKnown (clocked (view job (now s))) (now points) (now begins) ⌝ }
+    ensures { λ r. ⌜ ((x : ℕ → ℕ) → PointsKnown (clocked (view job (now (s .entry)))) x (now (points .entry)) (now (begins .entry))
+        → OneValue (clocked (view job (now (s .entry)))) x → r ≡ lowest (job .count .goals) (goalFails (clocked (view job (now (s .entry)))) x)) ⌝ }
 {
     let n = job.count.goals;
     let mut g = 0;

@@ -13,7 +13,7 @@ check-ordered-spec =
     (λ c κs.
     let p = c .before .before .before .before .before .before .pre in
     let clear = c .before .is-clear .ensures (c .if1 .taken) in
-    (record { form = read-formed (p .read) (clear-against clear); known = p .known }, clear))
+    (record { form = read-formed (p .read) (clear-against _ clear); known = p .known }, clear))
     (λ c κs. c .before .before .before .before .before .before .pre)
-    (λ c. c .check-clear .ensures ∙ then-accepted _ _ (clear-against (c .before .before .is-clear .ensures (c .before .if1 .taken))))
+    (λ c. c .check-clear .ensures ∙ then-accepted _ _ (clear-against _ (c .before .before .is-clear .ensures (c .before .if1 .taken))))
     (λ c. c .check-named .ensures))

@@ -4,6 +4,7 @@ use denote.Ref.{now}
 use Rattle.verdict.specs.Verdict.{_then_}
 use Rattle.job.specs.Model.{view}
 use Rattle.job.specs.Clocked.{clocked}
+use Rattle.job.proofs.Clocked.{clocked-form}
 use Rattle.validity.specs.Ticks.{scheduleOf}
 use Rattle.validity.specs.declared.Rule.the-variants.{Conditions, Levels, Goals, Steps}
 use Rattle.validity.specs.Checks.{ruleCheck, broken, countUnder, refusalOf}
@@ -22,7 +23,7 @@ check-settled-spec =
     (λ c κs. search needs)
     (λ c κs.
     let start = c .before .before .before .before .before .before .before .before .before in
-    record { form = start .pre .form; known = (scheduleOf (now (start .args .starts)), start .pre .known) })
+    record { form = clocked-form _ (start .pre .form); known = (scheduleOf (now (start .args .starts)), start .pre .known) })
     (λ c κs. search needs)
     (λ c κs. let p = c .before .before .before .before .before .before .before .before .before .before .before .before .pre in
     (p .form .stepCount, p .counted))

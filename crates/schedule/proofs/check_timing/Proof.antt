@@ -1,6 +1,7 @@
 -- A conflict of effects is refused; without one, the other four rules decide.
-use Rattle.job.proofs.Ranged.{well-formed-ranged}
+use native.Mathlib.Omega.{arith}
 use Rattle.job.proofs.Clocked.{clocked-form}
+use Rattle.points.proofs.ClockedRange.{form-range}
 use Rattle.schedule.proofs.Chained.{conflict-refused, others-decide, none-conflict}
 use Rattle.values.proofs.Contested.{contested-lowest}
 use borrow.Author.Needs.{needs}
@@ -12,11 +13,12 @@ check-timing-spec =
     tie.close
     (tie.spec
     (λ c κs. let p = c .before .before .before .before .pre .0 in (p .form, p .known))
+    (λ c. let w = c .before .before .before .before .before .before .pre .0 .form in omega (arith, w .effectCount, w .timedCount))
     (λ c. conflict-refused _ _ (c .before .before .first-conflict .ensures) (c .if1 .taken))
     (λ c κs.
     let p = c .before .before .before .before .before .before .before .pre in
     record {
-      form = well-formed-ranged (p .0 .form);
+      form = form-range (clocked-form _ (p .0 .form));
       known = p .0 .known;
       oneValue = none-conflict _ _ (c .before .before .first-conflict .ensures) (clocked-form _ (p .0 .form)) (c .if1 .left);
     })

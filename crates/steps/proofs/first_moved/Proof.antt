@@ -3,6 +3,7 @@ use Prim.Native.Nat.{_≤_, _-_}
 use mathlib.Core.Path.{_≡_}
 use Rattle.laws.specs.Search.{lowest}
 use Rattle.laws.proofs.Search.{lowest-start, lowest-more, lowest-found, lowest-end}
+use Rattle.job.specs.Clocked.{clocked}
 use Rattle.job.specs.Model.{view}
 use Rattle.validity.specs.Ticks.{scheduleOf}
 use Rattle.validity.specs.Checks.{moved}
@@ -14,7 +15,7 @@ pub first-moved-spec : {M : Type 1} → statement M
 first-moved-spec =
     tie.close
     (tie.spec
-    (λ s job starts n k₀ k. (k ≤ n) × (lowest k (moved (view job s) (scheduleOf starts)) ≡ k))
+    (λ s job starts n k₀ k. (k ≤ n) × (lowest k (moved (clocked (view job s)) (scheduleOf starts)) ≡ k))
     (λ s job starts n k₀ k. n - k)
     (λ c. (search needs, lowest-start _))
     (λ c κs. search needs)

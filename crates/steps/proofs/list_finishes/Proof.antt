@@ -4,6 +4,7 @@ use native.Mathlib.Omega.{arith}
 use lib.ListN.{length}
 use Rattle.laws.specs.Listed.{Filled}
 use Rattle.laws.proofs.Listed.{filled-start, filled-more, filled-end}
+use Rattle.job.specs.Clocked.{clocked}
 use Rattle.job.specs.Model.{view}
 use Rattle.validity.specs.Ticks.{scheduleOf, finish}
 use borrow.Author.Needs.{needs}
@@ -15,7 +16,7 @@ list-finishes-spec =
     tie.close
     (tie.spec
     (λ s job starts finishes₀ n k₀ finishes k.
-    (k ≤ n) × (n ≤ length finishes₀) × Filled k (finish (view job s) (scheduleOf starts)) finishes₀ finishes)
+    (k ≤ n) × (n ≤ length finishes₀) × Filled k (finish (clocked (view job s)) (scheduleOf starts)) finishes₀ finishes)
     (λ s job starts finishes₀ n k₀ finishes k. n - k)
     (λ c. (search needs, c .before .before .before .pre, filled-start _ _))
     (λ c κs. search needs) (λ c. search needs) (λ c. search needs)

@@ -1,9 +1,10 @@
 -- The rules one after the other.
 use native.Mathlib.Omega.{arith}
 use denote.Ref.{now}
+use Rattle.job.specs.Model.{view}
 use Rattle.orders.specs.Gaps.{gapOf}
-use Rattle.gaps.specs.Rules.{ValidPoints}
-use Rattle.links.proofs.LinkList.{valid-named}
+use Rattle.rows.proofs.Raised.{raised-is}
+use Rattle.gaps.proofs.Own.{own-points, own-gaps}
 use Rattle.gaps.proofs.Filled.{raised-then, empty-gaps, table-of}
 use Rattle.gaps.proofs.fill.fill_gaps.Statement.{statement}
 use Rattle.gaps.proofs.fill.fill_gaps.Tie as tie
@@ -18,7 +19,6 @@ fill-gaps-spec =
     let w = d .pre .0 in (
       record {
         form = w .form;
-        named = valid-named _ _ _ (w .linked) (w .form) (w .valid);
         room = w .room;
         whole = empty-gaps _ (w .size) (w .empty);
       },
@@ -30,13 +30,13 @@ fill-gaps-spec =
     let w = d .pre .0 in
     let none = empty-gaps _ (w .size) (w .empty) in
     let whole1 = support .fill-support .ensures _ (w .linked) .whole none in
-    (now (d .args .s), record { form = w .form; known = w .known; valid = w .valid }, whole1, d .pre .2 .each))
+    (now (d .args .s), own-points w, whole1, d .pre .2 .each))
     (λ c κs.
     let opposing = c .before .before .before in
     let support = opposing .before .before .before .before in
     let d = support .before .before .before .before .before .before .before .before in
     let w = d .pre .0 in
-    let known : ValidPoints _ _ _ _ = record { form = w .form; known = w .known; valid = w .valid } in
+    let known = own-points w in
     let none = empty-gaps _ (w .size) (w .empty) in
     let whole1 = support .fill-support .ensures _ (w .linked) .whole none in
     let whole2 = opposing .fill-opposing .ensures _ known .whole whole1 in
@@ -47,7 +47,7 @@ fill-gaps-spec =
     let support = opposing .before .before .before .before in
     let d = support .before .before .before .before .before .before .before .before in
     let w = d .pre .0 in
-    let known : ValidPoints _ _ _ _ = record { form = w .form; known = w .known; valid = w .valid } in
+    let known = own-points w in
     let none = empty-gaps _ (w .size) (w .empty) in
     let whole1 = support .fill-support .ensures _ (w .linked) .whole none in
     let whole2 = opposing .fill-opposing .ensures _ known .whole whole1 in
@@ -60,7 +60,7 @@ fill-gaps-spec =
     let support = opposing .before .before .before .before in
     let d = support .before .before .before .before .before .before .before .before in
     let w = d .pre .0 in
-    let known : ValidPoints _ _ _ _ = record { form = w .form; known = w .known; valid = w .valid } in
+    let known = own-points w in
     let none = empty-gaps _ (w .size) (w .empty) in
     let whole1 = support .fill-support .ensures _ (w .linked) .whole none in
     let whole2 = opposing .fill-opposing .ensures _ known .whole whole1 in
@@ -75,7 +75,7 @@ fill-gaps-spec =
     let support = opposing .before .before .before .before in
     let d = support .before .before .before .before .before .before .before .before in
     let w = d .pre .0 in
-    let known : ValidPoints _ _ _ _ = record { form = w .form; known = w .known; valid = w .valid } in
+    let known = own-points w in
     let none = empty-gaps _ (w .size) (w .empty) in
     let whole1 = support .fill-support .ensures _ (w .linked) .whole none in
     let whole2 = opposing .fill-opposing .ensures _ known .whole whole1 in
@@ -91,7 +91,7 @@ fill-gaps-spec =
     let support = opposing .before .before .before .before in
     let d = support .before .before .before .before .before .before .before .before in
     let w = d .pre .0 in
-    let known : ValidPoints _ _ _ _ = record { form = w .form; known = w .known; valid = w .valid } in
+    let known = own-points w in
     let none = empty-gaps _ (w .size) (w .empty) in
     let whole1 = support .fill-support .ensures _ (w .linked) .whole none in
     let whole2 = opposing .fill-opposing .ensures _ known .whole whole1 in
@@ -108,11 +108,13 @@ fill-gaps-spec =
     let support = opposing .before .before .before .before in
     let d = support .before .before .before .before .before .before .before .before in
     let w = d .pre .0 in
-    let known : ValidPoints _ _ _ _ = record { form = w .form; known = w .known; valid = w .valid } in
+    let known = own-points w in
+    let m = view (d .args .job) (now (d .args .s)) in
     table-of _ _ _ _ _ (w .form .stepCount)
+    (raised-is _ _ _ _ _
     (raised-then _ _ _ _ _ _
     (raised-then _ _ _ _ _ _
     (raised-then _ _ _ _ _ _
     (raised-then _ _ _ _ _ _ (support .fill-support .ensures _ (w .linked)) (opposing .fill-opposing .ensures _ known))
-    (conditions .fill-conditions .ensures)) (levels .fill-levels .ensures _ known)) (serial .fill-serial .ensures)) (clear .clear-own .ensures)
+    (conditions .fill-conditions .ensures)) (levels .fill-levels .ensures _ known)) (serial .fill-serial .ensures)) (own-gaps m _)) (clear .clear-own .ensures)
     (w .size) (w .empty)))

@@ -5,7 +5,7 @@ use native.Mathlib.Omega.{arith}
 use borrow.Author.Needs.{needs}
 use denote.Ref.{now}
 use Rattle.validity.specs.Ticks.{scheduleOf}
-use Rattle.points.proofs.Placed.{valid-one-value, placed-apart}
+use Rattle.points.proofs.Placed.{placed-apart}
 use Rattle.rows.specs.Points.{Reached, Among}
 use Rattle.rows.proofs.Reached.{within-up, within-all, within-empty}
 use Rattle.gaps.proofs.Rules.{given-points, OpposingOrder, opposing-known, opposing-raised}
@@ -43,7 +43,7 @@ fill-opposing-spec =
       d .pre .1 .form .stepCount,
       rw (low .begin-at .ensures .0, high .begin-at2 .ensures .0) (opposing-known (d .pre .1) (d .pre .3) _ (test .loop-test .taken)),
       rw (low .begin-at .ensures .0, high .begin-at2 .ensures .0)
-          (placed-apart (d .pre .1 .known) _ (test .loop-test .taken) (valid-one-value (d .pre .1 .form) (d .pre .1 .valid))),
+          (placed-apart (d .pre .1 .known) _ (test .loop-test .taken) (d .pre .1 .one)),
     ))
     (λ c.
     let test = c .before .before .before .before .before .before in

@@ -22,7 +22,7 @@ fill-serial-spec =
     (λ s job starts gaps₀ n i₀ gaps i. (i ≤ n) × Raised (job .count .steps) (λ a b. largest i (λ j. serialRow (view job s) (scheduleOf starts) j a b))
     gaps₀ gaps)
     (λ s job starts gaps₀ n i₀ gaps i. n - i)
-    (λ c. raised-none _ _ _ (λ i k. rw (ne-eqb _ _ (c .if1 .taken)) refl))
+    (λ c. raised-none _ _ _ (λ i k _. rw (ne-eqb _ _ (c .if1 .taken)) refl))
     (λ c. (omega arith, raised-start _ _ _))
     (λ c κs.
     let l = c .before .before in

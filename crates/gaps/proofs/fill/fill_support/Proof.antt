@@ -2,6 +2,7 @@
 use Prim.Native.Nat.{_≤_, _-_}
 use Rattle.laws.specs.Fold.{largest}
 use Rattle.job.specs.Model.{view}
+use Rattle.job.specs.Clocked.{clocked}
 use Rattle.orders.specs.Gaps.{supportOrder, supportGap}
 use Rattle.order_file.specs.Table.{Gaps}
 use Rattle.gaps.specs.Rules.{RaisedByLinks}
@@ -16,12 +17,12 @@ fill-support-spec =
     tie.close
     (tie.spec
     (λ s job links gaps₀ n c₀ gaps c.
-    (c ≤ n) × Gaps gaps × RaisedByLinks (view job s) links (λ m x i k. largest c (supportOrder m x i k)) gaps₀ gaps)
+    (c ≤ n) × Gaps gaps × RaisedByLinks (clocked (view job s)) links (λ m x i k. largest c (supportOrder m x i k)) gaps₀ gaps)
     (λ s job links gaps₀ n c₀ gaps c. n - c)
     (λ c. (omega arith, c .before .before .before .pre .0 .whole, λ x l. raised-start _ _ _))
     (λ c κs.
     let d = c .before .before .before .before .before .before in (
-      record { form = d .pre .0 .form; named = d .pre .0 .named; room = d .pre .0 .room; whole = c .before .before .loop .inv .1 },
+      record { form = d .pre .0 .form; room = d .pre .0 .room; whole = c .before .before .loop .inv .1 },
       c .before .loop-test .taken,
       d .pre .1,
     ))

@@ -23,7 +23,8 @@ raise-tie-spec =
     (λ c.
     let d = c .before .before .before .before .before .before in
     raised-none _ _ _
-    (apart-none (view (d .args .job) (now (d .args .s))) (scheduleOf (now (d .args .starts))) (d .args .i) (d .args .k) (c .if1 .taken)))
+    (λ i k _.
+    apart-none (view (d .args .job) (now (d .args .s))) (scheduleOf (now (d .args .starts))) (d .args .i) (d .args .k) (c .if1 .taken) i k))
     (λ c κs. let d = c .before .before .before .before .before .before in (d .pre .0, d .pre .2))
     (λ c κs.
     let entry = c .before in

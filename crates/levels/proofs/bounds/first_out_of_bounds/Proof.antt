@@ -2,6 +2,7 @@
 use Prim.Native.Nat.{_-_}
 use native.Mathlib.Omega.{arith}
 use Rattle.laws.proofs.Search.{lowest-start, lowest-more, lowest-found, lowest-end}
+use Rattle.job.specs.Clocked.{clocked}
 use Rattle.job.specs.Model.{view}
 use Rattle.levels.proofs.LevelSweeps.{LevelsTried, uses-placed, uses-stretch}
 use borrow.Author.Needs.{needs}
@@ -12,7 +13,7 @@ pub first-out-of-bounds-spec : {M : Type 1} → statement M
 first-out-of-bounds-spec =
     tie.close
     (tie.spec
-    (λ s job points begins n l₀ l. LevelsTried (view job s) points begins l)
+    (λ s job points begins n l₀ l. LevelsTried (clocked (view job s)) points begins l)
     (λ s job points begins n l₀ l. n - l)
     (λ c. record { known = c .before .before .before .pre; within = omega arith; none = λ x known. lowest-start _ })
     (λ c. search needs)

@@ -1,6 +1,7 @@
 -- Tick by tick, with what the level's uses at earlier ticks add and take.
 use Prim.Native.Nat.{_-_}
 use native.Mathlib.Omega.{arith}
+use Rattle.job.specs.Clocked.{clocked}
 use Rattle.job.specs.Model.{view}
 use Rattle.levels.proofs.LevelSweeps.{Sweeping, summed-low, sweeping-start, sweeping-more, sweeping-fails, sweeping-end}
 use borrow.Author.Tests.{not-true, not-false}
@@ -11,7 +12,7 @@ pub level-fails-spec : {M : Type 1} → statement M
 level-fails-spec =
     tie.close
     (tie.spec
-    (λ s job points low high l sums₀ sums. Sweeping (view job s) l points low high sums)
+    (λ s job points low high l sums₀ sums. Sweeping (clocked (view job s)) l points low high sums)
     (λ s job points low high l sums₀ sums. high - sums .place)
     (λ c. sweeping-start (c .before .before .pre))
     (λ c κs. let i = c .before .before .loop .inv in (c .if1 .taken, (_, i .stretch, i .summed)))

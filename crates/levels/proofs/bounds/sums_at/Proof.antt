@@ -1,6 +1,7 @@
 -- Use by use, while the tick is the first one's.
 use Prim.Native.Nat.{_-_}
 use native.Mathlib.Omega.{arith}
+use Rattle.job.specs.Clocked.{clocked}
 use Rattle.job.specs.Model.{view}
 use Rattle.levels.proofs.LevelSweeps.{Gathering, summed-low, gathering-start, gathering-more, gathering-ends}
 use borrow.Author.Needs.{needs}
@@ -11,7 +12,7 @@ pub sums-at-spec : {M : Type 1} → statement M
 sums-at-spec =
     tie.close
     (tie.spec
-    (λ s job points high first tick sums₀ sums. Gathering (view job s) points high tick sums₀ sums)
+    (λ s job points high first tick sums₀ sums. Gathering (clocked (view job s)) points high tick sums₀ sums)
     (λ s job points high first tick sums₀ sums. high - sums .place)
     (λ c. search needs)
     (λ c. let p = c .before .before .before .pre in omega (arith, p .0, p .1 .1 .ends))

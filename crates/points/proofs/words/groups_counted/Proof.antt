@@ -1,11 +1,9 @@
 -- The sum of the counts.
 use mathlib.Core.Path.{refl}
 use borrow.Author.Needs.{needs}
-use Rattle.points.specs.Words.{groupsCounted}
 use Rattle.points.proofs.words.groups_counted.Statement.{statement}
 use Rattle.points.proofs.words.groups_counted.Tie as tie
 
 pub groups-counted-spec : {M : Type 1} → statement M
-unfolding groupsCounted
 groups-counted-spec =
     tie.close (tie.spec (λ c. search needs) (λ c. search needs) (λ c. search needs) (λ c. search needs) (λ c. refl))

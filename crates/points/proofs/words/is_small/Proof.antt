@@ -4,12 +4,11 @@ use lib.Dec.{leb}
 use borrow.Author.Needs.{needs}
 use borrow.Author.Tests.{leb-true}
 use Rattle.laws.proofs.Search.{and-both}
-use Rattle.points.specs.Words.{fewPoints, fewGroups, pointsCounted, groupsCounted}
+use Rattle.points.specs.Words.{fewPoints, fewGroups}
 use Rattle.points.proofs.words.is_small.Statement.{statement}
 use Rattle.points.proofs.words.is_small.Tie as tie
 
 pub is-small-spec : {M : Type 1} → statement M
-unfolding pointsCounted groupsCounted
 is-small-spec =
     tie.close
     (tie.spec

@@ -2,14 +2,12 @@
 use native.Mathlib.Omega.{arith}
 use borrow.Author.Needs.{needs}
 use Rattle.job.specs.Model.{view}
-use Rattle.points.specs.Words.{pointsCounted, groupsCounted}
 use Rattle.points.proofs.ClockedRange.{clocked-range}
 use Rattle.points.proofs.Placing.{groups-low, points-known}
 use Rattle.points.proofs.words.list_points.Statement.{statement}
 use Rattle.points.proofs.words.list_points.Tie as tie
 
 pub list-points-spec : {M : Type 1} → statement M
-unfolding pointsCounted groupsCounted
 list-points-spec =
     tie.close
     (tie.spec

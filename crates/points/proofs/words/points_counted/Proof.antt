@@ -1,12 +1,10 @@
 -- The sum of the counts.
 use mathlib.Core.Path.{refl}
 use borrow.Author.Needs.{needs}
-use Rattle.points.specs.Words.{pointsCounted}
 use Rattle.points.proofs.words.points_counted.Statement.{statement}
 use Rattle.points.proofs.words.points_counted.Tie as tie
 
 pub points-counted-spec : {M : Type 1} → statement M
-unfolding pointsCounted
 points-counted-spec =
     tie.close
     (tie.spec

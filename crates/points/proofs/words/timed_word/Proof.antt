@@ -22,7 +22,7 @@ timed-word-spec =
     (λ c κs.
     let a = c .before .before .before .before .before .before .before in
     let parts = timed-parts (a .pre .0) (a .args .j) (a .pre .1) in
-    rw (c .before .before .before .before .timed-of .ensures) (omega arith, omega arith, parts .number, omega arith, parts .step))
+    rw (c .before .before .before .before .timed-of .ensures) (omega arith, omega arith, parts .number, omega arith, omega arith))
     (λ c.
     let a = c .before .before .before .before .before .before .before .before in
     let m = view (a .args .job) (a .args .s .now) in

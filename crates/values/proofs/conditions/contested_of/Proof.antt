@@ -2,6 +2,7 @@
 use Prim.Native.Nat.{_-_}
 use native.Mathlib.Omega.{arith}
 use borrow.Author.Needs.{needs}
+use Rattle.job.specs.Clocked.{clocked}
 use Rattle.job.specs.Model.{view}
 use Rattle.validity.specs.Ticks.{scheduleOf}
 use Rattle.values.proofs.Walked.{Walked, walked-start, walked-listed, walked-before, walked-at, walked-more, walked-end}
@@ -13,7 +14,7 @@ contested-of-spec =
     tie.close
     (tie.spec
     (λ s job starts points begins fact setters group end walk₀ best₀ q₀ walk best q.
-    Walked (view job s) (scheduleOf starts) points begins fact setters end walk best q)
+    Walked (clocked (view job s)) (scheduleOf starts) points begins fact setters end walk best q)
     (λ s job starts points begins fact setters group end walk₀ best₀ q₀ walk best q. end - q)
     (λ c κs. let p = c .before .before .before .before .pre in omega (arith, p .0 .known .room, p .1))
     (λ c. search needs)

@@ -2,6 +2,7 @@
 use mathlib.Core.Path.{ap, _∙_}
 use native.Mathlib.Omega.{arith}
 use borrow.Author.Needs.{needs}
+use Rattle.job.specs.Clocked.{clocked}
 use Rattle.job.specs.Model.{view}
 use Rattle.validity.specs.Ticks.{scheduleOf, lastTick}
 use Rattle.values.proofs.Breaks.{setters-listed, scan-rises, contested-there}
@@ -28,7 +29,7 @@ is-contested-spec =
     let a = start .args in
     contested-there (start .pre)
     (c .before .before .before .before .before .before .value-of .ensures .0)
-    (c .before .before .before .last-tick .ensures .0 ∙ ap (lastTick (view (a .job) (a .s .now)) (scheduleOf (a .starts .now)))
+    (c .before .before .before .last-tick .ensures .0 ∙ ap (lastTick (clocked (view (a .job) (a .s .now))) (scheduleOf (a .starts .now)))
     (c .before .before .before .before .number-of .ensures .0))
     (c .before .before .opposing .ensures) (c .before .before .before .before .before .step-of .ensures .0)
     (c .before .is-opposed .ensures) (c .seen-at .ensures)))

@@ -2,6 +2,7 @@
 use Prim.Native.Nat.{_-_}
 use native.Mathlib.Omega.{arith}
 use Rattle.laws.proofs.Search.{lowest-start, lowest-more, lowest-found, lowest-end}
+use Rattle.job.specs.Clocked.{clocked}
 use Rattle.job.specs.Model.{view}
 use Rattle.values.proofs.GoalRuns.{GoalsTried}
 use borrow.Author.Needs.{needs}
@@ -12,7 +13,7 @@ pub first-missed-spec : {M : Type 1} → statement M
 first-missed-spec =
     tie.close
     (tie.spec
-    (λ s job points begins n g₀ g. GoalsTried (view job s) points begins g)
+    (λ s job points begins n g₀ g. GoalsTried (clocked (view job s)) points begins g)
     (λ s job points begins n g₀ g. n - g)
     (λ c. record { known = c .before .before .before .pre; within = omega arith; none = λ x known one. lowest-start _ })
     (λ c κs. (c .before .loop .inv .known, c .loop-test .taken))

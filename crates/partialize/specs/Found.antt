@@ -1,0 +1,49 @@
+-- Inner: what is known of a valid schedule from step to step, until it is filed.
+use Prim.Native.Nat.{ℕ, _+_, _≤_, _<_}
+use mathlib.Core.Path.{_≡_}
+use mathlib.Core.List.{List}
+use lib.ListN.{length}
+use Rattle.job.specs.Model.{Model}
+use Rattle.job.specs.WellFormed.{WellFormed}
+use Rattle.job.specs.Clocked.{clocked}
+use Rattle.validity.specs.Ticks.{scheduleOf}
+use Rattle.validity.specs.Valid.{Valid}
+use Rattle.points.specs.Points.{PointsKnown}
+use Rattle.links.specs.LinkList.{LinksOf}
+use Rattle.gaps.specs.Table.{Writable}
+use Rattle.limits.specs.Timed.{mostLimit}
+use Rattle.order_file.specs.Contents.{linkLimit}
+use Rattle.order_file.specs.Table.{rowWidth, startIn}
+use Rattle.orders.specs.Windows.{limitOf, latestOf}
+use Rattle.windows.specs.Starts.{Bounded}
+use Rattle.partialize.specs.declared.Windows.{Windows}
+
+-- written starts that make a well-formed job with its timed facts valid; the clock starts at 0
+pub record ValidStarts (m : Model) (starts : List ℕ) : Type 0 where
+  pub form : WellFormed m
+  pub valid : Valid (clocked m) (scheduleOf starts)
+  pub written : Writable m starts
+  pub clock : scheduleOf starts (m .steps) ≡ 0
+
+-- the points at these starts, those of timed facts among them
+pub record ValidSchedule (m : Model) (starts points begins : List ℕ) : Type 0 where
+  pub starts : ValidStarts m starts
+  pub known : PointsKnown (clocked m) (scheduleOf starts) points begins
+
+-- the links
+pub record Timed (m : Model) (starts links : List ℕ) : Type 0 where
+  pub starts : ValidStarts m starts
+  pub linked : LinksOf (clocked m) (scheduleOf starts) links
+  pub size : length links ≡ linkLimit
+
+-- besides, the points of the steps alone
+pub record Linked (m : Model) (starts points begins links : List ℕ) : Type 0 where
+  pub timed : Timed m starts links
+  pub known : PointsKnown m (scheduleOf starts) points begins
+
+-- the limits and the latest starts of the schedule
+pub record WindowsOf (m : Model) (x : ℕ → ℕ) (w : Windows) : Type 0 where
+  pub limits : Bounded (m .steps) mostLimit (w .limits .at)
+  pub limitAt : (k : ℕ) → k < m .steps → startIn (w .limits .at) k ≡ limitOf (clocked m) x k
+  pub size : length (w .latest .at) ≡ rowWidth
+  pub latestAt : (k : ℕ) → k < m .steps → startIn (w .latest .at) k ≡ latestOf (clocked m) x k
