@@ -1,0 +1,158 @@
+-- The points of a timed fact's fact: where they stand, and what each of them is.
+use Prim.Native.Nat.{ℕ, _+_, _-_, _≤_, _<_}
+use mathlib.Core.Path.{_≡_, sym, ap, _∙_}
+use mathlib.Core.List.{List}
+use native.Mathlib.Omega.{arith}
+use lib.ListN.{length, getD}
+use Rattle.timeline.specs.Words.{stepAt, tickAt, valueAt, numberAt}
+use Rattle.timeline.specs.Placed.{Placed}
+use Rattle.job.specs.declared.records.TimedFact.{TimedFact}
+use Rattle.job.specs.Layout.{mostFacts}
+use Rattle.job.specs.Model.{Model, timedOf, lastTimed}
+use Rattle.validity.specs.Ticks.{scheduleOf}
+use Rattle.points.specs.Points.{Setter, Wanting}
+use Rattle.limits.specs.Timed.{TimedPoints}
+use Rattle.limits.specs.Moved.{startAfter, startBefore, Later, Sooner, Ended, OfWords, Begun, Wanted}
+
+-- points of steps, each so far into its step
+module _ (x at value step : ℕ → ℕ) (P : ℕ → Type 0) (points : List ℕ) (low high : ℕ)
+    (g : Placed P (λ n. x (step n) + at n) value step points low high) where
+  placed-begun : (many : ℕ) → ((n : ℕ) → P n → step n < many) → Begun many x points low high
+  placed-begun many h =
+      record {
+        begins = g .begins;
+        ends = g .ends;
+        step = λ p a b. omega (arith, g .steps p a b, h (numberAt points p) (g .holds p a b));
+        begun = λ p a b. omega (arith, g .ticks p a b, ap x (g .steps p a b));
+      }
+
+  -- the orders of the points are those of the records
+  module _ (timed : TimedFact) (k : ℕ) where
+    pub later-found :
+        (n : ℕ) → P n → (value n ≡ timed .value → ⊥) → timed .tick < x (step n) + at n → step n ≡ k
+        → OfWords points low high (Later x timed) k (startAfter (timed .tick) (at n))
+    later-found n h d l s =
+        let f = g .found n h in
+        let p = f .0 in
+        let t : tickAt points p ≡ x (step n) + at n = g .ticks p (f .1) (f .2) ∙ ap (λ q. x (step q) + at q) (f .3) in
+        let r : stepAt points p ≡ step n = g .steps p (f .1) (f .2) ∙ ap step (f .3) in
+        let v : valueAt points p ≡ value n = g .values p (f .1) (f .2) ∙ ap value (f .3) in
+        (p, f .1, f .2, (λ q. d (sym v ∙ q), omega (arith, t), r ∙ s, ap (startAfter (timed .tick)) (omega (arith, t, ap x r))))
+
+    pub later-known :
+        (v : ℕ) → OfWords points low high (Later x timed) k v
+        → (n : ℕ) × P n × (value n ≡ timed .value → ⊥) × (timed .tick < x (step n) + at n) × (step n ≡ k)
+        × (v ≡ startAfter (timed .tick) (at n))
+    later-known v o =
+        let p = o .0 in
+        let w = o .3 in
+        let t = g .ticks p (o .1) (o .2) in
+        let r = g .steps p (o .1) (o .2) in (
+          numberAt points p,
+          g .holds p (o .1) (o .2),
+          λ q. w .0 (g .values p (o .1) (o .2) ∙ q),
+          omega (arith, t, w .1),
+          sym r ∙ w .2,
+          w .3 ∙ ap (startAfter (timed .tick)) (omega (arith, t, ap x r)),
+        )
+
+    pub sooner-found :
+        (n : ℕ) → P n → (value n ≡ timed .value → ⊥) → x (step n) + at n < timed .tick → step n ≡ k
+        → OfWords points low high (Sooner x timed) k (startBefore (timed .tick) (at n))
+    sooner-found n h d l s =
+        let f = g .found n h in
+        let p = f .0 in
+        let t : tickAt points p ≡ x (step n) + at n = g .ticks p (f .1) (f .2) ∙ ap (λ q. x (step q) + at q) (f .3) in
+        let r : stepAt points p ≡ step n = g .steps p (f .1) (f .2) ∙ ap step (f .3) in
+        let v : valueAt points p ≡ value n = g .values p (f .1) (f .2) ∙ ap value (f .3) in
+        (p, f .1, f .2, (λ q. d (sym v ∙ q), omega (arith, t), r ∙ s, ap (startBefore (timed .tick)) (omega (arith, t, ap x r))))
+
+    pub sooner-known :
+        (v : ℕ) → OfWords points low high (Sooner x timed) k v
+        → (n : ℕ) × P n × (value n ≡ timed .value → ⊥) × (x (step n) + at n < timed .tick) × (step n ≡ k)
+        × (v ≡ startBefore (timed .tick) (at n))
+    sooner-known v o =
+        let p = o .0 in
+        let w = o .3 in
+        let t = g .ticks p (o .1) (o .2) in
+        let r = g .steps p (o .1) (o .2) in (
+          numberAt points p,
+          g .holds p (o .1) (o .2),
+          λ q. w .0 (g .values p (o .1) (o .2) ∙ q),
+          omega (arith, t, w .1),
+          sym r ∙ w .2,
+          w .3 ∙ ap (startBefore (timed .tick)) (omega (arith, t, ap x r)),
+        )
+
+    module _ (m : Model) where
+      pub ended-found :
+          (n : ℕ) → P n → (value n ≡ timed .value → ⊥) → x (step n) + at n < timed .tick → step n ≡ k
+          → OfWords points low high (Ended m timed) k (startBefore (timed .tick) (m .conditionTo n))
+      ended-found n h d l s =
+          let f = g .found n h in
+          let p = f .0 in
+          let t : tickAt points p ≡ x (step n) + at n = g .ticks p (f .1) (f .2) ∙ ap (λ q. x (step q) + at q) (f .3) in
+          let r : stepAt points p ≡ step n = g .steps p (f .1) (f .2) ∙ ap step (f .3) in
+          let v : valueAt points p ≡ value n = g .values p (f .1) (f .2) ∙ ap value (f .3) in (
+            p,
+            f .1,
+            f .2,
+            (λ q. d (sym v ∙ q), omega (arith, t), r ∙ s, ap (λ q. startBefore (timed .tick) (m .conditionTo q)) (sym (f .3))),
+          )
+
+      pub ended-known :
+          (v : ℕ) → OfWords points low high (Ended m timed) k v
+          → (n : ℕ) × P n × (value n ≡ timed .value → ⊥) × (x (step n) + at n < timed .tick) × (step n ≡ k)
+          × (v ≡ startBefore (timed .tick) (m .conditionTo n))
+      ended-known v o =
+          let p = o .0 in
+          let w = o .3 in (
+            numberAt points p,
+            g .holds p (o .1) (o .2),
+            λ q. w .0 (g .values p (o .1) (o .2) ∙ q),
+            omega (arith, g .ticks p (o .1) (o .2), w .1),
+            sym (g .steps p (o .1) (o .2)) ∙ w .2,
+            w .3,
+          )
+
+-- those of timed fact j, which the code has read
+module _ {m : Model} {starts points begins : List ℕ} (w : TimedPoints m starts points begins) {j : ℕ} (l : j < m .timed) {timed : TimedFact}
+    (e : timed ≡ timedOf m j) where
+  timed-fact : timed .fact < m .facts
+  timed-fact = omega (arith, ap (λ (t : TimedFact). t .fact) e, w .form .timedFact j l)
+
+  pub timed-late : timed .tick ≤ lastTimed
+  timed-late = omega (arith, ap (λ (t : TimedFact). t .tick) e, w .form .timedTick j l)
+
+  -- its groups are there
+  pub timed-group : (timed .fact < m .facts) × (m .facts ≤ mostFacts) × (m .facts + timed .fact + 1 < length begins)
+  timed-group = (timed-fact, w .form .factCount, omega (arith, timed-fact, w .known .room))
+
+  module _ {many low high : ℕ} (few : m .steps ≤ many) where
+    pub setters-begun :
+        low ≡ getD begins (timed .fact) 0 → high ≡ getD begins (timed .fact + 1) 0 → Begun many (scheduleOf starts) points low high
+    setters-begun a b =
+        rw (a, b)
+        (placed-begun (scheduleOf starts) (m .effectAt) (m .effectValue) (m .effectStep) (Setter m (timed .fact)) points _ _
+        (w .known .setters (timed .fact) timed-fact) many (λ n h. omega (arith, w .form .effectStep n (h .0))))
+
+    -- the conditions are known
+    pub wanted-known :
+        low ≡ getD begins (m .facts + timed .fact) 0 → high ≡ getD begins (m .facts + timed .fact + 1) 0 → Wanted m many points low high
+    wanted-known a b =
+        rw (a, b)
+        (let g = w .known .wanted (timed .fact) timed-fact in
+        record {
+          begins = g .begins;
+          ends = g .ends;
+          step = λ p c d. omega (arith, g .steps p c d, w .form .conditionStep (numberAt points p) (g .holds p c d .0));
+          known = λ p c d. g .holds p c d .0;
+        })
+
+    pub wanted-begun :
+        low ≡ getD begins (m .facts + timed .fact) 0 → high ≡ getD begins (m .facts + timed .fact + 1) 0
+        → Begun many (scheduleOf starts) points low high
+    wanted-begun a b =
+        rw (a, b)
+        (placed-begun (scheduleOf starts) (m .conditionFrom) (m .conditionValue) (m .conditionStep) (Wanting m (timed .fact)) points _ _
+        (w .known .wanted (timed .fact) timed-fact) many (λ n h. omega (arith, w .form .conditionStep n (h .0))))

@@ -1,0 +1,8 @@
+-- What the code moves the lists of starts to is what the definitions say of the clock.
+pub mod Moved
+pub mod Tested
+pub mod Grouped
+pub mod Gaps
+pub mod Clock
+pub mod Raised
+pub mod Lowered

@@ -1,0 +1,108 @@
+-- Inner: lists of starts moved to what orders with the clock say, each of a step k and a start. No caller has to believe it.
+use Prim.Native.Nat.{ℕ, _+_, _-_, _≤_, _<_}
+use mathlib.Core.Path.{_≡_}
+use mathlib.Core.List.{List}
+use mathlib.Core.Logic.{_⊎_}
+use lib.ListN.{length, getD}
+use Rattle.timeline.specs.Words.{wordStep, wordValue, wordNumber, wordTick}
+use Rattle.job.specs.declared.records.TimedFact.{TimedFact}
+use Rattle.job.specs.Model.{Model, timedOf}
+use Rattle.validity.specs.Ticks.{scheduleOf}
+use Rattle.points.specs.Points.{wantedGroup}
+use Rattle.order_file.specs.Contents.{initialState}
+use Rattle.order_file.specs.Table.{startIn}
+
+-- the ways a start can be moved: up or down
+abbrev pub Up : ℕ → ℕ → Type 0
+Up a b = a ≤ b
+
+abbrev pub Down : ℕ → ℕ → Type 0
+Down a b = b ≤ a
+
+-- a list moved to what orders say: no start moves the other way, each reaches what is said of it, and none moves further
+pub record Moved (To : ℕ → ℕ → Type 0) (Order : ℕ → ℕ → Type 0) (before after : List ℕ) : Type 0 where
+  pub size : length after ≡ length before
+  pub moves : (k : ℕ) → To (startIn before k) (startIn after k)
+  pub reaches : (k start : ℕ) → Order k start → To start (startIn after k)
+  pub least :
+      (k bound : ℕ) → To (startIn before k) bound → ((start : ℕ) → Order k start → To start bound) → To (startIn after k) bound
+
+-- an order of a single step
+abbrev pub Single : ℕ → ℕ → ℕ → ℕ → Type 0
+Single step start k v = (step ≡ k) × (v ≡ start)
+
+-- the orders of the numbers from low to high
+abbrev pub Among : ℕ → ℕ → (ℕ → ℕ → ℕ → Type 0) → ℕ → ℕ → Type 0
+Among low high Order k v = (p : ℕ) × (low ≤ p) × (p < high) × Order p k v
+
+-- "a point strictly after tick T gives start ≥ T + 1 − point"; "one strictly before gives start ≤ T − point − 1"
+abbrev pub startAfter : ℕ → ℕ → ℕ
+startAfter tick at = tick + 1 - at
+
+abbrev pub startBefore : ℕ → ℕ → ℕ
+startBefore tick at = tick - (at + 1)
+
+-- a point that has another value than a timed fact and lies after it
+abbrev pub Later : (ℕ → ℕ) → TimedFact → ℕ → ℕ → ℕ → Type 0
+Later x timed word k v =
+    (wordValue word ≡ timed .value → ⊥) × (timed .tick < wordTick word) × (wordStep word ≡ k)
+    × (v ≡ startAfter (timed .tick) (wordTick word - x (wordStep word)))
+
+-- a setter that has another value and lies before it
+abbrev pub Sooner : (ℕ → ℕ) → TimedFact → ℕ → ℕ → ℕ → Type 0
+Sooner x timed word k v =
+    (wordValue word ≡ timed .value → ⊥) × (wordTick word < timed .tick) × (wordStep word ≡ k)
+    × (v ≡ startBefore (timed .tick) (wordTick word - x (wordStep word)))
+
+-- a condition that wants another value and begins before it, so that it ends before it in a valid schedule
+abbrev pub Ended : Model → TimedFact → ℕ → ℕ → ℕ → Type 0
+Ended m timed word k v =
+    (wordValue word ≡ timed .value → ⊥) × (wordTick word < timed .tick) × (wordStep word ≡ k)
+    × (v ≡ startBefore (timed .tick) (m .conditionTo (wordNumber word)))
+
+-- points from low to high that have an order, by their words
+abbrev pub OfWords : List ℕ → ℕ → ℕ → (ℕ → ℕ → ℕ → Type 0) → ℕ → ℕ → Type 0
+OfWords points low high Order = Among low high (λ p. Order (getD points p 0))
+
+-- those of the setters of fact f, and those of its conditions
+abbrev pub OfSetters : List ℕ → List ℕ → ℕ → (ℕ → ℕ → ℕ → Type 0) → ℕ → ℕ → Type 0
+OfSetters points begins f = OfWords points (getD begins f 0) (getD begins (f + 1) 0)
+
+abbrev pub OfWanted : Model → List ℕ → List ℕ → ℕ → (ℕ → ℕ → ℕ → Type 0) → ℕ → ℕ → Type 0
+OfWanted m points begins f = OfWords points (getD begins (wantedGroup m f) 0) (getD begins (wantedGroup m f + 1) 0)
+
+-- rules 2 and 3 from timed fact j to a step, and from a step to it
+abbrev pub LimitBy : Model → (ℕ → ℕ) → List ℕ → List ℕ → ℕ → ℕ → ℕ → Type 0
+LimitBy m x points begins j k v =
+    OfSetters points begins (m .timedFact j) (Later x (timedOf m j)) k v
+    ⊎ OfWanted m points begins (m .timedFact j) (Later x (timedOf m j)) k v
+
+abbrev pub LatestBy : Model → (ℕ → ℕ) → List ℕ → List ℕ → ℕ → ℕ → ℕ → Type 0
+LatestBy m x points begins j k v =
+    OfSetters points begins (m .timedFact j) (Sooner x (timedOf m j)) k v
+    ⊎ OfWanted m points begins (m .timedFact j) (Ended m (timedOf m j)) k v
+
+-- rule 1 from the timed fact that condition c is linked to
+abbrev pub LimitByLink : Model → List ℕ → ℕ → ℕ → ℕ → Type 0
+LimitByLink m links c k v =
+    (m .effects ≤ getD links c 0) × (getD links c 0 ≡ initialState → ⊥) × (m .conditionStep c ≡ k)
+    × (v ≡ startAfter (m .timedTick (getD links c 0 - m .effects)) (m .conditionFrom c))
+
+-- points of the first n steps, none before its step's start
+pub record Begun (n : ℕ) (x : ℕ → ℕ) (points : List ℕ) (low high : ℕ) : Type 0 where
+  pub begins : low ≤ high
+  pub ends : high ≤ length points
+  pub step : (p : ℕ) → low ≤ p → p < high → wordStep (getD points p 0) < n
+  pub begun : (p : ℕ) → low ≤ p → p < high → x (wordStep (getD points p 0)) ≤ wordTick (getD points p 0)
+
+-- conditions of the first n steps
+pub record Wanted (m : Model) (n : ℕ) (points : List ℕ) (low high : ℕ) : Type 0 where
+  pub begins : low ≤ high
+  pub ends : high ≤ length points
+  pub step : (p : ℕ) → low ≤ p → p < high → wordStep (getD points p 0) < n
+  pub known : (p : ℕ) → low ≤ p → p < high → wordNumber (getD points p 0) < m .conditions
+
+-- links of a well-formed job, each the initial state, an effect or a timed fact, into a whole list
+pub record LinksNamed (m : Model) (links : List ℕ) : Type 0 where
+  pub room : m .conditions ≤ length links
+  pub named : (c : ℕ) → c < m .conditions → (getD links c 0 ≡ initialState → ⊥) → getD links c 0 < m .effects + m .timed
