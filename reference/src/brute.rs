@@ -1,10 +1,10 @@
 //! Demand 3 by brute force: every choice that obeys a written order file is sound and ends as the
 //! job's own timing does.
 
-use crate::job::Job;
-use crate::loosen::{loosen, order_file_of};
+use crate::job::{Job, LATEST_EDITION};
+use crate::loosen::{loosen_up_to, order_file_up_to};
 use crate::make::sound::{small_sound_job, sound_job, Shape};
-use crate::order_file::{read, OrderFile};
+use crate::order_file::{read_up_to, OrderFile};
 use crate::random::Random;
 use crate::timing::{end_state, first_moved_fixed_step, sound, EndState};
 
@@ -16,17 +16,35 @@ pub struct Tried {
     pub farthest_from_written: i64,
 }
 
-/// Tries at least so many choices over made jobs; a broken promise comes back in words.
+impl Tried {
+    fn plus(self, other: Tried) -> Tried {
+        Tried {
+            jobs: self.jobs + other.jobs,
+            choices: self.choices + other.choices,
+            farthest_from_written: self.farthest_from_written.max(other.farthest_from_written),
+        }
+    }
+}
+
+/// Tries at least so many choices over made jobs of each edition that is taken; a broken promise
+/// comes back in words.
 pub fn brute(choices: usize, seed: u64) -> Result<Tried, String> {
+    let editions = 1..=LATEST_EDITION;
+    let tried = editions.map(|edition| brute_of(edition, choices, seed));
+    tried.reduce(|a, b| Ok(a?.plus(b?))).expect("an edition")
+}
+
+/// Over made jobs of one edition.
+pub fn brute_of(edition: u16, choices: usize, seed: u64) -> Result<Tried, String> {
     let mut random = Random::seeded(seed);
     let mut tried = Tried::default();
     while tried.choices < choices {
         if random.chance(30) {
-            let shape = Shape::tiny(&mut random);
+            let shape = Shape::tiny(&mut random).in_edition(&mut random, edition);
             let job = sound_job(&mut random, &shape);
             Trial::of(&job)?.choices_nearby(&mut tried)?;
         } else {
-            let job = small_sound_job(&mut random);
+            let job = small_sound_job(&mut random, edition);
             Trial::of(&job)?.choices_anywhere(&mut random, &mut tried)?;
         }
         tried.jobs += 1;
@@ -103,9 +121,12 @@ impl Trial<'_> {
         ))
     }
 
-    /// Every list of starts up to a little past the written ones.
+    /// Every list of starts up to a little past the written ones, and past what the clock does near
+    /// them.
     fn choices_nearby(&self, tried: &mut Tried) -> Result<(), String> {
-        let last = self.job.written_starts().into_iter().max().unwrap_or(0) + 4;
+        let last_written = self.job.written_starts().into_iter().max().unwrap_or(0);
+        let last_timed = self.job.timed.iter().map(|timed| timed.tick).max();
+        let last = last_written.max(last_timed.unwrap_or(0)) + 4;
         let mut starts = vec![0; self.job.steps.len()];
         loop {
             if self.file.obeyed_by(&starts) {
@@ -143,9 +164,10 @@ impl Trial<'_> {
 fn written_file(job: &Job) -> Result<OrderFile, String> {
     let file = job.to_file();
     let mut buffer = vec![165; 40_000];
-    let answer = loosen(&file, &mut buffer);
-    match read(&buffer[..answer.length]) {
-        Ok(written) if Ok(&written) == order_file_of(&file).as_ref() => Ok(written),
+    let latest = job.edition;
+    let answer = loosen_up_to(latest, &file, &mut buffer);
+    match read_up_to(latest, &buffer[..answer.length]) {
+        Ok(written) if Ok(&written) == order_file_up_to(latest, &file).as_ref() => Ok(written),
         other => Err(format!("broken: the file reads back\n{job:?}\n{other:?}")),
     }
 }

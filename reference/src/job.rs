@@ -1,28 +1,45 @@
-//! The job file: its layout, and the records it holds.
+//! A job: the records it holds, and the layout of its file.
 
-use crate::bytes::{i32_at, put_i32, put_u16, put_u32, u16_at, u32_at};
-
-pub const EDITION: u16 = 1;
-pub const HEADER: usize = 48;
+/// The latest edition that is taken: refusal 2 is for a later one, and made jobs, stored cases and
+/// comparisons are of editions up to this. What ends in `_up_to` takes the latest edition as told.
+pub const LATEST_EDITION: u16 = 1;
 
 /// Everything "a table each" is in the tables' order:
-/// facts, levels, steps, conditions, effects, uses, goals.
-pub const TABLES: usize = 7;
-pub const WIDTHS: [usize; TABLES] = [1, 12, 10, 14, 10, 12, 8];
-pub const HIGHEST: [usize; TABLES] = [256, 16, 64, 512, 512, 256, 32];
+/// facts, levels, steps, conditions, effects, uses, goals and, from edition 2 on, timed facts.
+pub const TABLES: usize = 8;
+pub const WIDTHS: [usize; TABLES] = [1, 12, 10, 14, 10, 12, 8, 8];
+pub const HIGHEST: [usize; TABLES] = [256, 16, 64, 512, 512, 256, 32, 64];
 
 pub const EDITION_AT: usize = 0;
 pub const SERIAL_AT: usize = 2;
 /// Where the header counts each table; goals are counted before conditions.
-pub const COUNTS_AT: [usize; TABLES] = [4, 6, 8, 12, 14, 16, 10];
-pub const ZERO_AT: usize = 18;
+pub const COUNTS_AT: [usize; TABLES] = [4, 6, 8, 12, 14, 16, 10, TENTH_AT];
+/// The tenth number is 0 in edition 1 and counts the timed facts in edition 2.
+pub const TENTH_AT: usize = 18;
 pub const OFFSETS_AT: usize = 20;
+
+/// The header of every edition is at least as long as that of edition 1.
+pub const SHORTEST_HEADER: usize = header_length(1);
 
 pub const NO_DEADLINE: u32 = 4_294_967_295;
 
+/// The tables that a file of an edition has, each with an offset in the header.
+pub const fn tables_of(edition: u16) -> usize {
+    if edition == 1 {
+        7
+    } else {
+        8
+    }
+}
+
+pub const fn header_length(edition: u16) -> usize {
+    OFFSETS_AT + 4 * tables_of(edition)
+}
+
 /// A job. Numbers may be out of range, so that broken jobs can be written down too.
-#[derive(Clone, Debug, Default, PartialEq, Eq)]
+#[derive(Clone, Debug, PartialEq, Eq)]
 pub struct Job {
+    pub edition: u16,
     pub serial: u16,
     pub facts: Vec<u16>,
     pub levels: Vec<Level>,
@@ -31,6 +48,7 @@ pub struct Job {
     pub effects: Vec<Effect>,
     pub uses: Vec<Use>,
     pub goals: Vec<Goal>,
+    pub timed: Vec<TimedFact>,
 }
 
 #[derive(Clone, Copy, Debug, PartialEq, Eq)]
@@ -79,6 +97,14 @@ pub struct Goal {
     pub deadline: Option<i64>,
 }
 
+/// A fact that changes by the clock.
+#[derive(Clone, Copy, Debug, PartialEq, Eq)]
+pub struct TimedFact {
+    pub fact: usize,
+    pub tick: i64,
+    pub value: u16,
+}
+
 impl Step {
     pub fn is_fixed(&self) -> bool {
         self.fixed == 1
@@ -96,8 +122,33 @@ impl Effect {
     }
 }
 
+impl TimedFact {
+    /// A timed fact opposes as an effect does.
+    pub fn opposes(&self, fact: usize, value: u16) -> bool {
+        self.fact == fact && self.value != value
+    }
+}
+
 // ---------------------------------------------------------------------------------------------
 // Writing a job down
+
+/// A job of edition 1 with nothing in it.
+impl Default for Job {
+    fn default() -> Job {
+        Job {
+            edition: 1,
+            serial: 0,
+            facts: Vec::new(),
+            levels: Vec::new(),
+            steps: Vec::new(),
+            conditions: Vec::new(),
+            effects: Vec::new(),
+            uses: Vec::new(),
+            goals: Vec::new(),
+            timed: Vec::new(),
+        }
+    }
+}
 
 impl Job {
     pub fn with_facts(initial: &[u16]) -> Job {
@@ -188,6 +239,17 @@ impl Job {
         self
     }
 
+    pub fn edition(mut self, edition: u16) -> Job {
+        self.edition = edition;
+        self
+    }
+
+    /// A timed fact makes it a job of edition 2.
+    pub fn timed(mut self, fact: usize, tick: i64, value: u16) -> Job {
+        self.timed.push(TimedFact { fact, tick, value });
+        self.edition(2)
+    }
+
     pub fn written_starts(&self) -> Vec<i64> {
         self.steps.iter().map(|step| step.start).collect()
     }
@@ -201,155 +263,7 @@ impl Job {
             self.effects.len(),
             self.uses.len(),
             self.goals.len(),
+            self.timed.len(),
         ]
     }
-
-    pub fn to_file(&self) -> Vec<u8> {
-        let mut file = self.header();
-        for &initial in &self.facts {
-            file.push(u8::try_from(initial).expect("a fact fits a byte"));
-        }
-        for level in &self.levels {
-            put_i32(&mut file, level.initial);
-            put_i32(&mut file, level.least);
-            put_i32(&mut file, level.most);
-        }
-        for step in &self.steps {
-            put_u32(&mut file, step.start);
-            put_u32(&mut file, step.length);
-            put_u16(&mut file, step.fixed);
-        }
-        for condition in &self.conditions {
-            put_u16(&mut file, condition.step);
-            put_u16(&mut file, condition.fact);
-            put_u32(&mut file, condition.from);
-            put_u32(&mut file, condition.to);
-            put_u16(&mut file, condition.wanted);
-        }
-        for effect in &self.effects {
-            put_u16(&mut file, effect.step);
-            put_u16(&mut file, effect.fact);
-            put_u32(&mut file, effect.at);
-            put_u16(&mut file, effect.value);
-        }
-        for used in &self.uses {
-            put_u16(&mut file, used.step);
-            put_u16(&mut file, used.level);
-            put_u32(&mut file, used.at);
-            put_i32(&mut file, used.amount);
-        }
-        for goal in &self.goals {
-            put_u16(&mut file, goal.fact);
-            put_u16(&mut file, goal.value);
-            put_u32(&mut file, goal.deadline.unwrap_or(i64::from(NO_DEADLINE)));
-        }
-        file
-    }
-
-    fn header(&self) -> Vec<u8> {
-        let mut file = Vec::new();
-        put_u16(&mut file, EDITION);
-        put_u16(&mut file, self.serial);
-        put_u16(&mut file, self.facts.len());
-        put_u16(&mut file, self.levels.len());
-        put_u16(&mut file, self.steps.len());
-        put_u16(&mut file, self.goals.len());
-        put_u16(&mut file, self.conditions.len());
-        put_u16(&mut file, self.effects.len());
-        put_u16(&mut file, self.uses.len());
-        put_u16(&mut file, 0u16);
-        let (offsets, _) = layout(self.counts());
-        for offset in offsets {
-            put_u32(&mut file, offset);
-        }
-        file
-    }
-}
-
-// ---------------------------------------------------------------------------------------------
-// Reading a file
-
-/// The offsets of the tables, which follow the header without gaps, and the file's length.
-pub fn layout(counts: [usize; TABLES]) -> ([usize; TABLES], usize) {
-    let mut offsets = [0; TABLES];
-    let mut end = HEADER;
-    for table in 0..TABLES {
-        offsets[table] = end;
-        end += counts[table] * WIDTHS[table];
-    }
-    (offsets, end)
-}
-
-pub fn counts_in(file: &[u8]) -> [usize; TABLES] {
-    COUNTS_AT.map(|at| usize::from(u16_at(file, at)))
-}
-
-pub fn offsets_in(file: &[u8]) -> [u32; TABLES] {
-    std::array::from_fn(|table| u32_at(file, OFFSETS_AT + 4 * table))
-}
-
-/// The records of a file whose layout holds, in range or not.
-pub fn records_in(file: &[u8]) -> Job {
-    let counts = counts_in(file);
-    let (offsets, _) = layout(counts);
-    let places = |table: usize| {
-        (0..counts[table]).map(move |number| offsets[table] + number * WIDTHS[table])
-    };
-    let name = |at: usize| usize::from(u16_at(file, at));
-    let ticks = |at: usize| i64::from(u32_at(file, at));
-    let amount = |at: usize| i64::from(i32_at(file, at));
-    Job {
-        serial: u16_at(file, SERIAL_AT),
-        facts: places(0).map(|at| u16::from(file[at])).collect(),
-        levels: places(1)
-            .map(|at| Level {
-                initial: amount(at),
-                least: amount(at + 4),
-                most: amount(at + 8),
-            })
-            .collect(),
-        steps: places(2)
-            .map(|at| Step {
-                start: ticks(at),
-                length: ticks(at + 4),
-                fixed: u16_at(file, at + 8),
-            })
-            .collect(),
-        conditions: places(3)
-            .map(|at| Condition {
-                step: name(at),
-                fact: name(at + 2),
-                from: ticks(at + 4),
-                to: ticks(at + 8),
-                wanted: u16_at(file, at + 12),
-            })
-            .collect(),
-        effects: places(4)
-            .map(|at| Effect {
-                step: name(at),
-                fact: name(at + 2),
-                at: ticks(at + 4),
-                value: u16_at(file, at + 8),
-            })
-            .collect(),
-        uses: places(5)
-            .map(|at| Use {
-                step: name(at),
-                level: name(at + 2),
-                at: ticks(at + 4),
-                amount: amount(at + 8),
-            })
-            .collect(),
-        goals: places(6)
-            .map(|at| Goal {
-                fact: name(at),
-                value: u16_at(file, at + 2),
-                deadline: deadline(u32_at(file, at + 4)),
-            })
-            .collect(),
-    }
-}
-
-fn deadline(number: u32) -> Option<i64> {
-    (number != NO_DEADLINE).then_some(i64::from(number))
 }

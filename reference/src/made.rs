@@ -1,9 +1,9 @@
 //! Made cases, one by one, as they come from a seed.
 
 use crate::cases::Case;
-use crate::job::Job;
-use crate::loosen::order_file_of;
-use crate::make::near_miss::near_miss;
+use crate::job::{Job, LATEST_EDITION};
+use crate::loosen::order_file_up_to;
+use crate::make::near_miss::{near_miss, nearly_missed};
 use crate::make::order_files::{broken_files, slightly_changed, some_good_file};
 use crate::make::own_conflicts::some_own_conflict;
 use crate::make::scribbled::scribbled_job;
@@ -12,16 +12,29 @@ use crate::make::timings::some_starts;
 use crate::make::{damage, order_files};
 use crate::random::Random;
 
-/// A made case of a command.
+/// A made case of a command, of any edition that is taken.
 pub fn made_case(random: &mut Random, command: char) -> Case {
+    made_case_up_to(LATEST_EDITION, random, command)
+}
+
+/// Of the latest edition as often as of those before it.
+pub fn made_case_up_to(latest: u16, random: &mut Random, command: char) -> Case {
+    let mut edition = latest;
+    while edition > 1 && random.chance(50) {
+        edition -= 1;
+    }
+    made_case_of(edition, random, command)
+}
+
+pub fn made_case_of(edition: u16, random: &mut Random, command: char) -> Case {
     match command {
-        'w' => Case::job('w', file_for_well_formedness(random)),
-        'c' => Case::job('c', file_for_the_job_check(random)),
-        't' => timing_case(random),
-        'h' => Case::header(some_order_file(random)),
-        'r' => record_case(random),
-        'a' => alike_case(random),
-        'l' => loosening_case(random),
+        'w' => Case::job('w', file_for_well_formedness(random, edition)),
+        'c' => Case::job('c', file_for_the_job_check(random, edition)),
+        't' => timing_case(random, edition),
+        'h' => Case::header(some_order_file(random, edition)),
+        'r' => record_case(random, edition),
+        'a' => alike_case(random, edition),
+        'l' => loosening_case(random, edition),
         _ => panic!("there is no command {command}"),
     }
 }
@@ -34,63 +47,63 @@ fn one_of<T>(random: &mut Random, mut items: Vec<T>) -> T {
 // ---------------------------------------------------------------------------------------------
 // Jobs
 
-fn file_for_well_formedness(random: &mut Random) -> Vec<u8> {
+fn file_for_well_formedness(random: &mut Random, edition: u16) -> Vec<u8> {
     match random.below(100) {
-        0..15 => small_sound_job(random).to_file(),
-        15..30 => scribbled_job(random).to_file(),
-        30..50 => some_own_conflict(random).to_file(),
-        _ => damaged_file(random),
+        0..15 => small_sound_job(random, edition).to_file(),
+        15..30 => scribbled_job(random, edition).to_file(),
+        30..50 => some_own_conflict(random, edition).to_file(),
+        _ => damaged_file(random, edition),
     }
 }
 
-fn file_for_the_job_check(random: &mut Random) -> Vec<u8> {
+fn file_for_the_job_check(random: &mut Random, edition: u16) -> Vec<u8> {
     match random.below(100) {
-        0..30 => some_sound_job(random).to_file(),
-        30..70 => some_near_miss(random).to_file(),
-        70..85 => scribbled_job(random).to_file(),
-        85..92 => some_own_conflict(random).to_file(),
-        _ => damaged_file(random),
+        0..30 => some_sound_job(random, edition).to_file(),
+        30..70 => some_near_miss(random, edition).to_file(),
+        70..85 => scribbled_job(random, edition).to_file(),
+        85..92 => some_own_conflict(random, edition).to_file(),
+        _ => damaged_file(random, edition),
     }
 }
 
-fn some_near_miss(random: &mut Random) -> Job {
-    let number = random.pick(&[10, 11, 12, 13, 14]);
-    near_miss(random, number)
+fn some_near_miss(random: &mut Random, edition: u16) -> Job {
+    let number = random.pick(&nearly_missed(edition));
+    near_miss(random, edition, number)
 }
 
 /// A file damaged in one of the ways of refusals 1 to 6, or no file at all.
-fn damaged_file(random: &mut Random) -> Vec<u8> {
-    let job = small_sound_job(random);
+fn damaged_file(random: &mut Random, edition: u16) -> Vec<u8> {
+    let job = small_sound_job(random, edition);
     let file = job.to_file();
     match random.below(10) {
-        0..4 => damage::some_byte(random, &file),
+        0..4 => damage::some_byte(random, edition, &file),
         4..6 => one_of(random, damage::ranges(&job)).to_file(),
         6..8 => damage::two_faults(random, &file),
         8 => one_of(random, damage::layouts(&file)),
-        _ => damage::garbage(random),
+        _ => damage::garbage(random, edition),
     }
 }
 
-fn timing_case(random: &mut Random) -> Case {
+fn timing_case(random: &mut Random, edition: u16) -> Case {
     let job = match random.below(100) {
-        0..75 => some_sound_job(random),
-        75..90 => scribbled_job(random),
-        _ => some_near_miss(random),
+        0..75 => some_sound_job(random, edition),
+        75..90 => scribbled_job(random, edition),
+        _ => some_near_miss(random, edition),
     };
     let starts = some_starts(random, &job);
     if random.chance(4) {
-        return Case::timing(damage::some_byte(random, &job.to_file()), &starts);
+        return Case::timing(damage::some_byte(random, edition, &job.to_file()), &starts);
     }
     Case::timing(job.to_file(), &starts)
 }
 
 /// A buffer of just the length, a byte too short, or with room that must stay as it was.
-fn loosening_case(random: &mut Random) -> Case {
+fn loosening_case(random: &mut Random, edition: u16) -> Case {
     let file = match random.below(100) {
-        0..80 => some_sound_job(random).to_file(),
-        _ => file_for_the_job_check(random),
+        0..80 => some_sound_job(random, edition).to_file(),
+        _ => file_for_the_job_check(random, edition),
     };
-    let length = match order_file_of(&file) {
+    let length = match order_file_up_to(edition, &file) {
         Ok(written) => written.to_file().len(),
         Err(_) => random.below(30),
     };
@@ -106,23 +119,23 @@ fn loosening_case(random: &mut Random) -> Case {
 // ---------------------------------------------------------------------------------------------
 // Order files
 
-fn some_order_file(random: &mut Random) -> Vec<u8> {
+fn some_order_file(random: &mut Random, edition: u16) -> Vec<u8> {
     match random.below(10) {
-        0..6 => some_good_file(random).to_file(),
-        6..9 => order_files::damaged_file(random),
-        _ => one_of(random, broken_files()).1,
+        0..6 => some_good_file(random, edition).to_file(),
+        6..9 => order_files::damaged_file(random, edition),
+        _ => one_of(random, broken_files(edition)).1,
     }
 }
 
 /// Mostly a record that is there, else the one past the last, or none that could be.
-fn record_case(random: &mut Random) -> Case {
+fn record_case(random: &mut Random, edition: u16) -> Case {
     if random.chance(15) {
-        let file = some_order_file(random);
+        let file = some_order_file(random, edition);
         let table = random.pick(&[0, 1, 2, 3, 256, u32::MAX]);
         let number = random.pick(&[0, 1, 65_536, u32::MAX]);
         return Case::record(file, table, number);
     }
-    let file = some_good_file(random);
+    let file = some_good_file(random, edition);
     let counts = [file.windows.len(), file.orders.len(), file.links.len()];
     let table = random.below(3);
     let number = match counts[table] {
@@ -133,13 +146,16 @@ fn record_case(random: &mut Random) -> Case {
     Case::record(file.to_file(), table as u32, number as u32)
 }
 
-fn alike_case(random: &mut Random) -> Case {
-    let file = some_good_file(random);
+fn alike_case(random: &mut Random, edition: u16) -> Case {
+    let file = some_good_file(random, edition);
     let (a, b) = match random.below(10) {
         0..6 => (file.to_file(), slightly_changed(random, &file).to_file()),
-        6 => (file.to_file(), some_order_file(random)),
-        7 => (some_order_file(random), file.to_file()),
-        8 => (some_order_file(random), some_order_file(random)),
+        6 => (file.to_file(), some_order_file(random, edition)),
+        7 => (some_order_file(random, edition), file.to_file()),
+        8 => (
+            some_order_file(random, edition),
+            some_order_file(random, edition),
+        ),
         _ => (file.to_file(), file.to_file()),
     };
     Case::alike(a, b)

@@ -10,4 +10,8 @@ pub mod own_conflicts;
 pub mod scribbled;
 pub mod sound;
 pub mod telling;
+pub mod timed_edges;
+pub mod timed_nudges;
+pub mod timed_telling;
+pub mod timed_timings;
 pub mod timings;

@@ -1,9 +1,11 @@
-//! Orders from a sound job: links, the five rules, windows, rounds.
+//! Orders from a sound job: links, the five rules, rounds.
 
 use std::collections::BTreeMap;
 
-use crate::job::{Condition, Effect, Goal, Job, Use};
+use crate::job::{Condition, Effect, Job, Use};
+use crate::limits::{earliest_limit, latest_start};
 use crate::order_file::{Link, Order, OrderFile, Window};
+use crate::setters::{setters, Setter};
 use crate::timing::finishes_in_time;
 
 /// What a sound job is loosened to.
@@ -20,10 +22,8 @@ pub fn orders_of(job: &Job) -> OrderFile {
         ]
         .concat(),
     );
-    let limits: Vec<i64> = job
-        .steps
-        .iter()
-        .map(|step| if step.is_fixed() { step.start } else { 0 })
+    let limits: Vec<i64> = (0..job.steps.len())
+        .map(|step| earliest_limit(job, &links, step))
         .collect();
     let (earliest, rounds) = earliest_times(&limits, &orders);
     let windows = (0..job.steps.len())
@@ -50,7 +50,7 @@ fn links(job: &Job, starts: &[i64]) -> Vec<Link> {
         .conditions
         .iter()
         .map(|c| supporter(job, starts, c.fact, c.wanted, c.first_tick(starts)));
-    // Every effect lies before the end of time, so for a goal all of them count.
+    // Everything is set before the end of time, so for a goal all of it counts.
     let goals = job
         .goals
         .iter()
@@ -60,22 +60,22 @@ fn links(job: &Job, starts: &[i64]) -> Vec<Link> {
 
 /// The supporter of a value wanted from a tick on.
 fn supporter(job: &Job, starts: &[i64], fact: usize, wanted: u16, first: i64) -> Link {
-    let last_opposing = job
-        .effects
-        .iter()
-        .filter(|e| e.opposes(fact, wanted) && e.tick(starts) < first)
-        .map(|e| e.tick(starts))
+    let last_opposing = setters(job, starts)
+        .filter(|s| s.opposes(fact, wanted) && s.tick < first)
+        .map(|s| s.tick)
         .max();
     if last_opposing.is_none() && job.facts[fact] == wanted {
         return Link::InitialState;
     }
-    let after_that = |e: &Effect| last_opposing.is_none_or(|tick| tick < e.tick(starts));
-    let earliest = (0..job.effects.len())
-        .filter(|&n| job.effects[n].gives(fact, wanted) && after_that(&job.effects[n]))
-        .min_by_key(|&n| (job.effects[n].tick(starts), n));
-    Link::Effect(earliest.expect("in a sound job some effect gives the wanted value"))
+    let after_that = |s: &Setter| last_opposing.is_none_or(|tick| tick < s.tick);
+    let giving = setters(job, starts).filter(|s| s.gives(fact, wanted) && after_that(s));
+    // Of several at one tick the first.
+    let earliest = giving.min_by_key(|s| s.tick);
+    let supporter = earliest.expect("in a sound job something gives the wanted value");
+    supporter.link
 }
 
+/// A timed supporter is no step's, so it gives no order but a limit.
 fn support_orders(job: &Job, links: &[Link]) -> Vec<Order> {
     let mut orders = Vec::new();
     for (condition, link) in job.conditions.iter().zip(links) {
@@ -216,29 +216,7 @@ fn largest_gaps(orders: Vec<Order>) -> Vec<Order> {
 }
 
 // ---------------------------------------------------------------------------------------------
-// Windows and rounds
-
-/// The written start of a fixed step, else the least (deadline − at) over goals with a deadline
-/// that its effects support, else none.
-fn latest_start(job: &Job, links: &[Link], step: usize) -> Option<i64> {
-    if job.steps[step].is_fixed() {
-        return Some(job.steps[step].start);
-    }
-    let goal_links = &links[job.conditions.len()..];
-    let supported = job.goals.iter().zip(goal_links);
-    supported
-        .filter_map(|(goal, link)| demanded_latest(job, goal, link, step))
-        .min()
-}
-
-fn demanded_latest(job: &Job, goal: &Goal, link: &Link, step: usize) -> Option<i64> {
-    let Link::Effect(number) = *link else {
-        return None;
-    };
-    let effect = &job.effects[number];
-    let deadline = goal.deadline.filter(|_| effect.step == step)?;
-    Some(deadline - effect.at)
-}
+// Rounds
 
 /// The rounds from the earliest limits, and how many they are. The last one changes nothing.
 fn earliest_times(limits: &[i64], orders: &[Order]) -> (Vec<i64>, usize) {

@@ -1,10 +1,15 @@
 //! What program `show` prints of a job.
 
-use crate::loosen::order_file_of;
+use crate::job::LATEST_EDITION;
+use crate::loosen::order_file_up_to;
 use crate::order_file::OrderFile;
 
 pub fn show(job: &[u8]) -> String {
-    match order_file_of(job) {
+    show_up_to(LATEST_EDITION, job)
+}
+
+pub fn show_up_to(latest: u16, job: &[u8]) -> String {
+    match order_file_up_to(latest, job) {
         Ok(file) => sheet(&file),
         Err(refusal) => format!("refused {} place {}\n", refusal.number, refusal.place),
     }

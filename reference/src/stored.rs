@@ -1,9 +1,9 @@
 //! The stored cases of the replay program, and the lines expected of them.
 
-use crate::cases::{answers, cases_file, Case, LONGEST_FIELD, MOST_FURTHER};
-use crate::job::Job;
-use crate::loosen::order_file_of;
-use crate::made::made_case;
+use crate::cases::{answers_up_to, cases_file, Case, LONGEST_FIELD, MOST_FURTHER};
+use crate::job::{Job, LATEST_EDITION};
+use crate::loosen::order_file_up_to;
+use crate::made::made_case_of;
 use crate::make::damage;
 use crate::make::edges::edges;
 use crate::make::highest::{chain_of_all_steps, every_pair_ordered_both_ways, highest_job};
@@ -18,6 +18,7 @@ use crate::make::timings::telling_timings;
 use crate::order_file::OrderFile;
 use crate::random::Random;
 use crate::samples::{sample, SAMPLES};
+use crate::stored_timed;
 
 /// The commands that the replay program serves; the others join here as it learns them.
 pub const SERVED: &str = "whractl";
@@ -27,15 +28,32 @@ pub struct Stored {
     pub stdout: String,
 }
 
+/// The stored cases of these commands, with jobs of every edition that is taken.
 pub fn stored(commands: &str) -> Stored {
-    let cases: Vec<Case> = commands.chars().flat_map(cases_of).collect();
+    stored_up_to(LATEST_EDITION, commands)
+}
+
+pub fn stored_up_to(latest: u16, commands: &str) -> Stored {
+    let commands = commands.chars();
+    let cases: Vec<Case> = commands
+        .flat_map(|command| cases_up_to(latest, command))
+        .collect();
     let cases = cases_file(&cases);
-    let stdout = answers(&cases);
+    let stdout = answers_up_to(latest, &cases);
     Stored { cases, stdout }
 }
 
-/// The stored cases of one command do not depend on which others are served.
-pub fn cases_of(command: char) -> Vec<Case> {
+/// The stored cases of one command do not depend on which others are served, and those with jobs of
+/// an edition not on which later ones are taken.
+pub fn cases_up_to(latest: u16, command: char) -> Vec<Case> {
+    let mut cases = cases_of_edition_1(command);
+    if latest > 1 {
+        cases.extend(stored_timed::cases_of_edition_2(command));
+    }
+    cases
+}
+
+fn cases_of_edition_1(command: char) -> Vec<Case> {
     match command {
         'w' => well_formedness_cases(),
         'c' => job_check_cases(),
@@ -49,16 +67,20 @@ pub fn cases_of(command: char) -> Vec<Case> {
 }
 
 fn made(command: char, count: usize) -> Vec<Case> {
+    made_of(1, command, count)
+}
+
+pub fn made_of(edition: u16, command: char, count: usize) -> Vec<Case> {
     let mut random = Random::seeded(u64::from(command));
     (0..count)
-        .map(|_| made_case(&mut random, command))
+        .map(|_| made_case_of(edition, &mut random, command))
         .collect()
 }
 
 // ---------------------------------------------------------------------------------------------
 // Jobs
 
-fn to_files(jobs: Vec<Job>) -> Vec<Vec<u8>> {
+pub fn to_files(jobs: Vec<Job>) -> Vec<Vec<u8>> {
     jobs.iter().map(Job::to_file).collect()
 }
 
@@ -81,11 +103,11 @@ fn well_formedness_cases() -> Vec<Case> {
         damage::too_short(&file),
         damage::layouts(&file),
         damage::layouts(&empty_job().to_file()),
-        to_files(damage::counts_at_highest()),
-        to_files(damage::counts_one_above()),
+        to_files(damage::counts_at_highest(1)),
+        to_files(damage::counts_one_above(1)),
         to_files(damage::ranges(&full)),
-        to_files(damage::two_broken_records()),
-        damage::pairs_of_refusals(),
+        to_files(damage::two_broken_records(1)),
+        damage::pairs_of_refusals(1),
         damage::each_byte(&file),
         to_files(last_record_of_a_highest_job_broken()),
     ]
@@ -111,9 +133,9 @@ fn job_check_cases() -> Vec<Case> {
     jobs.extend(last_record_of_a_highest_job_fails());
     let mut random = Random::seeded(10);
     for number in 10..=14 {
-        jobs.extend((0..40).map(|_| near_miss(&mut random, number)));
+        jobs.extend((0..40).map(|_| near_miss(&mut random, 1, number)));
     }
-    let files = [damage::pairs_of_refusals(), to_files(jobs)].concat();
+    let files = [damage::pairs_of_refusals(1), to_files(jobs)].concat();
     let mut cases: Vec<Case> = files.into_iter().map(|file| Case::job('c', file)).collect();
     cases.extend(made('c', 250));
     cases
@@ -135,21 +157,15 @@ fn timing_cases() -> Vec<Case> {
         .map(|(job, starts)| Case::timing(job.to_file(), &starts))
         .collect();
     for job in jobs_by_hand() {
-        if let Ok(file) = order_file_of(&job.to_file()) {
-            let earliest = file.earliest_times();
-            cases.push(Case::timing(job.to_file(), &list(&earliest)));
-            cases.extend(one_step_too_early(&job, &earliest));
-        } else {
-            cases.push(at_written_starts(&job));
-        }
+        cases.extend(timings_at_the_earliest(&job));
     }
     // A list of another length is found only after what is wrong with the job.
-    let broken = damage::one_of_each().into_iter();
+    let broken = damage::one_of_each(1).into_iter();
     cases.extend(broken.map(|file| Case::timing(file, &[0])));
     cases.extend(lists_too_long());
     let mut random = Random::seeded(14);
     for number in 10..=14 {
-        let missed = (0..25).map(|_| near_miss(&mut random, number));
+        let missed = (0..25).map(|_| near_miss(&mut random, 1, number));
         cases.extend(missed.map(|job| at_written_starts(&job)));
     }
     cases.push(at_written_starts(&highest_job(4, 8)));
@@ -169,11 +185,22 @@ fn lists_too_long() -> Vec<Case> {
     cases
 }
 
-fn at_written_starts(job: &Job) -> Case {
+/// The earliest times of a sound job, and with one step too early.
+pub fn timings_at_the_earliest(job: &Job) -> Vec<Case> {
+    let Ok(file) = order_file_up_to(job.edition, &job.to_file()) else {
+        return vec![at_written_starts(job)];
+    };
+    let earliest = file.earliest_times();
+    let mut cases = vec![Case::timing(job.to_file(), &list(&earliest))];
+    cases.extend(one_step_too_early(job, &earliest));
+    cases
+}
+
+pub fn at_written_starts(job: &Job) -> Case {
     Case::timing(job.to_file(), &list(&job.written_starts()))
 }
 
-fn list(starts: &[i64]) -> Vec<u32> {
+pub fn list(starts: &[i64]) -> Vec<u32> {
     let within = |&start| u32::try_from(start).expect("a start fits");
     starts.iter().map(within).collect()
 }
@@ -193,9 +220,9 @@ fn one_step_too_early(job: &Job, earliest: &[i64]) -> Vec<Case> {
 fn loosening_cases() -> Vec<Case> {
     let mut cases = Vec::new();
     for job in jobs_by_hand() {
-        cases.extend(loosened_into_buffers_around(&job.to_file()));
+        cases.extend(loosened_into_buffers_around(&job));
     }
-    let broken = damage::one_of_each().into_iter();
+    let broken = damage::one_of_each(1).into_iter();
     cases.extend(broken.map(|file| Case::loosening(file, 16)));
     for job in [
         every_pair_ordered_both_ways(),
@@ -217,9 +244,9 @@ fn loosening_cases() -> Vec<Case> {
 fn long_buffers() -> Vec<Case> {
     let mut random = Random::seeded(17);
     let mut jobs = vec![empty_job(), small_job()];
-    jobs.extend((10..=14).map(|number| near_miss(&mut random, number)));
+    jobs.extend((10..=14).map(|number| near_miss(&mut random, 1, number)));
     let mut cases = Vec::new();
-    for file in [to_files(jobs), damage::one_of_each()].concat() {
+    for file in [to_files(jobs), damage::one_of_each(1)].concat() {
         let length = length_for(&file);
         for length in [length + 9, length + 64, length + 1_000, LONGEST_FIELD] {
             cases.push(Case::loosening(file.clone(), length));
@@ -235,32 +262,37 @@ fn long_buffers() -> Vec<Case> {
 }
 
 /// A buffer of just the length, and one a byte too short; a refused job says so even to none.
-fn loosened_into_buffers_around(file: &[u8]) -> Vec<Case> {
-    let length = length_for(file);
-    let lengths = match order_file_of(file) {
+pub fn loosened_into_buffers_around(job: &Job) -> Vec<Case> {
+    let file = job.to_file();
+    let length = length_up_to(job.edition, &file);
+    let lengths = match order_file_up_to(job.edition, &file) {
         Ok(_) => [length, length - 1],
         Err(_) => [length, 0],
     };
     lengths
         .into_iter()
-        .map(|length| Case::loosening(file.to_vec(), length))
+        .map(|length| Case::loosening(file.clone(), length))
         .collect()
 }
 
-/// The length of a job's order file; for a refused job, some bytes that must stay.
 fn length_for(file: &[u8]) -> usize {
-    order_file_of(file).map_or(20, |written| written.to_file().len())
+    length_up_to(1, file)
+}
+
+/// The length of a job's order file; for a refused job, some bytes that must stay.
+pub fn length_up_to(latest: u16, file: &[u8]) -> usize {
+    order_file_up_to(latest, file).map_or(20, |written| written.to_file().len())
 }
 
 // ---------------------------------------------------------------------------------------------
 // Order files
 
-fn order_files(files: Vec<OrderFile>) -> Vec<Vec<u8>> {
+pub fn order_files(files: Vec<OrderFile>) -> Vec<Vec<u8>> {
     files.iter().map(OrderFile::to_file).collect()
 }
 
 fn broken() -> Vec<Vec<u8>> {
-    broken_files().into_iter().map(|(_, file)| file).collect()
+    broken_files(1).into_iter().map(|(_, file)| file).collect()
 }
 
 fn header_cases() -> Vec<Case> {

@@ -3,19 +3,28 @@
 //! A timing is a start for each step. What holds "at each tick" is looked at only where it can
 //! change; a test compares this with looking at every tick.
 
-use crate::job::{Condition, Effect, Goal, Job, Use};
+use crate::job::{Condition, Effect, Goal, Job, Use, LATEST_EDITION};
 use crate::refusal::{refuse_at, refuse_if, Verdict};
-use crate::well_formed::well_formed;
+use crate::setters::setters;
+use crate::well_formed::well_formed_up_to;
 
-/// The job check: 1 to 7, then 10 to 14 on the written starts.
+/// The job check: 1 to 7 and 17, then 10 to 14 on the written starts.
 pub fn check_job(file: &[u8]) -> Verdict {
-    let job = well_formed(file)?;
+    check_job_up_to(LATEST_EDITION, file)
+}
+
+pub fn check_job_up_to(latest: u16, file: &[u8]) -> Verdict {
+    let job = well_formed_up_to(latest, file)?;
     sound(&job, &job.written_starts())
 }
 
-/// The timing check: 1 to 14.
+/// The timing check: 1 to 7 and 17, then 8 to 14.
 pub fn check_timing(file: &[u8], starts: &[u32]) -> Verdict {
-    let job = well_formed(file)?;
+    check_timing_up_to(LATEST_EDITION, file, starts)
+}
+
+pub fn check_timing_up_to(latest: u16, file: &[u8], starts: &[u32]) -> Verdict {
+    let job = well_formed_up_to(latest, file)?;
     refuse_if(8, starts.len() != job.steps.len())?;
     let starts: Vec<i64> = starts.iter().map(|&start| i64::from(start)).collect();
     refuse_at(9, first_moved_fixed_step(&job, &starts))?;
@@ -56,30 +65,27 @@ impl Use {
     }
 }
 
-/// The value seen at a tick counts all effects at earlier ticks and none at that tick.
+/// The value seen at a tick counts all that is set at earlier ticks and nothing at that tick.
 ///
-/// Where opposing effects share the latest earlier tick the value is free; 7 and 10 refuse that
+/// Where opposing values share the latest earlier tick the value is free; 7, 17 and 10 refuse that
 /// before a value is asked for.
 pub fn value_seen(job: &Job, starts: &[i64], fact: usize, tick: i64) -> u16 {
-    let earlier = job
-        .effects
-        .iter()
-        .filter(|e| e.fact == fact && e.tick(starts) < tick);
-    match earlier.max_by_key(|e| e.tick(starts)) {
-        Some(effect) => effect.value,
+    let earlier = setters(job, starts).filter(|s| s.fact == fact && s.tick < tick);
+    match earlier.max_by_key(|s| s.tick) {
+        Some(setter) => setter.value,
         None => job.facts[fact],
     }
 }
 
-/// The value of a fact after all effects.
+/// The value of a fact after all effects and timed facts.
 pub fn end_value(job: &Job, starts: &[i64], fact: usize) -> u16 {
     value_seen(job, starts, fact, i64::MAX)
 }
 
 /// The ticks at which another value of the fact may come to be seen.
 fn changes<'a>(job: &'a Job, starts: &'a [i64], fact: usize) -> impl Iterator<Item = i64> + 'a {
-    let effects = job.effects.iter().filter(move |e| e.fact == fact);
-    effects.map(|e| e.tick(starts) + 1)
+    let setters = setters(job, starts).filter(move |s| s.fact == fact);
+    setters.map(|s| s.tick + 1)
 }
 
 // ---------------------------------------------------------------------------------------------
@@ -91,12 +97,11 @@ pub fn first_moved_fixed_step(job: &Job, starts: &[i64]) -> Option<usize> {
     steps.position(|(step, &start)| step.is_fixed() && start != step.start)
 }
 
-/// Refusal 10.
+/// Refusal 10: the lowest step's effect that meets another step's or a timed fact.
 fn first_meeting_effect(job: &Job, starts: &[i64]) -> Option<usize> {
-    job.effects.iter().position(|a| {
-        job.effects.iter().any(|b| {
-            a.step != b.step && a.opposes(b.fact, b.value) && a.tick(starts) == b.tick(starts)
-        })
+    job.effects.iter().position(|e| {
+        setters(job, starts)
+            .any(|s| !s.is_of(e.step) && s.opposes(e.fact, e.value) && s.tick == e.tick(starts))
     })
 }
 
@@ -118,10 +123,10 @@ fn wanted_value_seen_throughout(job: &Job, starts: &[i64], condition: &Condition
 
 fn opposed_by_another(job: &Job, starts: &[i64], condition: &Condition) -> bool {
     let ticks = condition.first_tick(starts)..=condition.last_tick(starts);
-    job.effects.iter().any(|e| {
-        e.step != condition.step
-            && e.opposes(condition.fact, condition.wanted)
-            && ticks.contains(&e.tick(starts))
+    setters(job, starts).any(|s| {
+        !s.is_of(condition.step)
+            && s.opposes(condition.fact, condition.wanted)
+            && ticks.contains(&s.tick)
     })
 }
 

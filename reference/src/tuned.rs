@@ -5,26 +5,33 @@
 //! walk along a fact meets everything in time order. All that is kept is on the stack.
 
 mod form;
+mod limits;
 mod nearest;
 mod points;
 mod rounds;
 mod sound;
 mod write;
 
+use crate::job::LATEST_EDITION;
 use crate::refusal::{number_and_place, refuse_if, Refusal, Verdict};
 use form::Form;
+use limits::Limits;
 use nearest::Nearest;
 use points::Points;
 use sound::{Links, UNLINKED};
 
 /// The number and place of the job check.
 pub fn check(job: &[u8]) -> (u16, u16) {
-    let mut links = UNLINKED;
-    number_and_place(&check_into(job, &mut links))
+    check_up_to(LATEST_EDITION, job)
 }
 
-fn check_into(job: &[u8], links: &mut Links) -> Verdict {
-    let form = Form::read(job)?;
+pub fn check_up_to(latest: u16, job: &[u8]) -> (u16, u16) {
+    let mut links = UNLINKED;
+    number_and_place(&check_into(latest, job, &mut links))
+}
+
+fn check_into(latest: u16, job: &[u8], links: &mut Links) -> Verdict {
+    let form = Form::read(latest, job)?;
     let mut points = Points::NONE;
     points.gather(&form);
     sound::link(&form, &points, links)
@@ -32,13 +39,17 @@ fn check_into(job: &[u8], links: &mut Links) -> Verdict {
 
 /// The number, place and length of loosening. A refusal changes no byte of the buffer.
 pub fn partialize(job: &[u8], out: &mut [u8]) -> (u16, u16, usize) {
-    let written = partialize_into(job, out);
+    partialize_up_to(LATEST_EDITION, job, out)
+}
+
+pub fn partialize_up_to(latest: u16, job: &[u8], out: &mut [u8]) -> (u16, u16, usize) {
+    let written = partialize_into(latest, job, out);
     let (number, place) = number_and_place(&written);
     (number, place, written.unwrap_or(0))
 }
 
-fn partialize_into(job: &[u8], out: &mut [u8]) -> Result<usize, Refusal> {
-    let form = Form::read(job)?;
+fn partialize_into(latest: u16, job: &[u8], out: &mut [u8]) -> Result<usize, Refusal> {
+    let form = Form::read(latest, job)?;
     let (mut points, mut links) = (Points::NONE, UNLINKED);
     points.gather(&form);
     sound::link(&form, &points, &mut links)?;
@@ -46,6 +57,7 @@ fn partialize_into(job: &[u8], out: &mut [u8]) -> Result<usize, Refusal> {
     nearest.find(&form, &points, &links);
     let length = write::length(&form, &nearest);
     refuse_if(15, out.len() < length)?;
-    write::write(&form, &links, &nearest, &mut out[..length]);
+    let limits = Limits::of(&form, &points, &links);
+    write::write(&form, &links, &nearest, &limits, &mut out[..length]);
     Ok(length)
 }

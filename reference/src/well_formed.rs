@@ -1,23 +1,38 @@
-//! Refusals 1 to 7: what a file must be before it is a job.
+//! Refusals 1 to 7 and 17: what a file must be before it is a job.
 
 use crate::bytes::u16_at;
 use crate::job::{
-    counts_in, layout, offsets_in, records_in, Condition, Effect, Goal, Job, Level, Step, Use,
-    EDITION, EDITION_AT, HEADER, HIGHEST, SERIAL_AT, TABLES, ZERO_AT,
+    header_length, Condition, Effect, Goal, Job, Level, Step, TimedFact, Use, HIGHEST,
+    LATEST_EDITION, SERIAL_AT, SHORTEST_HEADER, TABLES, TENTH_AT,
 };
+use crate::job_file::{counts_in, edition_in, layout, offsets_in, records_in};
 use crate::refusal::{refuse_at, refuse_if, Refusal};
 
-/// The job in a file, or the first of the refusals 1 to 7 in checking order.
+/// The job in a file, or the first of the refusals 1 to 7 and 17 in checking order.
 pub fn well_formed(file: &[u8]) -> Result<Job, Refusal> {
-    refuse_if(1, file.len() < HEADER)?;
-    refuse_if(2, u16_at(file, EDITION_AT) != EDITION)?;
-    refuse_if(3, u16_at(file, SERIAL_AT) > 1 || u16_at(file, ZERO_AT) != 0)?;
+    well_formed_up_to(LATEST_EDITION, file)
+}
+
+pub fn well_formed_up_to(latest: u16, file: &[u8]) -> Result<Job, Refusal> {
+    refuse_if(1, file.len() < SHORTEST_HEADER)?;
+    refuse_if(2, !(1..=latest).contains(&edition_in(file)))?;
+    refuse_if(1, file.len() < header_length(edition_in(file)))?;
+    refuse_if(
+        3,
+        u16_at(file, SERIAL_AT) > 1 || tenth_number_must_be_0(file),
+    )?;
     refuse_if(4, a_count_exceeds_its_highest(file))?;
     refuse_if(5, layout_disagrees(file))?;
     let job = records_in(file);
     refuse_at(6, first_broken_record(&job))?;
     refuse_at(7, first_step_against_itself(&job))?;
+    refuse_at(17, first_timed_fact_against_another(&job))?;
     Ok(job)
+}
+
+/// Refusal 3: only from edition 2 on it counts something.
+fn tenth_number_must_be_0(file: &[u8]) -> bool {
+    edition_in(file) == 1 && u16_at(file, TENTH_AT) != 0
 }
 
 /// Refusal 4.
@@ -28,9 +43,9 @@ fn a_count_exceeds_its_highest(file: &[u8]) -> bool {
 
 /// Refusal 5.
 fn layout_disagrees(file: &[u8]) -> bool {
-    let (offsets, end) = layout(counts_in(file));
-    let written = offsets_in(file);
-    file.len() != end || (0..TABLES).any(|table| written[table] as usize != offsets[table])
+    let (offsets, end) = layout(edition_in(file), counts_in(file));
+    let mut written = offsets_in(file).zip(offsets);
+    file.len() != end || written.any(|(written, offset)| written != offset)
 }
 
 /// Refusal 6: the lowest broken record of the first table, in table order, that has one.
@@ -42,6 +57,7 @@ fn first_broken_record(job: &Job) -> Option<usize> {
         .or_else(|| lowest_not(&job.effects, |e| effect_in_range(job, e)))
         .or_else(|| lowest_not(&job.uses, |u| use_in_range(job, u)))
         .or_else(|| lowest_not(&job.goals, |g| goal_in_range(job, g)))
+        .or_else(|| lowest_not(&job.timed, |t| timed_fact_in_range(job, t)))
 }
 
 fn lowest_not<R>(records: &[R], in_range: impl Fn(&R) -> bool) -> Option<usize> {
@@ -90,6 +106,10 @@ fn goal_in_range(job: &Job, goal: &Goal) -> bool {
         && goal.deadline.is_none_or(|deadline| deadline <= 1_100_000)
 }
 
+fn timed_fact_in_range(job: &Job, timed: &TimedFact) -> bool {
+    timed.fact < job.facts.len() && timed.tick <= 1_100_000 && timed.value <= 1
+}
+
 /// Refusal 7: the lowest step that breaks any of its three parts.
 fn first_step_against_itself(job: &Job) -> Option<usize> {
     (0..job.steps.len()).find(|&step| {
@@ -121,4 +141,12 @@ fn opposes_its_own_condition(job: &Job, step: usize) -> bool {
     conditions
         .into_iter()
         .any(|c| own().any(|e| e.opposes(c.fact, c.wanted) && c.from <= e.at && e.at < c.to))
+}
+
+/// Refusal 17: the lower of two timed facts that set one fact both ways at one tick.
+fn first_timed_fact_against_another(job: &Job) -> Option<usize> {
+    job.timed.iter().position(|a| {
+        let mut others = job.timed.iter();
+        others.any(|b| a.opposes(b.fact, b.value) && a.tick == b.tick)
+    })
 }

@@ -2,30 +2,37 @@
 
 use std::collections::BTreeMap;
 
-use reference::cases::{answer, COMMANDS};
+use reference::cases::{answer_up_to, COMMANDS};
 use reference::job::Job;
-use reference::made::made_case;
-use reference::make::near_miss::near_miss;
+use reference::made::made_case_of;
+use reference::make::near_miss::{near_miss, nearly_missed};
 use reference::make::{damage, edges, own_conflicts, timings};
 use reference::random::Random;
 use reference::refusal::number_and_place;
-use reference::timing::{check_job, check_timing};
-use reference::well_formed::well_formed;
+use reference::timing::{check_job_up_to, check_timing};
+use reference::well_formed::well_formed_up_to;
 
 const GOOD: (u16, u16) = (0, 65_535);
 
+/// Where no edition later than 1 is taken.
 fn well_formedness(file: &[u8]) -> (u16, u16) {
-    number_and_place(&well_formed(file))
+    well_formedness_up_to(1, file)
 }
 
+fn well_formedness_up_to(latest: u16, file: &[u8]) -> (u16, u16) {
+    number_and_place(&well_formed_up_to(latest, file))
+}
+
+/// Where no edition later than the job's is taken.
 fn all_well_formedness(jobs: Vec<Job>) -> Vec<(u16, u16)> {
     let jobs = jobs.iter();
-    jobs.map(|job| well_formedness(&job.to_file())).collect()
+    jobs.map(|job| well_formedness_up_to(job.edition, &job.to_file()))
+        .collect()
 }
 
 fn checked(jobs: Vec<Job>) -> Vec<(u16, u16)> {
     let jobs = jobs.iter();
-    jobs.map(|job| number_and_place(&check_job(&job.to_file())))
+    jobs.map(|job| number_and_place(&check_job_up_to(job.edition, &job.to_file())))
         .collect()
 }
 
@@ -57,31 +64,44 @@ fn refusals_1_to_5_name_no_record() {
 
 #[test]
 fn counts_at_their_highest_and_one_above() {
-    let at = all_well_formedness(damage::counts_at_highest());
-    assert_eq!(at, [GOOD; 7]);
-    let above = all_well_formedness(damage::counts_one_above());
-    assert_eq!(above, [(4, 65_535); 7]);
+    for (edition, tables) in [(1, 7), (2, 8)] {
+        let at = all_well_formedness(damage::counts_at_highest(edition));
+        assert_eq!(at, vec![GOOD; tables]);
+        let above = all_well_formedness(damage::counts_one_above(edition));
+        assert_eq!(above, vec![(4, 65_535); tables]);
+    }
 }
 
 #[test]
 fn one_of_each_comes_in_checking_order() {
-    let files = damage::one_of_each();
-    let numbers: Vec<u16> = files.iter().map(|file| well_formedness(file).0).collect();
-    assert_eq!(numbers, [1, 2, 3, 4, 5, 6, 7]);
+    let numbers = |edition| -> Vec<u16> {
+        let files = damage::one_of_each(edition);
+        let verdicts = files
+            .iter()
+            .map(|file| well_formedness_up_to(edition, file));
+        verdicts.map(|(number, _)| number).collect()
+    };
+    assert_eq!(numbers(1), [1, 2, 3, 4, 5, 6, 7]);
+    assert_eq!(numbers(2), [1, 2, 3, 4, 5, 6, 7, 17]);
 }
 
 #[test]
-fn of_two_refusals_the_lower_number_decides() {
-    let numbers = [2, 3, 3, 4, 4, 5, 6, 7, 11];
-    let mut expected = Vec::new();
-    for (count, &number) in numbers.iter().enumerate() {
-        expected.extend(&numbers[..count]);
-        expected.extend([1, number.min(5), number]);
+fn of_two_refusals_the_one_checked_first_decides() {
+    let numbers = damage::numbers_in_checking_order;
+    assert_eq!(numbers(1), [2, 3, 3, 4, 4, 5, 6, 7, 11]);
+    assert_eq!(numbers(2), [2, 3, 4, 4, 4, 5, 5, 6, 6, 7, 17, 11]);
+    for edition in [1, 2] {
+        let numbers = numbers(edition);
+        let mut expected = Vec::new();
+        for (count, &number) in numbers.iter().enumerate() {
+            expected.extend(&numbers[..count]);
+            expected.extend([1, number.min(5), number]);
+        }
+        let files = damage::pairs_of_refusals(edition);
+        let verdicts = files.iter().map(|file| check_job_up_to(edition, file));
+        let found: Vec<u16> = verdicts.map(|v| number_and_place(&v).0).collect();
+        assert_eq!(found, expected);
     }
-    let files = damage::pairs_of_refusals();
-    let verdicts = files.iter().map(|file| check_job(file));
-    let found: Vec<u16> = verdicts.map(|v| number_and_place(&v).0).collect();
-    assert_eq!(found, expected);
 }
 
 // ---------------------------------------------------------------------------------------------
@@ -138,7 +158,7 @@ fn ranges_end_where_the_paper_says() {
 
 #[test]
 fn the_earlier_table_is_the_place_of_two_broken_records() {
-    let found = all_well_formedness(damage::two_broken_records());
+    let found = all_well_formedness(damage::two_broken_records(1));
     let places: Vec<u16> = found.iter().map(|&(_, place)| place).collect();
     // The first table's records are 7 and 8, the second's 6 and 7, and so on.
     assert_eq!(places[..10], [7, 7, 8, 7, 8, 6, 7, 8, 6, 7]);
@@ -341,20 +361,24 @@ fn starts_past_counting_do_not_begin_again() {
 #[test]
 fn near_misses_are_refused_with_their_number() {
     let mut random = Random::seeded(3);
-    for number in 10..=14 {
-        for _ in 0..100 {
-            let job = near_miss(&mut random, number);
-            assert_eq!(checked(vec![job])[0].0, number);
+    for edition in [1, 2] {
+        for number in nearly_missed(edition) {
+            for _ in 0..100 {
+                let job = near_miss(&mut random, edition, number);
+                assert_eq!(job.edition, edition);
+                assert_eq!(checked(vec![job])[0].0, number);
+            }
         }
     }
 }
 
 /// How often each number comes in made cases of a command.
-fn numbers_of(command: char) -> BTreeMap<u16, usize> {
+fn numbers_of(edition: u16, command: char) -> BTreeMap<u16, usize> {
     let mut random = Random::seeded(9);
     let mut counts = BTreeMap::new();
     for _ in 0..4_000 {
-        let line = answer(&made_case(&mut random, command)).expect("a made case is answered");
+        let case = made_case_of(edition, &mut random, command);
+        let line = answer_up_to(edition, &case).expect("a made case is answered");
         let number = line.split(' ').nth(1).and_then(|word| word.parse().ok());
         *counts.entry(number.expect("a number")).or_default() += 1;
     }
@@ -363,16 +387,19 @@ fn numbers_of(command: char) -> BTreeMap<u16, usize> {
 
 #[test]
 fn made_cases_leave_no_refusal_out() {
-    for command in COMMANDS.chars() {
-        let numbers: Vec<u16> = match command {
+    for (edition, command) in COMMANDS.chars().flat_map(|c| [(1, c), (2, c)]) {
+        let mut numbers: Vec<u16> = match command {
             'w' => (0..=7).collect(),
             'c' => (0..=7).chain(10..=14).collect(),
             't' => (0..=14).filter(|&number| number != 1).collect(),
             'l' => (0..=7).chain(10..=15).collect(),
             _ => vec![0, 16],
         };
-        let counts = numbers_of(command);
+        if edition == 2 && "wctl".contains(command) {
+            numbers.push(17);
+        }
+        let counts = numbers_of(edition, command);
         let found: Vec<u16> = counts.keys().copied().collect();
-        assert_eq!(found, numbers, "{command} {counts:?}");
+        assert_eq!(found, numbers, "{edition} {command} {counts:?}");
     }
 }

@@ -20,7 +20,7 @@ fn orders(job: Job) -> Vec<(usize, usize, i64)> {
 fn links(job: Job) -> Vec<i64> {
     let number = |link: &Link| match *link {
         Link::InitialState => -1,
-        Link::Effect(number) => number as i64,
+        link => i64::from(link.number()),
     };
     loosened(job).links.iter().map(number).collect()
 }

@@ -9,7 +9,7 @@ use reference::make::timings::some_starts;
 use reference::random::Random;
 use reference::refusal::{number_and_place, refuse_at, Verdict};
 use reference::timing::{end_state, sound};
-use reference::well_formed::well_formed;
+use reference::well_formed::well_formed_up_to;
 
 /// Everything that happens, from tick 0 to one past the last.
 struct Course {
@@ -23,7 +23,8 @@ fn last_tick(job: &Job, starts: &[i64]) -> i64 {
     let ends = job.steps.iter().zip(starts);
     let last_end = ends.map(|(step, start)| start + step.length).max();
     let last_deadline = job.goals.iter().filter_map(|goal| goal.deadline).max();
-    last_end.max(last_deadline).unwrap_or(0)
+    let last_timed = job.timed.iter().map(|timed| timed.tick).max();
+    last_end.max(last_deadline).max(last_timed).unwrap_or(0)
 }
 
 fn course(job: &Job, starts: &[i64]) -> Course {
@@ -38,6 +39,9 @@ fn course(job: &Job, starts: &[i64]) -> Course {
         course.before.push(amounts.clone());
         for effect in job.effects.iter().filter(|e| e.tick(starts) == tick) {
             values[effect.fact] = effect.value;
+        }
+        for timed in job.timed.iter().filter(|timed| timed.tick == tick) {
+            values[timed.fact] = timed.value;
         }
         for used in job.uses.iter().filter(|u| u.tick(starts) == tick) {
             amounts[used.level] += used.amount;
@@ -60,11 +64,12 @@ fn sound_tick_by_tick(job: &Job, starts: &[i64]) -> Verdict {
         let condition = &job.conditions[*number];
         (condition.first_tick(starts)..=condition.last_tick(starts)).any(|tick| {
             let seen = course.seen[tick as usize][condition.fact];
-            let opposing = job.effects.iter().filter(|e| e.tick(starts) == tick);
+            let mut effects = job.effects.iter().filter(|e| e.tick(starts) == tick);
             seen != condition.wanted
-                || opposing.into_iter().any(|e| {
+                || effects.any(|e| {
                     e.step != condition.step && e.opposes(condition.fact, condition.wanted)
                 })
+                || set_by_the_clock(job, tick, condition.fact, 1 - condition.wanted)
         })
     };
     refuse_at(11, (0..job.conditions.len()).find(failing))?;
@@ -85,6 +90,11 @@ fn sound_tick_by_tick(job: &Job, starts: &[i64]) -> Verdict {
     )
 }
 
+fn set_by_the_clock(job: &Job, tick: i64, fact: usize, value: u16) -> bool {
+    let mut timed = job.timed.iter().filter(|timed| timed.tick == tick);
+    timed.any(|timed| timed.fact == fact && timed.value == value)
+}
+
 fn meeting_at(job: &Job, starts: &[i64], tick: usize) -> Option<usize> {
     let here: Vec<usize> = (0..job.effects.len())
         .filter(|&number| job.effects[number].tick(starts) == tick as i64)
@@ -94,7 +104,7 @@ fn meeting_at(job: &Job, starts: &[i64], tick: usize) -> Option<usize> {
         let others = here.iter().map(|&other| &job.effects[other]);
         others.into_iter().any(|other| {
             other.step != effect.step && other.fact == effect.fact && other.value != effect.value
-        })
+        }) || set_by_the_clock(job, tick as i64, effect.fact, 1 - effect.value)
     };
     here.iter().copied().find(|number| opposed(number))
 }
@@ -120,16 +130,25 @@ fn overlapped(job: &Job, starts: &[i64], step: usize) -> bool {
 
 #[test]
 fn agrees_with_looking_where_something_happens() {
+    agrees_on_jobs_of(1);
+}
+
+#[test]
+fn agrees_with_looking_where_something_happens_in_edition_2() {
+    agrees_on_jobs_of(2);
+}
+
+fn agrees_on_jobs_of(edition: u16) {
     let mut random = Random::seeded(20);
     let mut counts: BTreeMap<u16, usize> = BTreeMap::new();
     for round in 0..20_000 {
         let job = match round % 2 {
-            0 => small_sound_job(&mut random),
-            _ => scribbled_job(&mut random),
+            0 => small_sound_job(&mut random, edition),
+            _ => scribbled_job(&mut random, edition),
         };
         let starts = some_starts(&mut random, &job);
         let starts: Vec<i64> = starts.into_iter().map(i64::from).collect();
-        let well_formed = well_formed(&job.to_file()).is_ok();
+        let well_formed = well_formed_up_to(edition, &job.to_file()).is_ok();
         if !well_formed || starts.len() != job.steps.len() || last_tick(&job, &starts) > 500 {
             continue;
         }

@@ -3,34 +3,45 @@
 use std::collections::BTreeSet;
 
 use reference::job::Job;
-use reference::loosen::{loosen, order_file_of};
-use reference::made::made_case;
-use reference::make::bench_jobs::{bench_job, SPREADS};
+use reference::loosen::{loosen_up_to, order_file_up_to};
+use reference::made::made_case_of;
+use reference::make::bench_jobs::{bench_job, timed_bench_job, SPREADS, TIMED_SPREADS};
+use reference::make::damage;
 use reference::make::edges::edges;
-use reference::make::highest::{chain_of_all_steps, every_pair_ordered_both_ways, highest_job};
+use reference::make::highest::{
+    chain_of_all_steps, every_pair_ordered_both_ways, highest_job, highest_timed_job,
+};
+use reference::make::near_miss::{near_miss, nearly_missed};
 use reference::make::own_conflicts::own_conflicts;
 use reference::make::sound::{sound_job, Shape};
 use reference::make::telling::telling_jobs;
-use reference::make::{damage, near_miss::near_miss};
+use reference::make::timed_edges::timed_edges;
+use reference::make::timed_telling::timed_telling_jobs;
 use reference::random::Random;
 use reference::refusal::number_and_place;
-use reference::timing::check_job;
+use reference::timing::check_job_up_to;
 use reference::tuned;
 
 /// Both answers to one job, in buffers of the file's length, one byte less, and some more. Gives
-/// the number of the job check.
-fn compare(job: &[u8]) -> u16 {
-    let checked = number_and_place(&check_job(job));
-    assert_eq!(tuned::check(job), checked);
-    let length = order_file_of(job).map_or(20, |file| file.to_file().len());
+/// the number of the job check where editions up to the latest are taken.
+fn compare_up_to(latest: u16, job: &[u8]) -> u16 {
+    let checked = number_and_place(&check_job_up_to(latest, job));
+    assert_eq!(tuned::check_up_to(latest, job), checked);
+    let length = order_file_up_to(latest, job).map_or(20, |file| file.to_file().len());
     for length in [0, length - 1, length, length + 9] {
         let (mut expected, mut buffer) = (vec![165; length], vec![165; length]);
-        let answer = loosen(job, &mut expected);
-        let tuned = tuned::partialize(job, &mut buffer);
+        let answer = loosen_up_to(latest, job, &mut expected);
+        let tuned = tuned::partialize_up_to(latest, job, &mut buffer);
         assert_eq!(tuned, (answer.number, answer.place, answer.length));
         assert_eq!(buffer, expected);
     }
     checked.0
+}
+
+/// Gives the number where edition 2 is taken.
+fn compare(job: &[u8]) -> u16 {
+    compare_up_to(1, job);
+    compare_up_to(2, job)
 }
 
 fn compare_all<'a>(jobs: impl IntoIterator<Item = &'a Job>) {
@@ -42,52 +53,63 @@ fn compare_all<'a>(jobs: impl IntoIterator<Item = &'a Job>) {
 #[test]
 fn on_jobs_that_tell_and_jobs_at_the_edges() {
     compare_all(telling_jobs().iter().map(|(_, job)| job));
+    compare_all(timed_telling_jobs().iter().map(|(_, job)| job));
     compare_all(&edges());
+    compare_all(&timed_edges());
     compare_all(&own_conflicts());
 }
 
 #[test]
 fn on_damaged_jobs() {
-    let file = damage::full_job().to_file();
-    for file in [
-        damage::too_short(&file),
-        damage::layouts(&file),
-        damage::each_byte(&file),
-        damage::pairs_of_refusals(),
-    ]
-    .concat()
-    {
-        compare(&file);
+    for edition in [1, 2] {
+        let job = damage::full_job_of(edition);
+        let file = job.to_file();
+        for file in [
+            damage::too_short(&file),
+            damage::layouts(&file),
+            damage::each_byte(&file),
+            damage::pairs_of_refusals(edition),
+        ]
+        .concat()
+        {
+            compare(&file);
+        }
+        compare_all(&damage::ranges(&job));
+        compare_all(&damage::two_broken_records(edition));
+        compare_all(&damage::counts_at_highest(edition));
+        compare_all(&damage::counts_one_above(edition));
     }
-    compare_all(&damage::ranges(&damage::full_job()));
-    compare_all(&damage::two_broken_records());
-    compare_all(&damage::counts_at_highest());
-    compare_all(&damage::counts_one_above());
 }
 
 #[test]
 fn on_made_jobs_with_every_refusal() {
-    let mut random = Random::seeded(7);
-    let mut numbers = BTreeSet::new();
-    for _ in 0..1_500 {
-        for command in ['w', 'c', 'l'] {
-            let case = made_case(&mut random, command);
-            numbers.insert(compare(&case.fields[0]));
+    for edition in [1, 2] {
+        let mut random = Random::seeded(7);
+        let mut numbers = BTreeSet::new();
+        for _ in 0..1_500 {
+            for command in ['w', 'c', 'l'] {
+                let case = made_case_of(edition, &mut random, command);
+                numbers.insert(compare_up_to(edition, &case.fields[0]));
+            }
         }
+        let missed = nearly_missed(edition);
+        for &number in &missed {
+            let job = near_miss(&mut random, edition, number);
+            numbers.insert(compare_up_to(edition, &job.to_file()));
+        }
+        let of_the_job_check = (0..=7).chain(missed);
+        assert_eq!(numbers, of_the_job_check.collect());
     }
-    for number in 10..=14 {
-        numbers.insert(compare(&near_miss(&mut random, number).to_file()));
-    }
-    let of_the_job_check = (0..=7).chain(10..=14);
-    assert_eq!(numbers, of_the_job_check.collect());
 }
 
-/// Enough points on a fact and a level for rows instead of pairs.
+/// Enough points on a fact and a level for rows instead of pairs, half of them with timed facts.
 #[test]
 fn on_jobs_crowded_into_few_ticks() {
     let mut random = Random::seeded(11);
-    for number in 0..60 {
+    for number in 0..120 {
         let shape = Shape {
+            edition: 2,
+            timed: random.pick(&[0, 64]),
             serial: false,
             facts: 1 + number % 2,
             levels: 1,
@@ -112,6 +134,7 @@ fn on_jobs_crowded_into_few_ticks() {
 fn on_jobs_as_large_as_jobs_can_be() {
     compare_all(&[every_pair_ordered_both_ways(), chain_of_all_steps()]);
     compare_all(&[1, 8, 256].map(|facts| highest_job(3, facts)));
+    compare_all(&[1, 8, 256].map(|facts| highest_timed_job(3, facts)));
 }
 
 #[test]
@@ -120,9 +143,18 @@ fn bench_jobs_are_sound_and_full() {
         for steps in [8, 16, 32, 64] {
             let job = bench_job(spread, steps);
             assert_eq!(compare(&job.to_file()), 0, "{}", spread.name());
-            let [_, _, held, conditions, effects, uses, goals] = job.counts();
+            let [_, _, held, conditions, effects, uses, goals, _] = job.counts();
             let full = [steps, 8 * steps, 8 * steps, 4 * steps, steps / 2];
             assert_eq!([held, conditions, effects, uses, goals], full);
         }
+    }
+}
+
+#[test]
+fn timed_bench_jobs_are_sound_and_full() {
+    for spread in TIMED_SPREADS {
+        let job = timed_bench_job(spread);
+        assert_eq!(compare(&job.to_file()), 0, "{}", spread.name());
+        assert_eq!(job.counts()[2..], [64, 512, 512, 256, 32, 64]);
     }
 }

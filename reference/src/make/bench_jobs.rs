@@ -51,8 +51,23 @@ impl Spread {
 
 /// A job with this many steps, 4 to 64, and the other tables as full as those of 64 steps are.
 pub fn bench_job(spread: Spread, steps: usize) -> Job {
+    sound_job(&mut Random::seeded(steps as u64), &shape(spread, steps))
+}
+
+/// The jobs of edition 2: as large as jobs can be, with 64 timed facts spread over the facts, or all
+/// on one fact.
+pub const TIMED_SPREADS: [Spread; 2] = [Spread::ManyFacts, Spread::OneFact];
+
+pub fn timed_bench_job(spread: Spread) -> Job {
+    let steps = HIGHEST[2];
+    let shape = shape(spread, steps).with_most_timed_facts();
+    sound_job(&mut Random::seeded(steps as u64), &shape)
+}
+
+fn shape(spread: Spread, steps: usize) -> Shape {
     let share = |table: usize| steps * HIGHEST[table] / HIGHEST[2];
-    let shape = Shape {
+    Shape {
+        edition: 1,
         serial: spread == Spread::Serial,
         facts: spread.facts(steps),
         levels: spread.levels(steps),
@@ -61,9 +76,9 @@ pub fn bench_job(spread: Spread, steps: usize) -> Job {
         effects: share(4),
         uses: share(5),
         goals: share(6),
+        timed: 0,
         last_start: 900_000,
         longest: 10_000,
         fixed_percent: 5,
-    };
-    sound_job(&mut Random::seeded(steps as u64), &shape)
+    }
 }

@@ -1,10 +1,12 @@
-//! Job files damaged at each byte and at each limit, for refusals 1 to 6.
+//! Job files damaged at each byte and at each limit, for refusals 1 to 6. A damaged file is of the
+//! edition of the whole one, but for what damages the edition.
 
 use crate::bytes::{u16_at, u32_at};
 use crate::job::{
-    counts_in, layout, Condition, Effect, Goal, Job, Step, Use, COUNTS_AT, EDITION_AT, HEADER,
-    HIGHEST, OFFSETS_AT, SERIAL_AT, TABLES, ZERO_AT,
+    header_length, tables_of, Condition, Effect, Goal, Job, Step, TimedFact, Use, COUNTS_AT,
+    EDITION_AT, HIGHEST, OFFSETS_AT, SERIAL_AT, SHORTEST_HEADER, TENTH_AT,
 };
+use crate::job_file::{counts_in, edition_in, layout};
 use crate::random::Random;
 
 /// A job with at least two records in each table, for damage to have something to hit.
@@ -27,6 +29,18 @@ pub fn full_job() -> Job {
         .goal(0, 0)
 }
 
+/// The same in an edition, from edition 2 on with timed facts.
+pub fn full_job_of(edition: u16) -> Job {
+    match edition {
+        1 => full_job(),
+        _ => full_job()
+            .timed(2, 40, 0)
+            .timed(1, 50, 1)
+            .timed(0, 8, 1)
+            .edition(edition),
+    }
+}
+
 fn patched(file: &[u8], at: usize, bytes: &[u8]) -> Vec<u8> {
     let mut file = file.to_vec();
     file[at..at + bytes.len()].copy_from_slice(bytes);
@@ -43,37 +57,49 @@ fn patched_u16(file: &[u8], at: usize, numbers: &[u16]) -> Vec<Vec<u8>> {
 
 /// Refusal 1: cut anywhere in the header, and what is left of nothing.
 pub fn too_short(file: &[u8]) -> Vec<Vec<u8>> {
-    let mut files: Vec<Vec<u8>> = (0..HEADER).map(|length| file[..length].to_vec()).collect();
-    files.push(vec![255; HEADER - 1]);
-    files.push(vec![0; HEADER]);
+    let header = header_length(edition_in(file));
+    let mut files: Vec<Vec<u8>> = (0..header).map(|length| file[..length].to_vec()).collect();
+    files.push(vec![255; SHORTEST_HEADER - 1]);
+    files.push(vec![0; header]);
     files
 }
 
-/// Refusal 2.
+/// Refusal 2, where no later edition than the file's is taken.
 pub fn wrong_editions(file: &[u8]) -> Vec<Vec<u8>> {
-    patched_u16(file, EDITION_AT, &[0, 2, 256, 257, 65_535])
+    let edition = edition_in(file);
+    patched_u16(
+        file,
+        EDITION_AT,
+        &[0, edition + 1, 256, 256 + edition, 65_535],
+    )
 }
 
-/// Refusal 3: the serial mark and the tenth number. A mark of 0 or 1 is good.
+/// Files that say to be of an earlier edition than they are: what they hold disagrees.
+pub fn earlier_editions(file: &[u8]) -> Vec<Vec<u8>> {
+    let earlier: Vec<u16> = (1..edition_in(file)).collect();
+    patched_u16(file, EDITION_AT, &earlier)
+}
+
+/// Refusal 3: the serial mark and, in edition 1, the tenth number. A mark of 0 or 1 is good.
 pub fn wrong_marks(file: &[u8]) -> Vec<Vec<u8>> {
-    [
-        patched_u16(file, SERIAL_AT, &[0, 1, 2, 256, 257, 65_535]),
-        patched_u16(file, ZERO_AT, &[1, 256, 65_535]),
-    ]
-    .concat()
+    let mut files = patched_u16(file, SERIAL_AT, &[0, 1, 2, 256, 257, 65_535]);
+    if edition_in(file) == 1 {
+        files.extend(patched_u16(file, TENTH_AT, &[1, 256, 65_535]));
+    }
+    files
 }
 
 /// Each table at its highest count, all others as small as that allows. All are well formed.
-pub fn counts_at_highest() -> Vec<Job> {
-    (0..TABLES)
-        .map(|table| filled(table, HIGHEST[table]))
+pub fn counts_at_highest(edition: u16) -> Vec<Job> {
+    (0..tables_of(edition))
+        .map(|table| filled(table, HIGHEST[table]).edition(edition))
         .collect()
 }
 
 /// Refusal 4: one record above the highest count, the tables in agreement.
-pub fn counts_one_above() -> Vec<Job> {
-    (0..TABLES)
-        .map(|table| filled(table, HIGHEST[table] + 1))
+pub fn counts_one_above(edition: u16) -> Vec<Job> {
+    (0..tables_of(edition))
+        .map(|table| filled(table, HIGHEST[table] + 1).edition(edition))
         .collect()
 }
 
@@ -87,7 +113,8 @@ fn filled(table: usize, count: usize) -> Job {
         3 => job = repeated(job, count, |job, at| job.condition(0, 0, at, at, 0)),
         4 => job = repeated(job, count, |job, at| job.effect(0, 0, at, 1)),
         5 => job = repeated(job, count, |job, at| job.uses(0, 0, at, 1)),
-        _ => job = repeated(job, count, |job, at| job.goal_by(0, 0, at)),
+        6 => job = repeated(job, count, |job, at| job.goal_by(0, 0, at)),
+        _ => job = repeated(job, count, |job, tick| job.timed(0, tick, 1)),
     }
     job
 }
@@ -99,7 +126,8 @@ fn repeated(job: Job, count: usize, add: impl Fn(Job, i64) -> Job) -> Job {
 /// Refusals 4 and 5: a count that the tables do not bear out.
 pub fn wrong_counts(file: &[u8]) -> Vec<Vec<u8>> {
     let mut files = Vec::new();
-    for (&at, &highest) in COUNTS_AT.iter().zip(&HIGHEST) {
+    let tables = tables_of(edition_in(file));
+    for (&at, &highest) in COUNTS_AT.iter().zip(&HIGHEST).take(tables) {
         let count = u16_at(file, at);
         let highest = highest as u16;
         let numbers = [
@@ -118,8 +146,9 @@ pub fn wrong_counts(file: &[u8]) -> Vec<Vec<u8>> {
 
 /// Refusal 5: offsets off by a little, by a lot, and swapped.
 pub fn wrong_offsets(file: &[u8]) -> Vec<Vec<u8>> {
+    let tables = tables_of(edition_in(file));
     let mut files = Vec::new();
-    for table in 0..TABLES {
+    for table in 0..tables {
         let at = OFFSETS_AT + 4 * table;
         let offset = u32_at(file, at);
         let wrong = [
@@ -132,7 +161,7 @@ pub fn wrong_offsets(file: &[u8]) -> Vec<Vec<u8>> {
         ];
         files.extend(wrong.map(|number| patched(file, at, &number.to_le_bytes())));
     }
-    for table in 1..TABLES {
+    for table in 1..tables {
         let at = OFFSETS_AT + 4 * table;
         let mut swapped = file.to_vec();
         swapped.copy_within(at..at + 4, at - 4);
@@ -144,11 +173,12 @@ pub fn wrong_offsets(file: &[u8]) -> Vec<Vec<u8>> {
 
 /// Refusal 5: the file a byte shorter or longer, or cut at the header's end.
 pub fn wrong_lengths(file: &[u8]) -> Vec<Vec<u8>> {
+    let header = header_length(edition_in(file));
     let longer = |more: usize| [file, &vec![0; more]].concat();
     vec![
         file[..file.len() - 1].to_vec(),
-        file[..HEADER.max(file.len() - 8)].to_vec(),
-        file[..HEADER].to_vec(),
+        file[..header.max(file.len() - 8)].to_vec(),
+        file[..header].to_vec(),
         longer(1),
         longer(8),
         longer(256),
@@ -169,6 +199,7 @@ pub fn swapped_header_numbers(file: &[u8]) -> Vec<Vec<u8>> {
 pub fn layouts(file: &[u8]) -> Vec<Vec<u8>> {
     [
         wrong_editions(file),
+        earlier_editions(file),
         wrong_marks(file),
         wrong_counts(file),
         wrong_offsets(file),
@@ -191,6 +222,7 @@ pub fn ranges(job: &Job) -> Vec<Job> {
         effects(job),
         uses(job),
         goals(job),
+        timed_facts(job),
     ]
     .concat()
 }
@@ -399,16 +431,40 @@ fn goals(job: &Job) -> Vec<Job> {
     jobs
 }
 
+/// None in edition 1, which has no table for them.
+fn timed_facts(job: &Job) -> Vec<Job> {
+    if job.edition == 1 {
+        return vec![];
+    }
+    let plain = TimedFact {
+        fact: 0,
+        tick: 900,
+        value: 1,
+    };
+    let set = |timed: TimedFact| {
+        let mut job = job.clone();
+        job.timed.push(timed);
+        job
+    };
+    let ticks = [0, 1_100_000, 1_100_001, 1 << 31, i64::from(u32::MAX)];
+    let mut jobs = Vec::new();
+    jobs.extend(ticks.map(|tick| set(TimedFact { tick, ..plain })));
+    jobs.extend(names(job.facts.len()).map(|fact| set(TimedFact { fact, ..plain })));
+    jobs.extend([0, 1, 2, 256, 65_535].map(|value| set(TimedFact { value, ..plain })));
+    jobs
+}
+
 /// Two broken records, of one table or of two. The earlier a table, the later its broken record, so
 /// that the place tells which of two tables was looked at first.
-pub fn two_broken_records() -> Vec<Job> {
-    let spots: Vec<(usize, usize)> = (0..TABLES)
-        .flat_map(|table| [(table, TABLES - table), (table, TABLES - table + 1)])
+pub fn two_broken_records(edition: u16) -> Vec<Job> {
+    let tables = tables_of(edition);
+    let spots: Vec<(usize, usize)> = (0..tables)
+        .flat_map(|table| [(table, tables - table), (table, tables - table + 1)])
         .collect();
     let mut jobs = Vec::new();
     for (number, &one) in spots.iter().enumerate() {
         for &other in &spots[..number] {
-            let mut job = nine_of_each();
+            let mut job = several_of_each(edition, tables + 2);
             broken_at(&mut job, one);
             broken_at(&mut job, other);
             jobs.push(job);
@@ -417,15 +473,18 @@ pub fn two_broken_records() -> Vec<Job> {
     jobs
 }
 
-fn nine_of_each() -> Job {
-    let mut job = Job::with_facts(&[0; 9]);
-    for number in 0..9 {
+fn several_of_each(edition: u16, several: usize) -> Job {
+    let mut job = Job::with_facts(&vec![0; several]).edition(edition);
+    for number in 0..several {
         job = job.level(0, -9, 9).step(0, 9);
         let at = number as i64;
         job = job
             .condition(0, number, 0, 9, 0)
             .effect(number, number, at, 0);
         job = job.uses(0, number, 0, 1).goal(number, 0);
+        if edition > 1 {
+            job = job.timed(number, at, 0);
+        }
     }
     job
 }
@@ -438,57 +497,98 @@ fn broken_at(job: &mut Job, (table, number): (usize, usize)) {
         3 => job.conditions[number].wanted = 2,
         4 => job.effects[number].value = 2,
         5 => job.uses[number].amount = 0,
-        _ => job.goals[number].value = 2,
+        6 => job.goals[number].value = 2,
+        _ => job.timed[number].value = 2,
     }
 }
 
 // ---------------------------------------------------------------------------------------------
 // The checking order
 
-/// Every two of the refusals 1 to 7 and 11 at once: the lower number decides.
-pub fn pairs_of_refusals() -> Vec<Vec<u8>> {
-    let file = full_job().effect(1, 0, 6, 0).to_file();
-    let (offsets, end) = layout(counts_in(&file));
-    let last_value_of = |table: usize| offsets[table + 1] - 2;
-    let faults: [(usize, u8); 9] = [
-        (EDITION_AT, 2),
-        (SERIAL_AT, 2),
-        (ZERO_AT, 1),
-        (COUNTS_AT[0] + 1, 2),
-        (COUNTS_AT[6], 33),
-        (OFFSETS_AT, 49),
-        (offsets[0], 2),
-        (last_value_of(4), 1),
-        (last_value_of(3), 0),
-    ];
+/// Every two of the refusals 1 to 7, 17 and 11 at once: the one checked first decides.
+pub fn pairs_of_refusals(edition: u16) -> Vec<Vec<u8>> {
+    let file = one_byte_from_each_refusal(edition).to_file();
     let mut files = Vec::new();
-    for (number, &(at, byte)) in faults.iter().enumerate() {
+    let faults = faults_in_checking_order(&file);
+    for (number, &(_, at, byte)) in faults.iter().enumerate() {
         let one = patched(&file, at, &[byte]);
-        for &(at, byte) in &faults[..number] {
+        for &(_, at, byte) in &faults[..number] {
             files.push(patched(&one, at, &[byte]));
         }
-        files.push(one[..HEADER - 1].to_vec());
-        files.push(one[..end - 1].to_vec());
+        files.push(one[..SHORTEST_HEADER - 1].to_vec());
+        files.push(one[..file.len() - 1].to_vec());
         files.push(one);
     }
     files
 }
 
-/// A file for each of the refusals 1 to 7, in their order.
-pub fn one_of_each() -> Vec<Vec<u8>> {
-    let full = full_job();
+/// The numbers of those faults.
+pub fn numbers_in_checking_order(edition: u16) -> Vec<u16> {
+    let file = one_byte_from_each_refusal(edition).to_file();
+    let faults = faults_in_checking_order(&file);
+    faults.iter().map(|&(number, _, _)| number).collect()
+}
+
+/// Its last two effects are equal, and in edition 2 its first and its last timed fact.
+fn one_byte_from_each_refusal(edition: u16) -> Job {
+    let job = full_job_of(edition).effect(1, 0, 6, 0);
+    match edition {
+        1 => job,
+        _ => job.timed(2, 40, 0).edition(edition),
+    }
+}
+
+/// The refusal, the byte, and what it becomes.
+fn faults_in_checking_order(file: &[u8]) -> Vec<(u16, usize, u8)> {
+    let edition = edition_in(file);
+    let (offsets, end) = layout(edition, counts_in(file));
+    let first_offset = offsets[0] as u8;
+    let last_value_of = |table: usize| offsets[table + 1] - 2;
+    let mut faults = vec![
+        (2, EDITION_AT, edition as u8 + 1),
+        (3, SERIAL_AT, 2),
+        (4, COUNTS_AT[0] + 1, 2),
+        (4, COUNTS_AT[6], 33),
+        (5, OFFSETS_AT, first_offset + 1),
+        (6, offsets[0], 2),
+        (7, last_value_of(4), 1),
+        (11, last_value_of(3), 0),
+    ];
+    if edition == 1 {
+        faults.insert(2, (3, TENTH_AT, 1));
+    } else {
+        let eighth_offset = OFFSETS_AT + 4 * 7;
+        faults.insert(7, (17, end - 2, 1));
+        faults.insert(6, (6, offsets[7], 3));
+        faults.insert(5, (5, eighth_offset, 0));
+        faults.insert(4, (4, TENTH_AT, 65));
+    }
+    faults
+}
+
+/// A file for each of the refusals 1 to 7, in their order, and from edition 2 on for 17.
+pub fn one_of_each(edition: u16) -> Vec<Vec<u8>> {
+    let full = full_job_of(edition);
     let file = full.to_file();
+    let header = header_length(edition);
     let mut broken = full.clone();
     broken.steps[1].fixed = 2;
-    vec![
-        file[..HEADER - 1].to_vec(),
-        patched(&file, EDITION_AT, &[2]),
-        patched(&file, ZERO_AT, &[1]),
-        filled(6, HIGHEST[6] + 1).to_file(),
-        patched(&file, OFFSETS_AT, &[49]),
+    let mut files = vec![
+        file[..header - 1].to_vec(),
+        patched(&file, EDITION_AT, &[edition as u8 + 1]),
+        match edition {
+            1 => patched(&file, TENTH_AT, &[1]),
+            _ => patched(&file, SERIAL_AT, &[2]),
+        },
+        counts_one_above(edition).pop().expect("a table").to_file(),
+        patched(&file, OFFSETS_AT, &[header as u8 + 1]),
         broken.to_file(),
-        full.effect(1, 0, 6, 1).to_file(),
-    ]
+        full.clone().effect(1, 0, 6, 1).to_file(),
+    ];
+    if edition > 1 {
+        files.push(full.timed(1, 50, 0).edition(edition).to_file());
+    }
+    files
 }
 
 // ---------------------------------------------------------------------------------------------
@@ -505,10 +605,10 @@ pub fn each_byte(file: &[u8]) -> Vec<Vec<u8>> {
     files
 }
 
-/// One byte anywhere, the header as likely as the tables.
-pub fn some_byte(random: &mut Random, file: &[u8]) -> Vec<u8> {
+/// One byte anywhere, the header of this edition as likely as the tables.
+pub fn some_byte(random: &mut Random, edition: u16, file: &[u8]) -> Vec<u8> {
     let end = if random.chance(50) {
-        file.len().min(HEADER)
+        file.len().min(header_length(edition))
     } else {
         file.len()
     };
@@ -535,11 +635,11 @@ pub fn two_faults(random: &mut Random, file: &[u8]) -> Vec<u8> {
 }
 
 /// Bytes that never were a job, with a good beginning now and then.
-pub fn garbage(random: &mut Random) -> Vec<u8> {
+pub fn garbage(random: &mut Random, edition: u16) -> Vec<u8> {
     let length = random.below(120);
     let mut file: Vec<u8> = (0..length).map(|_| random.draw() as u8).collect();
-    let good = random.below(HEADER + 1).min(length);
-    let header = Job::default().to_file();
+    let good = random.below(header_length(edition) + 1).min(length);
+    let header = Job::default().edition(edition).to_file();
     file[..good].copy_from_slice(&header[..good]);
     file
 }

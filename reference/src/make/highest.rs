@@ -11,6 +11,13 @@ pub fn highest_job(seed: u64, facts: usize) -> Job {
     sound_job(&mut random, &shape)
 }
 
+/// The same with 64 timed facts.
+pub fn highest_timed_job(seed: u64, facts: usize) -> Job {
+    let mut random = Random::seeded(seed);
+    let shape = Shape::highest(&mut random, facts).with_most_timed_facts();
+    sound_job(&mut random, &shape)
+}
+
 /// 64 steps that all overlap, each taking at its start and giving back at its end: 4,032 orders.
 pub fn every_pair_ordered_both_ways() -> Job {
     let steps = HIGHEST[2];

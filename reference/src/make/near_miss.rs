@@ -1,21 +1,36 @@
-//! Jobs that would be sound but for one nudge, for each of the refusals 10 to 14.
+//! Jobs that would be sound but for one nudge, for each of the refusals 10 to 14 and 17.
 
 use crate::job::Job;
 use crate::make::sound::{sound_job, Shape};
+use crate::make::timed_nudges::nudge_a_timed_fact;
 use crate::random::Random;
-use crate::timing::check_job;
+use crate::timing::check_job_up_to;
+
+/// The refusals that a job of an edition can nearly miss.
+pub fn nearly_missed(edition: u16) -> Vec<u16> {
+    let mut numbers: Vec<u16> = (10..=14).collect();
+    if edition > 1 {
+        numbers.push(17);
+    }
+    numbers
+}
 
 /// A job that the job check refuses with this number, one nudge away from a sound one.
-pub fn near_miss(random: &mut Random, number: u16) -> Job {
+pub fn near_miss(random: &mut Random, edition: u16, number: u16) -> Job {
     loop {
         let shape = Shape {
             steps: 2 + random.below(5),
             serial: number == 14 || random.chance(20),
             ..Shape::small(random)
         };
+        let shape = shape.in_edition(random, edition);
         let mut job = sound_job(random, &shape);
-        nudge(random, &mut job, number);
-        let refused = check_job(&job.to_file()).err();
+        if number == 17 || (edition > 1 && random.chance(50)) {
+            nudge_a_timed_fact(random, &mut job, number);
+        } else {
+            nudge(random, &mut job, number);
+        }
+        let refused = check_job_up_to(edition, &job.to_file()).err();
         if refused.is_some_and(|refusal| refusal.number == number) {
             return job;
         }

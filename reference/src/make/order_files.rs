@@ -1,7 +1,7 @@
 //! Order files: good ones at every limit, and files broken in every way that refusal 16 names.
 
 use crate::make::sound::small_sound_job;
-use crate::order_file::{Link, Order, OrderFile, Window, MOST_LINKS, MOST_STEPS};
+use crate::order_file::{highest_link, Link, Order, OrderFile, Window, MOST_LINKS, MOST_STEPS};
 use crate::orders::orders_of;
 use crate::random::Random;
 
@@ -43,8 +43,9 @@ pub fn plain_file() -> OrderFile {
     }
 }
 
-/// A file of the reader's own kind: it need not come from any job.
-pub fn some_file(random: &mut Random) -> OrderFile {
+/// A file of the reader's own kind: it need not come from any job. Its links are those of jobs up to
+/// this edition.
+pub fn some_file(random: &mut Random, edition: u16) -> OrderFile {
     let steps = random.below(6);
     let mut orders = Vec::new();
     for first in 0..steps {
@@ -60,7 +61,9 @@ pub fn some_file(random: &mut Random) -> OrderFile {
         rounds: random.below(steps + 1),
         windows: (0..steps).map(|_| some_window(random)).collect(),
         orders,
-        links: (0..random.below(6)).map(|_| some_link(random)).collect(),
+        links: (0..random.below(6))
+            .map(|_| some_link(random, edition))
+            .collect(),
     }
 }
 
@@ -75,17 +78,18 @@ fn some_window(random: &mut Random) -> Window {
     }
 }
 
-fn some_link(random: &mut Random) -> Link {
+fn some_link(random: &mut Random, edition: u16) -> Link {
     match random.below(3) {
         0 => Link::InitialState,
-        1 => Link::Effect(random.below(4)),
-        _ => Link::Effect(random.below(512)),
+        1 if edition == 1 || random.chance(50) => Link::Effect(random.below(4)),
+        1 => Link::Timed(random.below(64)),
+        _ => Link::of_number(random.below(usize::from(highest_link(edition)) + 1) as u16),
     }
 }
 
 /// A file as loosening writes it.
-pub fn written_file(random: &mut Random) -> OrderFile {
-    orders_of(&small_sound_job(random))
+pub fn written_file(random: &mut Random, edition: u16) -> OrderFile {
+    orders_of(&small_sound_job(random, edition))
 }
 
 /// 64 steps, 4,032 orders and 544 links.
@@ -112,6 +116,23 @@ pub fn highest_file() -> OrderFile {
         })
         .collect();
     file
+}
+
+/// Files with links to timed facts, which are read once jobs of edition 2 are taken.
+pub fn files_with_timed_links() -> Vec<OrderFile> {
+    let mut files = [0, 1, 63]
+        .map(|number| changed(|file| file.links[1] = Link::Timed(number)))
+        .to_vec();
+    files.push(changed(|file| file.links[0] = Link::Timed(63)));
+    files.push(OrderFile {
+        links: vec![Link::Timed(9), Link::InitialState, Link::Effect(511)],
+        ..OrderFile::default()
+    });
+    files.push(OrderFile {
+        links: vec![Link::Timed(63); MOST_LINKS],
+        ..OrderFile::default()
+    });
+    files
 }
 
 /// Files at each limit that refusal 16 draws, all good.
@@ -168,7 +189,8 @@ fn with_last_window((limit, latest, earliest): (i64, Option<i64>, i64)) -> Order
 // ---------------------------------------------------------------------------------------------
 // Files that refusal 16 names, each clause alone
 
-pub fn broken_files() -> Vec<(&'static str, Vec<u8>)> {
+/// Where jobs up to this edition are taken.
+pub fn broken_files(latest: u16) -> Vec<(&'static str, Vec<u8>)> {
     let mut files = Vec::new();
     let mut add = |clause, broken: Vec<Vec<u8>>| {
         files.extend(broken.into_iter().map(|file| (clause, file)));
@@ -184,7 +206,7 @@ pub fn broken_files() -> Vec<(&'static str, Vec<u8>)> {
     add("gap out of range", to_files(gaps_out_of_range()));
     add("out of sequence", to_files(orders_out_of_sequence()));
     add("pair of another", to_files(pairs_of_another()));
-    add("link out of range", to_files(links_out_of_range()));
+    add("link out of range", to_files(links_out_of_range(latest)));
     add("rounds above the steps", rounds_above_the_steps());
     add("earliest under its limit", to_files(earliest_under_limit()));
     add("earliest over its latest", to_files(earliest_over_latest()));
@@ -365,12 +387,14 @@ fn pairs_of_another() -> Vec<OrderFile> {
     ]
 }
 
-fn links_out_of_range() -> Vec<OrderFile> {
-    let numbers = [512, 513, 32_768, 65_534];
+pub fn links_out_of_range(latest: u16) -> Vec<OrderFile> {
+    let highest = highest_link(latest);
+    let numbers = [highest + 1, highest + 2, 32_768, 65_534];
     let mut files = numbers
-        .map(|number| changed(|file| file.links[3] = Link::Effect(number)))
+        .map(|number| changed(|file| file.links[3] = Link::of_number(number)))
         .to_vec();
-    files.push(changed(|file| file.links[0] = Link::Effect(512)));
+    let next = Link::of_number(highest + 1);
+    files.push(changed(|file| file.links[0] = next));
     files
 }
 
@@ -418,8 +442,8 @@ fn window_of(limit: i64, latest: Option<i64>, earliest: i64) -> Window {
 // Anywhere
 
 /// One byte of a good file changed, or its end cut or grown.
-pub fn damaged_file(random: &mut Random) -> Vec<u8> {
-    let mut file = some_good_file(random).to_file();
+pub fn damaged_file(random: &mut Random, edition: u16) -> Vec<u8> {
+    let mut file = some_good_file(random, edition).to_file();
     match random.below(8) {
         0 => file.push(0),
         1 => file.truncate(random.below(file.len())),
@@ -432,10 +456,10 @@ pub fn damaged_file(random: &mut Random) -> Vec<u8> {
     file
 }
 
-pub fn some_good_file(random: &mut Random) -> OrderFile {
+pub fn some_good_file(random: &mut Random, edition: u16) -> OrderFile {
     match random.below(2) {
-        0 => written_file(random),
-        _ => some_file(random),
+        0 => written_file(random, edition),
+        _ => some_file(random, edition),
     }
 }
 

@@ -134,8 +134,8 @@ pub fn own_conflicts() -> Vec<Job> {
 }
 
 /// A record beside another of the same step: at its tick, or next to it.
-pub fn some_own_conflict(random: &mut Random) -> Job {
-    let mut job = small_sound_job(random);
+pub fn some_own_conflict(random: &mut Random, edition: u16) -> Job {
+    let mut job = small_sound_job(random, edition);
     match random.below(3) {
         0 => set_again(random, &mut job),
         1 => use_again(random, &mut job),

@@ -1,14 +1,15 @@
 //! Jobs scribbled down without a thought: each record by itself is in range, most of the time.
 
-use crate::job::{Condition, Effect, Goal, Job, Level, Step, Use};
+use crate::job::{Condition, Effect, Goal, Job, Level, Step, TimedFact, Use};
 use crate::random::Random;
 
-pub fn scribbled_job(random: &mut Random) -> Job {
+pub fn scribbled_job(random: &mut Random, edition: u16) -> Job {
     let longest = random.pick(&[0, 2, 4, 8]);
     let last_start = random.pick(&[3, 8, 20]);
     let facts = 1 + random.below(2);
     let levels = random.below(3);
     let mut job = Job {
+        edition,
         serial: u16::from(random.chance(30)),
         facts: (0..facts).map(|_| bit(random)).collect(),
         levels: (0..levels).map(|_| level(random)).collect(),
@@ -36,6 +37,11 @@ pub fn scribbled_job(random: &mut Random) -> Job {
         }
     }
     job.goals = (0..random.below(3)).map(|_| goal(random, &job)).collect();
+    if edition > 1 {
+        job.timed = (0..random.below(6))
+            .map(|_| timed_fact(random, &job))
+            .collect();
+    }
     job
 }
 
@@ -95,5 +101,14 @@ fn goal(random: &mut Random, job: &Job) -> Goal {
         fact: random.below(job.facts.len()),
         value: bit(random),
         deadline: random.chance(50).then_some(random.between(0, 25)),
+    }
+}
+
+/// Now and then the tick of another.
+fn timed_fact(random: &mut Random, job: &Job) -> TimedFact {
+    TimedFact {
+        fact: random.below(job.facts.len()),
+        tick: random.between(0, 12) * random.pick(&[1, 1, 2]),
+        value: bit(random),
     }
 }

@@ -1,14 +1,16 @@
-//! Sound jobs of many shapes, built by simulating forward: effects get their values tick by tick,
-//! and conditions, bounds and goals are read off what then happens.
+//! Sound jobs of many shapes, built by simulating forward: effects and timed facts get their values
+//! tick by tick, and conditions, bounds and goals are read off what then happens.
 
 use std::collections::{BTreeMap, BTreeSet};
 
-use crate::job::{Condition, Effect, Goal, Job, Level, Step, Use, HIGHEST};
+use crate::job::{Condition, Effect, Goal, Job, Level, Step, TimedFact, Use, HIGHEST};
 use crate::random::Random;
+use crate::setters::{setters, Setter};
 use crate::timing::{end_value, value_seen};
 
 /// How much of everything a job is to have. Records that find no room stay out.
 pub struct Shape {
+    pub edition: u16,
     pub serial: bool,
     pub facts: usize,
     pub levels: usize,
@@ -17,6 +19,7 @@ pub struct Shape {
     pub effects: usize,
     pub uses: usize,
     pub goals: usize,
+    pub timed: usize,
     pub last_start: i64,
     pub longest: i64,
     pub fixed_percent: u64,
@@ -35,6 +38,7 @@ impl Shape {
         ]);
         let steps = random.below(7);
         Shape {
+            edition: 1,
             serial: random.chance(30),
             facts: 1 + random.below(3),
             levels: random.below(3),
@@ -43,9 +47,24 @@ impl Shape {
             effects: random.below(2 * steps + 2),
             uses: random.below(steps + 2),
             goals: random.below(3),
+            timed: 0,
             last_start,
             longest,
             fixed_percent: random.pick(&[0, 0, 15, 40]),
+        }
+    }
+
+    /// The same in this edition; from edition 2 on mostly with some timed facts.
+    pub fn in_edition(self, random: &mut Random, edition: u16) -> Shape {
+        if edition == 1 {
+            return self;
+        }
+        let few = 1 + random.below(4);
+        let timed = random.pick(&[0, few, few, few, few + self.steps, 2 * self.steps]);
+        Shape {
+            edition,
+            timed,
+            ..self
         }
     }
 
@@ -77,6 +96,7 @@ impl Shape {
     /// Every table at its highest count; with few facts nearly every pair of steps is ordered.
     pub fn highest(random: &mut Random, facts: usize) -> Shape {
         Shape {
+            edition: 1,
             serial: false,
             facts,
             levels: HIGHEST[1],
@@ -85,37 +105,49 @@ impl Shape {
             effects: HIGHEST[4],
             uses: HIGHEST[5],
             goals: HIGHEST[6],
+            timed: 0,
             last_start: 1_000_000,
             longest: random.pick(&[2_000, 100_000]),
             fixed_percent: 5,
         }
     }
+
+    /// The same in edition 2, with as many timed facts as there can be.
+    pub fn with_most_timed_facts(self) -> Shape {
+        Shape {
+            edition: 2,
+            timed: HIGHEST[7],
+            ..self
+        }
+    }
 }
 
-pub fn small_sound_job(random: &mut Random) -> Job {
-    let shape = Shape::small(random);
+pub fn small_sound_job(random: &mut Random, edition: u16) -> Job {
+    let shape = Shape::small(random).in_edition(random, edition);
     sound_job(random, &shape)
 }
 
 /// Mostly small, now and then middling.
-pub fn some_sound_job(random: &mut Random) -> Job {
+pub fn some_sound_job(random: &mut Random, edition: u16) -> Job {
     let shape = if random.chance(8) {
         Shape::middling(random)
     } else {
         Shape::small(random)
     };
+    let shape = shape.in_edition(random, edition);
     sound_job(random, &shape)
 }
 
 pub fn sound_job(random: &mut Random, shape: &Shape) -> Job {
     let mut job = Job {
+        edition: shape.edition,
         serial: u16::from(shape.serial),
         facts: (0..shape.facts).map(|_| bit(random)).collect(),
         steps: steps(random, shape),
         ..Job::default()
     };
+    set_facts(random, &mut job, shape);
     if !job.steps.is_empty() {
-        job.effects = effects(random, &job, shape.effects);
         job.conditions = conditions(random, &job, shape.conditions);
         job.uses = uses(random, &job, shape);
     }
@@ -123,6 +155,7 @@ pub fn sound_job(random: &mut Random, shape: &Shape) -> Job {
     job.goals = (0..shape.goals).map(|_| goal(random, &job)).collect();
     random.shuffle(&mut job.effects);
     random.shuffle(&mut job.uses);
+    random.shuffle(&mut job.timed);
     job
 }
 
@@ -164,33 +197,82 @@ fn steps(random: &mut Random, shape: &Shape) -> Vec<Step> {
     steps
 }
 
-/// Effects on one fact at one tick get one value, so none oppose each other there.
-fn effects(random: &mut Random, job: &Job, wished: usize) -> Vec<Effect> {
-    let mut points: BTreeMap<(i64, usize), Vec<(usize, i64)>> = BTreeMap::new();
+// ---------------------------------------------------------------------------------------------
+// What sets facts
+
+/// What is to be set by tick and fact, in time order: by the points of steps, and by the clock.
+#[derive(Default)]
+struct Settings {
+    by_steps: Vec<(usize, i64)>,
+    by_the_clock: usize,
+}
+
+/// All that sets one fact at one tick gets one value, so nothing opposes anything there.
+fn set_facts(random: &mut Random, job: &mut Job, shape: &Shape) {
+    let mut settings: BTreeMap<(i64, usize), Settings> = BTreeMap::new();
+    if !job.steps.is_empty() {
+        settings_of_effects(random, job, shape.effects, &mut settings);
+    }
+    for _ in 0..shape.timed {
+        let place = place_of_a_timed_fact(random, shape, &settings);
+        settings.entry(place).or_default().by_the_clock += 1;
+    }
+    let mut values = job.facts.clone();
+    for ((tick, fact), settings) in settings {
+        if random.chance(60) {
+            values[fact] = 1 - values[fact];
+        }
+        let value = values[fact];
+        let effect = |(step, at)| Effect {
+            step,
+            fact,
+            at,
+            value,
+        };
+        job.effects
+            .extend(settings.by_steps.into_iter().map(effect));
+        let timed = TimedFact { fact, tick, value };
+        job.timed.extend(vec![timed; settings.by_the_clock]);
+    }
+}
+
+fn settings_of_effects(
+    random: &mut Random,
+    job: &Job,
+    wished: usize,
+    settings: &mut BTreeMap<(i64, usize), Settings>,
+) {
     for _ in 0..wished {
         let step = random.below(job.steps.len());
         let fact = random.below(job.facts.len());
         let at = point(random, job.steps[step].length);
         let tick = job.steps[step].start + at;
-        points.entry((tick, fact)).or_default().push((step, at));
+        let place = settings.entry((tick, fact)).or_default();
+        place.by_steps.push((step, at));
     }
-    let mut values = job.facts.clone();
-    let mut effects = Vec::new();
-    for ((_, fact), setters) in points {
-        if random.chance(60) {
-            values[fact] = 1 - values[fact];
-        }
-        for (step, at) in setters {
-            effects.push(Effect {
-                step,
-                fact,
-                at,
-                value: values[fact],
-            });
-        }
-    }
-    effects
 }
+
+/// Often where the fact is set anyway, or a tick beside it.
+fn place_of_a_timed_fact(
+    random: &mut Random,
+    shape: &Shape,
+    settings: &BTreeMap<(i64, usize), Settings>,
+) -> (i64, usize) {
+    let last = (shape.last_start + shape.longest).min(1_100_000);
+    if settings.is_empty() || random.chance(50) {
+        return (random.between(0, last), random.below(shape.facts));
+    }
+    let places = settings.keys();
+    let &(tick, fact) = places
+        .clone()
+        .nth(random.below(places.len()))
+        .expect("it is one of them");
+    let beside = random.pick(&[0, 0, 1, -1]);
+    ((tick + beside).clamp(0, 1_100_000), fact)
+}
+
+// ---------------------------------------------------------------------------------------------
+// What is read off
 
 fn conditions(random: &mut Random, job: &Job, wished: usize) -> Vec<Condition> {
     let mut conditions = Vec::new();
@@ -211,14 +293,9 @@ fn condition(random: &mut Random, job: &Job) -> Option<Condition> {
     let from = point(random, length);
     let first = starts[step] + from;
     let wanted = value_seen(job, &starts, fact, first);
-    let last_allowed = |e: &Effect| {
-        let own = i64::from(e.step == step);
-        e.tick(&starts) - starts[step] - 1 + own
-    };
-    let farthest = job
-        .effects
-        .iter()
-        .filter(|e| e.opposes(fact, wanted) && e.tick(&starts) >= first)
+    let last_allowed = |s: Setter| s.tick - starts[step] - 1 + i64::from(s.is_of(step));
+    let farthest = setters(job, &starts)
+        .filter(|s| s.opposes(fact, wanted) && s.tick >= first)
         .map(last_allowed)
         .fold(length, i64::min);
     if farthest < from {
@@ -294,22 +371,16 @@ fn goal(random: &mut Random, job: &Job) -> Goal {
     let starts = job.written_starts();
     let fact = random.below(job.facts.len());
     let value = end_value(job, &starts, fact);
-    let last_opposing = job
-        .effects
-        .iter()
-        .filter(|e| e.opposes(fact, value))
-        .map(|e| e.tick(&starts))
-        .max();
+    let opposing = setters(job, &starts).filter(|s| s.opposes(fact, value));
+    let last_opposing = opposing.map(|s| s.tick).max();
     let settled = match last_opposing {
         None if job.facts[fact] == value => 0,
-        _ => job
-            .effects
-            .iter()
-            .filter(|e| e.gives(fact, value))
-            .map(|e| e.tick(&starts))
+        _ => setters(job, &starts)
+            .filter(|s| s.gives(fact, value))
+            .map(|s| s.tick)
             .filter(|&tick| last_opposing.is_none_or(|last| last < tick))
             .min()
-            .expect("the end value comes from some effect"),
+            .expect("the end value comes from something"),
     };
     let later = random.pick(&[0, 0, 1, 5, 1_000]);
     let deadline = random

@@ -2,9 +2,9 @@
 
 use crate::bytes::{i32_at, u16_at, u32_at};
 use crate::job::{
-    counts_in, layout, offsets_in, EDITION, EDITION_AT, HEADER, HIGHEST, NO_DEADLINE, SERIAL_AT,
-    TABLES, WIDTHS, ZERO_AT,
+    header_length, HIGHEST, NO_DEADLINE, SERIAL_AT, SHORTEST_HEADER, TABLES, TENTH_AT, WIDTHS,
 };
+use crate::job_file::{counts_in, edition_in, layout, offsets_in};
 use crate::refusal::{refuse_at, refuse_if, Refusal, Verdict};
 
 pub const STEPS: usize = HIGHEST[2];
@@ -19,6 +19,7 @@ pub struct Form<'a> {
     pub effects: &'a [[u8; WIDTHS[4]]],
     pub uses: &'a [[u8; WIDTHS[5]]],
     pub goals: &'a [[u8; WIDTHS[6]]],
+    pub timed: &'a [[u8; WIDTHS[7]]],
 }
 
 pub struct Steps {
@@ -30,8 +31,8 @@ pub struct Steps {
 }
 
 impl Form<'_> {
-    pub fn read(file: &[u8]) -> Result<Form<'_>, Refusal> {
-        let [facts, levels, steps, conditions, effects, uses, goals] = tables(file)?;
+    pub fn read(latest: u16, file: &[u8]) -> Result<Form<'_>, Refusal> {
+        let [facts, levels, steps, conditions, effects, uses, goals, timed] = tables(latest, file)?;
         refuse_at(6, facts.iter().position(|&initial| initial > 1))?;
         let levels = levels.as_chunks().0;
         refuse_at(6, levels.iter().position(level_breaks))?;
@@ -44,6 +45,7 @@ impl Form<'_> {
             effects: effects.as_chunks().0,
             uses: uses.as_chunks().0,
             goals: goals.as_chunks().0,
+            timed: timed.as_chunks().0,
         };
         form.check_records()?;
         Ok(form)
@@ -58,7 +60,9 @@ impl Form<'_> {
         let used = |u: &[u8; 12]| self.point_breaks(u, levels) || amount_breaks(i32_at(u, 8));
         refuse_at(6, self.uses.iter().position(used))?;
         let goal = |g: &_| goal_breaks(g, facts);
-        refuse_at(6, self.goals.iter().position(goal))
+        refuse_at(6, self.goals.iter().position(goal))?;
+        let timed = |t: &_| timed_fact_breaks(t, facts);
+        refuse_at(6, self.timed.iter().position(timed))
     }
 
     fn condition_breaks(&self, condition: &[u8; 14], facts: usize) -> bool {
@@ -75,15 +79,21 @@ impl Form<'_> {
 }
 
 /// Refusals 1 to 5, and the bytes of each table.
-fn tables(file: &[u8]) -> Result<[&[u8]; TABLES], Refusal> {
-    refuse_if(1, file.len() < HEADER)?;
-    refuse_if(2, u16_at(file, EDITION_AT) != EDITION)?;
-    refuse_if(3, u16_at(file, SERIAL_AT) > 1 || u16_at(file, ZERO_AT) != 0)?;
+fn tables(latest: u16, file: &[u8]) -> Result<[&[u8]; TABLES], Refusal> {
+    refuse_if(1, file.len() < SHORTEST_HEADER)?;
+    let edition = edition_in(file);
+    refuse_if(2, edition == 0 || edition > latest)?;
+    refuse_if(1, file.len() < header_length(edition))?;
+    let tenth_breaks = edition == 1 && u16_at(file, TENTH_AT) != 0;
+    refuse_if(3, u16_at(file, SERIAL_AT) > 1 || tenth_breaks)?;
     let counts = counts_in(file);
     refuse_if(4, (0..TABLES).any(|table| counts[table] > HIGHEST[table]))?;
-    let (offsets, end) = layout(counts);
-    let written = offsets_in(file).map(|offset| offset as usize);
-    refuse_if(5, file.len() != end || written != offsets)?;
+    let (offsets, end) = layout(edition, counts);
+    let mut written = offsets_in(file).zip(offsets);
+    refuse_if(
+        5,
+        file.len() != end || written.any(|(at, offset)| at != offset),
+    )?;
     Ok(std::array::from_fn(|table| {
         &file[offsets[table]..][..counts[table] * WIDTHS[table]]
     }))
@@ -111,6 +121,11 @@ fn goal_breaks(goal: &[u8; 8], facts: usize) -> bool {
     usize::from(u16_at(goal, 0)) >= facts
         || u16_at(goal, 2) > 1
         || (deadline > 1_100_000 && deadline != NO_DEADLINE)
+}
+
+fn timed_fact_breaks(timed: &[u8; 8], facts: usize) -> bool {
+    let (fact, tick, value) = (u16_at(timed, 0), u32_at(timed, 2), u16_at(timed, 6));
+    usize::from(fact) >= facts || tick > 1_100_000 || value > 1
 }
 
 impl Steps {

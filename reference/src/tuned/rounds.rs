@@ -16,8 +16,8 @@ pub struct Earliest {
     pub rounds: u32,
 }
 
-pub fn earliest(steps: &Steps, nearest: &Nearest) -> Earliest {
-    let mut times = std::array::from_fn(|step| limit(steps, step) - steps.starts[step]);
+pub fn earliest(steps: &Steps, nearest: &Nearest, limits: &[i32; STEPS]) -> Earliest {
+    let mut times = std::array::from_fn(|step| limits[step] - steps.starts[step]);
     let (mut rounds, mut raised) = (0, u64::MAX);
     while raised != 0 && steps.count > 0 {
         let before = times;
@@ -31,15 +31,6 @@ pub fn earliest(steps: &Steps, nearest: &Nearest) -> Earliest {
         *time += start;
     }
     Earliest { times, rounds }
-}
-
-/// The written start of a fixed step, else 0.
-pub fn limit(steps: &Steps, step: usize) -> i32 {
-    if steps.is_fixed(step) {
-        steps.starts[step]
-    } else {
-        0
-    }
 }
 
 /// One round. Only what the round before raised can demand anything new.

@@ -1,9 +1,9 @@
-//! Refusals 7 and 10 to 14, and the links, which the walk along each fact meets anyway.
+//! Refusals 7, 17 and 10 to 14, and the links, which the walk along each fact meets anyway.
 
 use super::form::{Form, Steps, STEPS};
-use super::points::{Point, Points};
+use super::points::{Point, Points, UNMERGED};
 use crate::bytes::{i32_at, u16_at, u32_at};
-use crate::order_file::{INITIAL_STATE, MOST_LINKS};
+use crate::order_file::{FIRST_TIMED, INITIAL_STATE, MOST_LINKS};
 use crate::refusal::{refuse_at, Verdict};
 
 /// One link a condition, then one a goal.
@@ -16,16 +16,17 @@ pub fn link(form: &Form, points: &Points, links: &mut Links) -> Verdict {
     let mut found = Found::default();
     // What supports each fact in the end.
     let mut ends = [INITIAL_STATE; 256];
+    let mut merged = UNMERGED;
     for (fact, &initial) in form.facts.iter().enumerate() {
-        let effects = points.effects.group(fact);
-        found.meetings(effects);
-        let mut walk = Walk::new(initial, effects);
+        let setters = points.setters(fact, &mut merged);
+        found.meetings(setters);
+        let mut walk = Walk::new(initial, setters);
         for &condition in points.conditions.group(fact) {
-            walk.pass_effects_before(condition.tick());
+            walk.pass_setters_before(condition.tick());
             links[condition.number()] = walk.link;
             found.condition(&mut walk, condition, form.last_tick(condition));
         }
-        walk.pass_effects_before(i32::MAX);
+        walk.pass_setters_before(i32::MAX);
         ends[fact] = walk.link;
     }
     for level in 0..form.levels.len() {
@@ -46,7 +47,8 @@ impl Form<'_> {
         self.steps.starts[condition.step()] + to as i32
     }
 
-    /// The effect that a link names, if it names one.
+    /// The effect that a link names, if it names one: there are no more effects than the links to
+    /// timed facts leave.
     pub fn linked(&self, link: u16) -> Option<Effect> {
         let effect = self.effects.get(usize::from(link))?;
         let (step, at) = (usize::from(u16_at(effect, 0)), u32_at(effect, 4) as i32);
@@ -56,6 +58,14 @@ impl Form<'_> {
             tick: self.steps.starts[step] + at,
             value: u16_at(effect, 8),
         })
+    }
+
+    /// The tick and value of a timed fact that a link names, if it names one.
+    pub fn linked_timed_fact(&self, link: u16) -> Option<(i32, u16)> {
+        let timed = self
+            .timed
+            .get(usize::from(link.checked_sub(FIRST_TIMED)?))?;
+        Some((u32_at(timed, 2) as i32, u16_at(timed, 6)))
     }
 }
 
@@ -71,18 +81,19 @@ pub struct Effect {
 
 /// A place in a fact's time: the value seen there and what supports it.
 struct Walk<'a> {
-    effects: &'a [Point],
+    /// Effects and timed facts.
+    setters: &'a [Point],
     passed: usize,
     value: usize,
     link: u16,
-    /// The next effect that opposes each value; it never goes back.
+    /// The next that opposes each value; it never goes back.
     opposing: [usize; 2],
 }
 
 impl Walk<'_> {
-    fn new(initial: u8, effects: &[Point]) -> Walk<'_> {
+    fn new(initial: u8, setters: &[Point]) -> Walk<'_> {
         Walk {
-            effects,
+            setters,
             passed: 0,
             value: usize::from(initial),
             link: INITIAL_STATE,
@@ -90,25 +101,25 @@ impl Walk<'_> {
         }
     }
 
-    /// The first effect of a run that gives one value is what supports it.
-    fn pass_effects_before(&mut self, tick: i32) {
-        while let Some(effect) = self.effects.get(self.passed).filter(|e| e.tick() < tick) {
-            if effect.value() != self.value {
-                self.value = effect.value();
-                self.link = effect.number() as u16;
+    /// The first of a run that gives one value is what supports it.
+    fn pass_setters_before(&mut self, tick: i32) {
+        while let Some(setter) = self.setters.get(self.passed).filter(|s| s.tick() < tick) {
+            if setter.value() != self.value {
+                self.value = setter.value();
+                self.link = setter.number() as u16;
             }
             self.passed += 1;
         }
     }
 
-    /// What is still to come, from the first effect that opposes the value on.
+    /// What is still to come, from the first that opposes the value on.
     fn opposing_on(&mut self, value: usize) -> &[Point] {
         let mut next = self.opposing[value].max(self.passed);
-        while self.effects.get(next).is_some_and(|e| e.value() == value) {
+        while self.setters.get(next).is_some_and(|s| s.value() == value) {
             next += 1;
         }
         self.opposing[value] = next;
-        &self.effects[next..]
+        &self.setters[next..]
     }
 }
 
@@ -119,7 +130,8 @@ impl Walk<'_> {
 struct Found {
     /// Refusal 7: one bit a step.
     against_itself: u64,
-    /// Refusals 10 to 12: the lowest place.
+    /// Refusals 17 and 10 to 12: the lowest place.
+    timed_both_ways: Option<usize>,
     meeting: Option<usize>,
     condition: Option<usize>,
     level: Option<usize>,
@@ -129,31 +141,43 @@ impl Found {
     fn refuse(&self) -> Verdict {
         let step = self.against_itself.trailing_zeros() as usize;
         refuse_at(7, (step < STEPS).then_some(step))?;
+        refuse_at(17, self.timed_both_ways)?;
         refuse_at(10, self.meeting)?;
         refuse_at(11, self.condition)?;
         refuse_at(12, self.level)
     }
 
-    /// Effects of one fact at one tick that oppose each other, of one step or of two.
-    fn meetings(&mut self, effects: &[Point]) {
+    /// What opposes each other on one fact at one tick: effects of one step or of two, timed facts.
+    fn meetings(&mut self, setters: &[Point]) {
         let oppose =
             |two: &[Point]| two[0].tick() == two[1].tick() && two[0].value() != two[1].value();
-        if effects.windows(2).any(oppose) {
-            for at_one_tick in effects.chunk_by(|a, b| a.tick() == b.tick()) {
-                self.meetings_at_one_tick(at_one_tick);
+        if setters.windows(2).any(oppose) {
+            for at_one_tick in setters.chunk_by(|a, b| a.tick() == b.tick()) {
+                let effects = at_one_tick.partition_point(|setter| !setter.is_timed());
+                let (effects, timed) = at_one_tick.split_at(effects);
+                self.meetings_at_one_tick(effects, timed);
             }
         }
     }
 
-    fn meetings_at_one_tick(&mut self, effects: &[Point]) {
+    fn meetings_at_one_tick(&mut self, effects: &[Point], timed: &[Point]) {
         let mut setting = [0; 2];
         for effect in effects {
             setting[effect.value()] |= effect.step_bit();
         }
         self.against_itself |= setting[0] & setting[1];
-        let meets = |e: &&Point| setting[1 - e.value()] & !e.step_bit() != 0;
+        let by_the_clock = |value: usize| timed.iter().any(|timed| timed.value() == value);
+        let by_the_clock = [by_the_clock(0), by_the_clock(1)];
+        let meets = |e: &&Point| {
+            let other = 1 - e.value();
+            setting[other] & !e.step_bit() != 0 || by_the_clock[other]
+        };
         if let Some(effect) = effects.iter().find(meets) {
             lower(&mut self.meeting, effect.number());
+        }
+        if by_the_clock == [true, true] {
+            let lowest = timed[0].number() - usize::from(FIRST_TIMED);
+            lower(&mut self.timed_both_ways, lowest);
         }
     }
 
@@ -163,16 +187,16 @@ impl Found {
         if walk.value != wanted {
             lower(&mut self.condition, condition.number());
         }
-        for effect in walk.opposing_on(wanted) {
-            if effect.tick() > last {
+        for setter in walk.opposing_on(wanted) {
+            if setter.tick() > last {
                 break;
             }
-            if effect.value() == wanted {
+            if setter.value() == wanted {
                 continue;
             }
-            if effect.step() != condition.step() {
+            if setter.is_timed() || setter.step() != condition.step() {
                 lower(&mut self.condition, condition.number());
-            } else if effect.tick() < last {
+            } else if setter.tick() < last {
                 self.against_itself |= condition.step_bit();
             }
         }
@@ -209,8 +233,12 @@ fn lower(lowest: &mut Option<usize>, number: usize) {
 /// A goal holds from the tick after its link on, so the link must not come after the deadline.
 fn goal_fails(form: &Form, goal: &[u8; 8], link: u16) -> bool {
     let (fact, value, deadline) = (u16_at(goal, 0), u16_at(goal, 2), u32_at(goal, 4));
-    match form.linked(link) {
-        Some(effect) => effect.value != value || effect.tick as u32 > deadline,
+    let set = match form.linked(link) {
+        Some(effect) => Some((effect.tick, effect.value)),
+        None => form.linked_timed_fact(link),
+    };
+    match set {
+        Some((tick, given)) => given != value || tick as u32 > deadline,
         None => u16::from(form.facts[usize::from(fact)]) != value,
     }
 }

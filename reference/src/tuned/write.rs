@@ -1,12 +1,11 @@
 //! The order file, written into a buffer of its length.
 
-use super::form::{Form, STEPS};
+use super::form::Form;
+use super::limits::Limits;
 use super::nearest::{bits, Nearest, FAR};
-use super::rounds::{earliest, limit};
+use super::rounds::earliest;
 use super::sound::Links;
-use crate::bytes::u32_at;
-use crate::job::NO_DEADLINE;
-use crate::order_file::{EDITION, HEADER, LINK, NONE, ORDER, WINDOW};
+use crate::order_file::{EDITION, HEADER, LINK, ORDER, WINDOW};
 
 struct Layout {
     orders: usize,
@@ -35,12 +34,12 @@ pub fn length(form: &Form, nearest: &Nearest) -> usize {
     layout(form, nearest).end
 }
 
-pub fn write(form: &Form, links: &Links, nearest: &Nearest, out: &mut [u8]) {
+pub fn write(form: &Form, links: &Links, nearest: &Nearest, limits: &Limits, out: &mut [u8]) {
     let layout = layout(form, nearest);
     let (front, link_table) = out.split_at_mut(layout.links_at);
     let (front, orders) = front.split_at_mut(layout.orders_at);
     let (header, windows) = front.split_at_mut(HEADER);
-    let rounds = write_windows(form, links, nearest, windows);
+    let rounds = write_windows(form, nearest, limits, windows);
     write_header(form, &layout, rounds, header);
     write_orders(form, nearest, orders);
     for (bytes, link) in link_table.as_chunks_mut().0.iter_mut().zip(links) {
@@ -62,31 +61,14 @@ fn write_header(form: &Form, layout: &Layout, rounds: u32, header: &mut [u8]) {
 }
 
 /// The number of rounds comes with the earliest times.
-fn write_windows(form: &Form, links: &Links, nearest: &Nearest, windows: &mut [u8]) -> u32 {
-    let earliest = earliest(&form.steps, nearest);
-    let latest = latest_starts(form, links);
+fn write_windows(form: &Form, nearest: &Nearest, limits: &Limits, windows: &mut [u8]) -> u32 {
+    let earliest = earliest(&form.steps, nearest, &limits.earliest);
     for (step, window) in windows.chunks_exact_mut(WINDOW).enumerate() {
-        window[..4].copy_from_slice(&limit(&form.steps, step).to_le_bytes());
-        window[4..8].copy_from_slice(&latest[step].to_le_bytes());
+        window[..4].copy_from_slice(&limits.earliest[step].to_le_bytes());
+        window[4..8].copy_from_slice(&limits.latest[step].to_le_bytes());
         window[8..].copy_from_slice(&earliest.times[step].to_le_bytes());
     }
     earliest.rounds
-}
-
-fn latest_starts(form: &Form, links: &Links) -> [u32; STEPS] {
-    let mut latest = [NONE; STEPS];
-    let goal_links = &links[form.conditions.len()..];
-    for (goal, &link) in form.goals.iter().zip(goal_links) {
-        let (effect, deadline) = (form.linked(link), u32_at(goal, 4));
-        if let Some(effect) = effect.filter(|_| deadline != NO_DEADLINE) {
-            let of_step = &mut latest[effect.step];
-            *of_step = (*of_step).min(deadline - effect.at as u32);
-        }
-    }
-    for step in (0..form.steps.count).filter(|&step| form.steps.is_fixed(step)) {
-        latest[step] = form.steps.starts[step] as u32;
-    }
-    latest
 }
 
 /// Ascending by first, then second.
