@@ -17,13 +17,18 @@ pub fn made_case(random: &mut Random, command: char) -> Case {
     made_case_up_to(LATEST_EDITION, random, command)
 }
 
-/// Of the latest edition as often as of those before it.
 pub fn made_case_up_to(latest: u16, random: &mut Random, command: char) -> Case {
+    let edition = some_edition(random, latest);
+    made_case_of(edition, random, command)
+}
+
+/// The latest as often as all those before it.
+pub fn some_edition(random: &mut Random, latest: u16) -> u16 {
     let mut edition = latest;
     while edition > 1 && random.chance(50) {
         edition -= 1;
     }
-    made_case_of(edition, random, command)
+    edition
 }
 
 pub fn made_case_of(edition: u16, random: &mut Random, command: char) -> Case {

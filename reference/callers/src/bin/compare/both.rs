@@ -4,7 +4,7 @@ use std::fmt::Debug;
 
 use callers::Packed;
 use reference::loosen::{loosen, order_file_of};
-use reference::order_file::{alike, read_header, read_record, Link, Record, NONE};
+use reference::order_file::{alike, read_header, read_record, Record, NONE};
 use reference::refusal::{number_and_place, Refusal};
 use reference::timing::{check_job, check_timing};
 
@@ -147,8 +147,7 @@ fn numbers_of(record: Record) -> Vec<u32> {
             vec![window.limit as u32, latest, window.earliest as u32]
         }
         Record::Order(order) => vec![order.first as u32, order.second as u32, order.gap as u32],
-        Record::Link(Link::InitialState) => vec![65_535],
-        Record::Link(Link::Effect(number)) => vec![number as u32],
+        Record::Link(link) => vec![u32::from(link.number())],
     }
 }
 

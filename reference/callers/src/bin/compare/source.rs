@@ -2,20 +2,24 @@
 //! jobs and files that each tell something, a few as large as they can be.
 
 use reference::bytes::u16_at;
-use reference::job::Job;
-use reference::make::bench_jobs::{bench_job, SPREADS};
+use reference::job::{Job, LATEST_EDITION};
+use reference::made::some_edition;
+use reference::make::bench_jobs::{bench_job, timed_bench_job, SPREADS, TIMED_SPREADS};
 use reference::make::damage;
 use reference::make::edges::edges;
 use reference::make::highest::{chain_of_all_steps, every_pair_ordered_both_ways};
-use reference::make::near_miss::near_miss;
+use reference::make::near_miss::{near_miss, nearly_missed};
 use reference::make::order_files::{
-    alike_files, broken_files, each_byte, files_at_the_limits, highest_file, some_file,
-    too_many_orders, unlike_files,
+    alike_files, broken_files, each_byte, files_at_the_limits, files_with_timed_links,
+    highest_file, links_out_of_range, some_file, too_many_orders, unlike_files,
 };
 use reference::make::own_conflicts::{own_conflicts, some_own_conflict};
 use reference::make::scribbled::scribbled_job;
 use reference::make::sound::some_sound_job;
 use reference::make::telling::telling_jobs;
+use reference::make::timed_edges::timed_edges;
+use reference::make::timed_telling::timed_telling_jobs;
+use reference::make::timed_timings::timed_timings;
 use reference::make::timings::{some_starts, telling_timings};
 use reference::order_file::OrderFile;
 use reference::random::Random;
@@ -35,47 +39,83 @@ pub struct Pool {
 impl Pool {
     pub fn new(seed: u64) -> Pool {
         let mut random = Random::seeded(!seed);
-        let mut jobs: Vec<Job> = telling_jobs().into_iter().map(|(_, job)| job).collect();
-        jobs.extend(edges());
-        jobs.extend(own_conflicts());
-        jobs.extend(damage::ranges(&damage::full_job()));
-        for number in 10..=14 {
-            jobs.extend((0..NEAR_MISSES).map(|_| near_miss(&mut random, number)));
+        let mut pool = Pool {
+            jobs: Vec::new(),
+            large: Vec::new(),
+            files: Vec::new(),
+        };
+        for edition in 1..=LATEST_EDITION {
+            pool.add_edition(&mut random, edition);
         }
-        let mut jobs: Vec<Timed> = jobs.iter().map(|job| timed(&mut random, job)).collect();
-        jobs.extend(damaged().into_iter().map(|file| (file, vec![10, 20, 30])));
-        jobs.extend(
-            telling_timings()
-                .into_iter()
-                .map(|(job, starts)| (job.to_file(), starts)),
-        );
-        let mut large = SPREADS.map(|spread| bench_job(spread, 64)).to_vec();
-        large.extend([chain_of_all_steps(), every_pair_ordered_both_ways()]);
-        let large = large.iter().map(|job| timed(&mut random, job)).collect();
-        let files = order_files();
-        Pool { jobs, large, files }
+        pool
     }
+
+    /// What the jobs of an edition add, and the order files that they make possible.
+    fn add_edition(&mut self, random: &mut Random, edition: u16) {
+        let mut jobs = by_hand(edition);
+        jobs.extend(damage::ranges(&damage::full_job_of(edition)));
+        for number in nearly_missed(edition) {
+            jobs.extend((0..NEAR_MISSES).map(|_| near_miss(random, edition, number)));
+        }
+        self.jobs.extend(jobs.iter().map(|job| timed(random, job)));
+        let damaged = damaged(edition).into_iter();
+        self.jobs
+            .extend(damaged.map(|file| (file, vec![10, 20, 30])));
+        let timings = match edition {
+            1 => telling_timings(),
+            _ => timed_timings(),
+        };
+        let timings = timings.into_iter();
+        self.jobs
+            .extend(timings.map(|(job, starts)| (job.to_file(), starts)));
+        let large = large(edition);
+        self.large
+            .extend(large.iter().map(|job| timed(random, job)));
+        self.files.extend(order_files(edition));
+    }
+}
+
+fn by_hand(edition: u16) -> Vec<Job> {
+    let (telling, more) = match edition {
+        1 => (telling_jobs(), [edges(), own_conflicts()].concat()),
+        _ => (timed_telling_jobs(), timed_edges()),
+    };
+    let telling = telling.into_iter().map(|(_, job)| job);
+    telling.chain(more).collect()
+}
+
+fn large(edition: u16) -> Vec<Job> {
+    if edition > 1 {
+        return TIMED_SPREADS.map(timed_bench_job).to_vec();
+    }
+    let mut large = SPREADS.map(|spread| bench_job(spread, 64)).to_vec();
+    large.extend([chain_of_all_steps(), every_pair_ordered_both_ways()]);
+    large
 }
 
 fn timed(random: &mut Random, job: &Job) -> Timed {
     (job.to_file(), some_starts(random, job))
 }
 
-fn damaged() -> Vec<Vec<u8>> {
-    let file = damage::full_job().to_file();
+fn damaged(edition: u16) -> Vec<Vec<u8>> {
+    let file = damage::full_job_of(edition).to_file();
     [
         damage::too_short(&file),
         damage::layouts(&file),
         damage::each_byte(&file),
-        damage::one_of_each(),
+        damage::one_of_each(edition),
     ]
     .concat()
 }
 
-fn order_files() -> Vec<Vec<u8>> {
+fn order_files(edition: u16) -> Vec<Vec<u8>> {
+    if edition > 1 {
+        let linked = [files_with_timed_links(), links_out_of_range(edition)].concat();
+        return linked.iter().map(OrderFile::to_file).collect();
+    }
     let good = [files_at_the_limits(), alike_files(), unlike_files()].concat();
     let mut files: Vec<Vec<u8>> = good.iter().map(OrderFile::to_file).collect();
-    files.extend(broken_files().into_iter().map(|(_, file)| file));
+    files.extend(broken_files(edition).into_iter().map(|(_, file)| file));
     files.extend(
         [
             each_byte(),
@@ -114,7 +154,7 @@ impl Source<'_> {
         };
         self.starts = starts;
         match random.below(10) {
-            0 if !job.is_empty() => damage::some_byte(random, &job),
+            0 if !job.is_empty() => damage::some_byte(random, LATEST_EDITION, &job),
             _ => job,
         }
     }
@@ -141,7 +181,7 @@ impl Source<'_> {
         let random = &mut self.random;
         let file = match written {
             Some(file) if random.chance(70) => file,
-            _ if random.chance(50) => some_file(random).to_file(),
+            _ if random.chance(50) => some_file(random, LATEST_EDITION).to_file(),
             _ => one_of(random, &self.pool.files),
         };
         match random.below(5) {
@@ -179,8 +219,10 @@ fn one_of<T: Clone>(random: &mut Random, items: &[T]) -> T {
     items[random.below(items.len())].clone()
 }
 
-fn made(random: &mut Random, make: impl Fn(&mut Random) -> Job) -> Timed {
-    let job = make(random);
+/// Of the latest edition as often as of those before it.
+fn made(random: &mut Random, make: impl Fn(&mut Random, u16) -> Job) -> Timed {
+    let edition = some_edition(random, LATEST_EDITION);
+    let job = make(random, edition);
     timed(random, &job)
 }
 
