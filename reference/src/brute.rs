@@ -43,13 +43,20 @@ pub fn brute_of(edition: u16, choices: usize, seed: u64) -> Result<Tried, String
             let shape = Shape::tiny(&mut random).in_edition(&mut random, edition);
             let job = sound_job(&mut random, &shape);
             Trial::of(&job)?.choices_nearby(&mut tried)?;
+            tried.jobs += 1;
         } else {
             let job = small_sound_job(&mut random, edition);
-            Trial::of(&job)?.choices_anywhere(&mut random, &mut tried)?;
+            try_anywhere(&job, &mut random, &mut tried)?;
         }
-        tried.jobs += 1;
     }
     Ok(tried)
+}
+
+/// Choices for one sound job, however large.
+pub fn try_anywhere(job: &Job, random: &mut Random, tried: &mut Tried) -> Result<(), String> {
+    Trial::of(job)?.choices_anywhere(random, tried)?;
+    tried.jobs += 1;
+    Ok(())
 }
 
 /// A job, the file that loosening wrote for it, and the state it is to end with.

@@ -173,13 +173,14 @@ pub fn timed_fact_right_after_a_condition() -> Job {
         .timed(0, 7, 0)
 }
 
-/// An opposing timed fact before the condition limits by its first tick. The supporter is an
-/// effect of the own step, so nothing else limits.
+/// An opposing timed fact before the condition limits by its first tick, though another step
+/// supports it.
 pub fn opposing_timed_fact_before_a_condition() -> Job {
     Job::with_facts(&[1])
         .step(10, 9)
+        .step(9, 2)
         .condition(0, 0, 6, 9, 1)
-        .effect(0, 0, 4, 1)
+        .effect(1, 0, 1, 1)
         .timed(0, 8, 0)
 }
 
