@@ -9,7 +9,7 @@ use crate::make::own_conflicts::some_own_conflict;
 use crate::make::scribbled::scribbled_job;
 use crate::make::sound::{small_sound_job, some_sound_job};
 use crate::make::timings::some_starts;
-use crate::make::{damage, order_files};
+use crate::make::{damage, order_files, ranges};
 use crate::random::Random;
 
 /// A made case of a command, of any edition that is taken.
@@ -82,7 +82,7 @@ fn damaged_file(random: &mut Random, edition: u16) -> Vec<u8> {
     let file = job.to_file();
     match random.below(10) {
         0..4 => damage::some_byte(random, edition, &file),
-        4..6 => one_of(random, damage::ranges(&job)).to_file(),
+        4..6 => one_of(random, ranges::ranges(&job)).to_file(),
         6..8 => damage::two_faults(random, &file),
         8 => one_of(random, damage::layouts(&file)),
         _ => damage::garbage(random, edition),

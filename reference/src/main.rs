@@ -21,7 +21,8 @@ reference make N SEED KINDS FILE
 reference brute N SEED         try at least N choices that obey the order files of made jobs
 reference show                 print what show prints of the job on standard input
 reference sample NAME          write a sample job to standard output: paper, deck-resigned,
-                               fixed-restart, handsets, refused, longest";
+                               fixed-restart, handsets, refused, longest; of edition 2: barriers,
+                               longest-timed, longest-sheet";
 
 fn main() -> ExitCode {
     match run() {

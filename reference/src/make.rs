@@ -1,12 +1,14 @@
 //! Made jobs, made timings and made order files: the same for the same seed.
 
 pub mod bench_jobs;
+pub mod checking_order;
 pub mod damage;
 pub mod edges;
 pub mod highest;
 pub mod near_miss;
 pub mod order_files;
 pub mod own_conflicts;
+pub mod ranges;
 pub mod scribbled;
 pub mod sound;
 pub mod telling;

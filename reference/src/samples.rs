@@ -1,7 +1,7 @@
 //! Job files a person can run, drawn from the garage. Ticks are minutes.
 
 use crate::job::Job;
-use crate::make::highest::highest_job;
+use crate::make::highest::{highest_job, highest_timed_job, longest_sheet};
 use crate::make::telling::small_job;
 
 pub fn sample(name: &str) -> Option<Job> {
@@ -12,11 +12,24 @@ pub fn sample(name: &str) -> Option<Job> {
         "handsets" => Some(handsets()),
         "refused" => Some(refused()),
         "longest" => Some(highest_job(1, 256)),
+        "barriers" => Some(barriers()),
+        "longest-timed" => Some(highest_timed_job(1, 256)),
+        "longest-sheet" => Some(longest_sheet()),
         _ => None,
     }
 }
 
-/// Those made by hand.
+/// Those with a stored file and sheet, once jobs up to this edition are taken.
+pub fn stored_samples(latest: u16) -> Vec<&'static str> {
+    let mut names = SAMPLES.to_vec();
+    names.push("longest");
+    if latest > 1 {
+        names.extend(["barriers", "longest-timed", "longest-sheet"]);
+    }
+    names
+}
+
+/// Those of edition 1 made by hand.
 pub const SAMPLES: [&str; 5] = [
     "paper",
     "deck-resigned",
@@ -101,6 +114,30 @@ pub fn handsets() -> Job {
 /// The same with the third round leaving at the very tick at which a handset comes back.
 pub fn refused() -> Job {
     rounds_with_handsets(30)
+}
+
+/// The barrier goes down at minute 60 and up again at minute 480, by the clock. Panels come in
+/// while it is up, are hung while it is down, and the tools go out after that, by minute 540.
+///
+/// Facts: 0 barrier up, 1 panels in, 2 panels hung, 3 tools out. Steps: 0 bring the panels in,
+/// 1 hang them, 2 take the tools out.
+pub fn barriers() -> Job {
+    Job::with_facts(&[1, 0, 0, 0])
+        .step(20, 30)
+        .step(90, 120)
+        .step(500, 15)
+        .condition(0, 0, 0, 30, 1)
+        .condition(1, 1, 0, 0, 1)
+        .condition(1, 0, 0, 120, 0)
+        .condition(2, 0, 0, 15, 1)
+        .condition(2, 2, 0, 0, 1)
+        .effect(0, 1, 30, 1)
+        .effect(1, 2, 120, 1)
+        .effect(2, 3, 15, 1)
+        .goal_by(3, 1, 540)
+        .goal(0, 1)
+        .timed(0, 60, 0)
+        .timed(0, 480, 1)
 }
 
 fn rounds_with_handsets(third: i64) -> Job {

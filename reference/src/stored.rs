@@ -4,7 +4,6 @@ use crate::cases::{answers_up_to, cases_file, Case, LONGEST_FIELD, MOST_FURTHER}
 use crate::job::{Job, LATEST_EDITION};
 use crate::loosen::order_file_up_to;
 use crate::made::made_case_of;
-use crate::make::damage;
 use crate::make::edges::edges;
 use crate::make::highest::{chain_of_all_steps, every_pair_ordered_both_ways, highest_job};
 use crate::make::near_miss::near_miss;
@@ -15,6 +14,7 @@ use crate::make::order_files::{
 use crate::make::own_conflicts::own_conflicts;
 use crate::make::telling::{empty_job, small_job, telling_jobs};
 use crate::make::timings::telling_timings;
+use crate::make::{checking_order, damage, ranges};
 use crate::order_file::OrderFile;
 use crate::random::Random;
 use crate::samples::{sample, SAMPLES};
@@ -105,9 +105,9 @@ fn well_formedness_cases() -> Vec<Case> {
         damage::layouts(&empty_job().to_file()),
         to_files(damage::counts_at_highest(1)),
         to_files(damage::counts_one_above(1)),
-        to_files(damage::ranges(&full)),
-        to_files(damage::two_broken_records(1)),
-        damage::pairs_of_refusals(1),
+        to_files(ranges::ranges(&full)),
+        to_files(ranges::two_broken_records(1)),
+        checking_order::pairs_of_refusals(1),
         damage::each_byte(&file),
         to_files(last_record_of_a_highest_job_broken()),
     ]
@@ -135,7 +135,7 @@ fn job_check_cases() -> Vec<Case> {
     for number in 10..=14 {
         jobs.extend((0..40).map(|_| near_miss(&mut random, 1, number)));
     }
-    let files = [damage::pairs_of_refusals(1), to_files(jobs)].concat();
+    let files = [checking_order::pairs_of_refusals(1), to_files(jobs)].concat();
     let mut cases: Vec<Case> = files.into_iter().map(|file| Case::job('c', file)).collect();
     cases.extend(made('c', 250));
     cases
@@ -160,7 +160,7 @@ fn timing_cases() -> Vec<Case> {
         cases.extend(timings_at_the_earliest(&job));
     }
     // A list of another length is found only after what is wrong with the job.
-    let broken = damage::one_of_each(1).into_iter();
+    let broken = checking_order::one_of_each(1).into_iter();
     cases.extend(broken.map(|file| Case::timing(file, &[0])));
     cases.extend(lists_too_long());
     let mut random = Random::seeded(14);
@@ -222,7 +222,7 @@ fn loosening_cases() -> Vec<Case> {
     for job in jobs_by_hand() {
         cases.extend(loosened_into_buffers_around(&job));
     }
-    let broken = damage::one_of_each(1).into_iter();
+    let broken = checking_order::one_of_each(1).into_iter();
     cases.extend(broken.map(|file| Case::loosening(file, 16)));
     for job in [
         every_pair_ordered_both_ways(),
@@ -246,7 +246,7 @@ fn long_buffers() -> Vec<Case> {
     let mut jobs = vec![empty_job(), small_job()];
     jobs.extend((10..=14).map(|number| near_miss(&mut random, 1, number)));
     let mut cases = Vec::new();
-    for file in [to_files(jobs), damage::one_of_each(1)].concat() {
+    for file in [to_files(jobs), checking_order::one_of_each(1)].concat() {
         let length = length_for(&file);
         for length in [length + 9, length + 64, length + 1_000, LONGEST_FIELD] {
             cases.push(Case::loosening(file.clone(), length));

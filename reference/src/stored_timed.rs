@@ -3,14 +3,14 @@
 use crate::cases::Case;
 use crate::job::Job;
 use crate::loosen::order_file_up_to;
-use crate::make::damage;
-use crate::make::highest::highest_timed_job;
+use crate::make::highest::{highest_timed_job, longest_sheet};
 use crate::make::near_miss::{near_miss, nearly_missed};
 use crate::make::order_files::{files_with_timed_links, links_out_of_range, plain_file};
 use crate::make::telling::empty_job;
 use crate::make::timed_edges::timed_edges;
 use crate::make::timed_telling::timed_telling_jobs;
 use crate::make::timed_timings::timed_timings;
+use crate::make::{checking_order, damage, ranges};
 use crate::random::Random;
 use crate::stored::{
     at_written_starts, length_up_to, list, loosened_into_buffers_around, made_of, order_files,
@@ -50,9 +50,9 @@ fn well_formedness_cases() -> Vec<Case> {
         empty_jobs_between_the_editions(),
         to_files(damage::counts_at_highest(2)),
         to_files(damage::counts_one_above(2)),
-        to_files(damage::ranges(&full)),
-        to_files(damage::two_broken_records(2)),
-        damage::pairs_of_refusals(2),
+        to_files(ranges::ranges(&full)),
+        to_files(ranges::two_broken_records(2)),
+        checking_order::pairs_of_refusals(2),
         damage::each_byte(&file),
         to_files(last_timed_fact_of_a_highest_job_broken()),
     ]
@@ -90,7 +90,7 @@ fn job_check_cases() -> Vec<Case> {
     for number in nearly_missed(2) {
         jobs.extend((0..30).map(|_| near_miss(&mut random, 2, number)));
     }
-    let files = [damage::pairs_of_refusals(2), to_files(jobs)].concat();
+    let files = [checking_order::pairs_of_refusals(2), to_files(jobs)].concat();
     let mut cases: Vec<Case> = files.into_iter().map(|file| Case::job('c', file)).collect();
     cases.extend(made_of(2, 'c', 150));
     cases
@@ -111,7 +111,7 @@ fn timing_cases() -> Vec<Case> {
         cases.extend(timings_at_the_earliest(&job));
         cases.extend(one_step_too_late(&job));
     }
-    let broken = damage::one_of_each(2).into_iter();
+    let broken = checking_order::one_of_each(2).into_iter();
     cases.extend(broken.map(|file| Case::timing(file, &[0])));
     let mut random = Random::seeded(14);
     for number in nearly_missed(2) {
@@ -144,9 +144,13 @@ fn loosening_cases() -> Vec<Case> {
     for job in jobs_by_hand() {
         cases.extend(loosened_into_buffers_around(&job));
     }
-    let broken = damage::one_of_each(2).into_iter();
+    let broken = checking_order::one_of_each(2).into_iter();
     cases.extend(broken.map(|file| Case::loosening(file, 16)));
-    for job in [highest_timed_job(5, 1), highest_timed_job(5, 8)] {
+    for job in [
+        highest_timed_job(5, 1),
+        highest_timed_job(5, 8),
+        longest_sheet(),
+    ] {
         let file = job.to_file();
         let length = length_up_to(2, &file);
         cases.push(Case::loosening(file, length));

@@ -6,7 +6,7 @@ use reference::cases::{answer_up_to, COMMANDS};
 use reference::job::Job;
 use reference::made::made_case_of;
 use reference::make::near_miss::{near_miss, nearly_missed};
-use reference::make::{damage, edges, own_conflicts, timings};
+use reference::make::{checking_order, damage, edges, own_conflicts, ranges, timings};
 use reference::random::Random;
 use reference::refusal::number_and_place;
 use reference::timing::{check_job_up_to, check_timing};
@@ -75,7 +75,7 @@ fn counts_at_their_highest_and_one_above() {
 #[test]
 fn one_of_each_comes_in_checking_order() {
     let numbers = |edition| -> Vec<u16> {
-        let files = damage::one_of_each(edition);
+        let files = checking_order::one_of_each(edition);
         let verdicts = files
             .iter()
             .map(|file| well_formedness_up_to(edition, file));
@@ -87,7 +87,7 @@ fn one_of_each_comes_in_checking_order() {
 
 #[test]
 fn of_two_refusals_the_one_checked_first_decides() {
-    let numbers = damage::numbers_in_checking_order;
+    let numbers = checking_order::numbers_in_checking_order;
     assert_eq!(numbers(1), [2, 3, 3, 4, 4, 5, 6, 7, 11]);
     assert_eq!(numbers(2), [2, 3, 4, 4, 4, 5, 5, 6, 6, 7, 17, 11]);
     for edition in [1, 2] {
@@ -97,7 +97,7 @@ fn of_two_refusals_the_one_checked_first_decides() {
             expected.extend(&numbers[..count]);
             expected.extend([1, number.min(5), number]);
         }
-        let files = damage::pairs_of_refusals(edition);
+        let files = checking_order::pairs_of_refusals(edition);
         let verdicts = files.iter().map(|file| check_job_up_to(edition, file));
         let found: Vec<u16> = verdicts.map(|v| number_and_place(&v).0).collect();
         assert_eq!(found, expected);
@@ -158,7 +158,7 @@ fn ranges_end_where_the_paper_says() {
 
 #[test]
 fn the_earlier_table_is_the_place_of_two_broken_records() {
-    let found = all_well_formedness(damage::two_broken_records(1));
+    let found = all_well_formedness(ranges::two_broken_records(1));
     let places: Vec<u16> = found.iter().map(|&(_, place)| place).collect();
     // The first table's records are 7 and 8, the second's 6 and 7, and so on.
     assert_eq!(places[..10], [7, 7, 8, 7, 8, 6, 7, 8, 6, 7]);

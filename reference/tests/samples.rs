@@ -1,7 +1,8 @@
 //! The sample jobs and their sheets are those that this program makes.
 
-use reference::samples::sample;
-use reference::show::show;
+use reference::job::LATEST_EDITION;
+use reference::samples::{sample, stored_samples};
+use reference::show::{show, show_up_to};
 use std::fs;
 use std::path::PathBuf;
 
@@ -13,17 +14,37 @@ fn stored(name: &str) -> PathBuf {
 
 #[test]
 fn samples_are_current() {
-    for name in [
-        "paper",
-        "deck-resigned",
-        "fixed-restart",
-        "handsets",
-        "refused",
-        "longest",
-    ] {
+    for name in stored_samples(LATEST_EDITION) {
         let job = fs::read(stored(&format!("{name}.job"))).unwrap();
         let sheet = fs::read_to_string(stored(&format!("{name}.sheet"))).unwrap();
         assert_eq!(job, sample(name).unwrap().to_file(), "{name}.job");
         assert_eq!(sheet, show(&job), "{name}.sheet");
     }
+}
+
+fn shown(name: &str) -> String {
+    show_up_to(2, &sample(name).expect("a sample").to_file())
+}
+
+#[test]
+fn the_barrier_limits_every_step() {
+    let sheet = "\
+steps 3 rounds 1
+step 0 earliest 0 latest 29
+step 1 earliest 61 latest 359
+step 2 earliest 481 latest 525
+order 0 1 31
+order 1 2 121
+";
+    assert_eq!(shown("barriers"), sheet);
+}
+
+#[test]
+fn the_longest_job_and_the_longest_sheet() {
+    let longest = sample("longest-timed").expect("a sample").to_file();
+    assert_eq!(longest.len(), 17_268);
+    let sheet = shown("longest-sheet");
+    let window = "earliest 1000000 latest 1099999";
+    assert_eq!(sheet.matches(window).count(), 64);
+    assert_eq!(sheet.matches(" -99999\n").count(), 4_032);
 }

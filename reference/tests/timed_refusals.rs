@@ -3,7 +3,7 @@
 
 use reference::job::Job;
 use reference::make::telling::empty_job;
-use reference::make::{damage, timed_edges, timed_timings};
+use reference::make::{damage, ranges, timed_edges, timed_timings};
 use reference::refusal::number_and_place;
 use reference::timing::{check_job_up_to, check_timing_up_to};
 use reference::well_formed::well_formed_up_to;
@@ -163,7 +163,7 @@ fn timed_facts_come_after_the_goals() {
     assert_eq!(well_formedness(&job.to_file()), (6, 1));
     job.goals[0].value = 2;
     assert_eq!(well_formedness(&job.to_file()), (6, 0));
-    let found = damage::two_broken_records(2);
+    let found = ranges::two_broken_records(2);
     let found: Vec<(u16, u16)> = found
         .iter()
         .map(|job| well_formedness(&job.to_file()))

@@ -6,7 +6,6 @@ use reference::job::Job;
 use reference::loosen::{loosen_up_to, order_file_up_to};
 use reference::made::made_case_of;
 use reference::make::bench_jobs::{bench_job, timed_bench_job, SPREADS, TIMED_SPREADS};
-use reference::make::damage;
 use reference::make::edges::edges;
 use reference::make::highest::{
     chain_of_all_steps, every_pair_ordered_both_ways, highest_job, highest_timed_job,
@@ -17,6 +16,7 @@ use reference::make::sound::{sound_job, Shape};
 use reference::make::telling::telling_jobs;
 use reference::make::timed_edges::timed_edges;
 use reference::make::timed_telling::timed_telling_jobs;
+use reference::make::{checking_order, damage, ranges};
 use reference::random::Random;
 use reference::refusal::number_and_place;
 use reference::timing::check_job_up_to;
@@ -68,14 +68,14 @@ fn on_damaged_jobs() {
             damage::too_short(&file),
             damage::layouts(&file),
             damage::each_byte(&file),
-            damage::pairs_of_refusals(edition),
+            checking_order::pairs_of_refusals(edition),
         ]
         .concat()
         {
             compare(&file);
         }
-        compare_all(&damage::ranges(&job));
-        compare_all(&damage::two_broken_records(edition));
+        compare_all(&ranges::ranges(&job));
+        compare_all(&ranges::two_broken_records(edition));
         compare_all(&damage::counts_at_highest(edition));
         compare_all(&damage::counts_one_above(edition));
     }

@@ -54,8 +54,8 @@ pub fn bench_job(spread: Spread, steps: usize) -> Job {
     sound_job(&mut Random::seeded(steps as u64), &shape(spread, steps))
 }
 
-/// The jobs of edition 2: as large as jobs can be, with 64 timed facts spread over the facts, or all
-/// on one fact.
+/// The jobs of edition 2: as large as jobs can be, with 64 timed facts spread over the facts, or
+/// all on one fact.
 pub const TIMED_SPREADS: [Spread; 2] = [Spread::ManyFacts, Spread::OneFact];
 
 pub fn timed_bench_job(spread: Spread) -> Job {

@@ -31,6 +31,20 @@ pub fn every_pair_ordered_both_ways() -> Job {
     job
 }
 
+/// Nothing that `show` prints is longer: 4,032 orders with gaps of six signs, and 64 steps with
+/// windows of seven digits, given by the clock alone.
+pub fn longest_sheet() -> Job {
+    let mut job = Job::with_facts(&[0]).level(64, 0, 64);
+    for step in 0..HIGHEST[2] {
+        job = job
+            .step(1_000_000, 100_000)
+            .condition(step, 0, 0, 0, 1)
+            .uses(step, 0, 0, -1)
+            .uses(step, 0, 100_000, 1);
+    }
+    job.timed(0, 999_999, 1).timed(0, 1_100_000, 0)
+}
+
 /// 64 steps, each supporting the one numbered before it: 64 rounds.
 pub fn chain_of_all_steps() -> Job {
     let steps = HIGHEST[2];

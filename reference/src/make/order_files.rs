@@ -43,8 +43,8 @@ pub fn plain_file() -> OrderFile {
     }
 }
 
-/// A file of the reader's own kind: it need not come from any job. Its links are those of jobs up to
-/// this edition.
+/// A file of the reader's own kind: it need not come from any job. Its links are those of jobs up
+/// to this edition.
 pub fn some_file(random: &mut Random, edition: u16) -> OrderFile {
     let steps = random.below(6);
     let mut orders = Vec::new();

@@ -23,18 +23,7 @@ pub fn scribbled_job(random: &mut Random, edition: u16) -> Job {
         });
     }
     if !job.steps.is_empty() {
-        let often = 1 + random.below(6);
-        job.conditions = (0..random.below(often))
-            .map(|_| condition(random, &job))
-            .collect();
-        job.effects = (0..random.below(often))
-            .map(|_| effect(random, &job))
-            .collect();
-        if levels > 0 {
-            job.uses = (0..random.below(often))
-                .map(|_| used(random, &job))
-                .collect();
-        }
+        scribble_points(random, &mut job);
     }
     job.goals = (0..random.below(3)).map(|_| goal(random, &job)).collect();
     if edition > 1 {
@@ -43,6 +32,21 @@ pub fn scribbled_job(random: &mut Random, edition: u16) -> Job {
             .collect();
     }
     job
+}
+
+fn scribble_points(random: &mut Random, job: &mut Job) {
+    let often = 1 + random.below(6);
+    job.conditions = (0..random.below(often))
+        .map(|_| condition(random, job))
+        .collect();
+    job.effects = (0..random.below(often))
+        .map(|_| effect(random, job))
+        .collect();
+    if !job.levels.is_empty() {
+        job.uses = (0..random.below(often))
+            .map(|_| used(random, job))
+            .collect();
+    }
 }
 
 fn bit(random: &mut Random) -> u16 {
@@ -104,7 +108,7 @@ fn goal(random: &mut Random, job: &Job) -> Goal {
     }
 }
 
-/// Now and then the tick of another.
+/// So few ticks that some come twice.
 fn timed_fact(random: &mut Random, job: &Job) -> TimedFact {
     TimedFact {
         fact: random.below(job.facts.len()),

@@ -1,5 +1,5 @@
-//! Jobs of edition 2 at the edge of the refusals that timed facts bring about, 17, 10, 11 and 13, on
-//! either side of it.
+//! Jobs of edition 2 at the edge of the refusals that timed facts bring about, 17, 10, 11 and 13,
+//! on either side of it.
 
 use crate::job::Job;
 

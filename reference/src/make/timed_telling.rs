@@ -380,6 +380,10 @@ macro_rules! by_name {
 
 /// All of them, with their names.
 pub fn timed_telling_jobs() -> Vec<(&'static str, Job)> {
+    [of_supporters(), of_limits(), of_rounds()].concat()
+}
+
+fn of_supporters() -> Vec<(&'static str, Job)> {
     by_name![
         small_job_of_edition_2,
         timed_facts_without_steps,
@@ -397,6 +401,11 @@ pub fn timed_telling_jobs() -> Vec<(&'static str, Job)> {
         opposing_timed_fact_after_the_condition,
         timed_fact_gives_zero,
         highest_link_of_a_job,
+    ]
+}
+
+fn of_limits() -> Vec<(&'static str, Job)> {
+    by_name![
         timed_fact_after_a_condition,
         timed_fact_right_after_a_condition,
         opposing_timed_fact_before_a_condition,
@@ -416,6 +425,11 @@ pub fn timed_telling_jobs() -> Vec<(&'static str, Job)> {
         goal_regained_by_the_clock,
         highest_tick,
         highest_limit,
+    ]
+}
+
+fn of_rounds() -> Vec<(&'static str, Job)> {
+    by_name![
         rounds_begin_with_the_limits,
         limit_higher_than_what_an_order_demands,
         chain_behind_the_clock,

@@ -78,8 +78,8 @@ impl Limits {
         }
     }
 
-    /// Rules 2 and 3: points before opposing timed facts, back in time. An opposing timed fact after
-    /// a condition's first tick comes after its last.
+    /// Rules 2 and 3: points before opposing timed facts, back in time. What opposes a condition
+    /// after its first tick comes after its last.
     fn before_timed(
         &mut self,
         form: &Form,

@@ -5,7 +5,6 @@ use reference::bytes::u16_at;
 use reference::job::{Job, LATEST_EDITION};
 use reference::made::some_edition;
 use reference::make::bench_jobs::{bench_job, timed_bench_job, SPREADS, TIMED_SPREADS};
-use reference::make::damage;
 use reference::make::edges::edges;
 use reference::make::highest::{chain_of_all_steps, every_pair_ordered_both_ways};
 use reference::make::near_miss::{near_miss, nearly_missed};
@@ -21,6 +20,7 @@ use reference::make::timed_edges::timed_edges;
 use reference::make::timed_telling::timed_telling_jobs;
 use reference::make::timed_timings::timed_timings;
 use reference::make::timings::{some_starts, telling_timings};
+use reference::make::{checking_order, damage, ranges};
 use reference::order_file::OrderFile;
 use reference::random::Random;
 
@@ -53,7 +53,7 @@ impl Pool {
     /// What the jobs of an edition add, and the order files that they make possible.
     fn add_edition(&mut self, random: &mut Random, edition: u16) {
         let mut jobs = by_hand(edition);
-        jobs.extend(damage::ranges(&damage::full_job_of(edition)));
+        jobs.extend(ranges::ranges(&damage::full_job_of(edition)));
         for number in nearly_missed(edition) {
             jobs.extend((0..NEAR_MISSES).map(|_| near_miss(random, edition, number)));
         }
@@ -103,7 +103,7 @@ fn damaged(edition: u16) -> Vec<Vec<u8>> {
         damage::too_short(&file),
         damage::layouts(&file),
         damage::each_byte(&file),
-        damage::one_of_each(edition),
+        checking_order::one_of_each(edition),
     ]
     .concat()
 }
