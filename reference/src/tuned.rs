@@ -4,6 +4,7 @@
 //! The points of a job are grouped by fact or level and sorted by tick within a group, so that one
 //! walk along a fact meets everything in time order. All that is kept is on the stack.
 
+mod clock;
 mod form;
 mod limits;
 mod nearest;
@@ -14,6 +15,7 @@ mod write;
 
 use crate::job::LATEST_EDITION;
 use crate::refusal::{number_and_place, refuse_if, Refusal, Verdict};
+use clock::Clock;
 use form::Form;
 use limits::Limits;
 use nearest::Nearest;
@@ -34,7 +36,8 @@ fn check_into(latest: u16, job: &[u8], links: &mut Links) -> Verdict {
     let form = Form::read(latest, job)?;
     let mut points = Points::NONE;
     points.gather(&form);
-    sound::link(&form, &points, links)
+    let clock = Clock::of(&form, &points);
+    sound::link(&form, &points, clock.as_ref(), links)
 }
 
 /// The number, place and length of loosening. A refusal changes no byte of the buffer.
@@ -52,12 +55,13 @@ fn partialize_into(latest: u16, job: &[u8], out: &mut [u8]) -> Result<usize, Ref
     let form = Form::read(latest, job)?;
     let (mut points, mut links) = (Points::NONE, UNLINKED);
     points.gather(&form);
-    sound::link(&form, &points, &mut links)?;
+    let clock = Clock::of(&form, &points);
+    sound::link(&form, &points, clock.as_ref(), &mut links)?;
     let mut nearest = Nearest::NONE;
     nearest.find(&form, &points, &links);
     let length = write::length(&form, &nearest);
     refuse_if(15, out.len() < length)?;
-    let limits = Limits::of(&form, &points, &links);
+    let limits = Limits::of(&form, &points, clock.as_ref(), &links);
     write::write(&form, &links, &nearest, &limits, &mut out[..length]);
     Ok(length)
 }

@@ -1,5 +1,6 @@
 //! Limits: earliest limits and latest starts, from written starts, deadlines and timed facts.
 
+use super::clock::Clock;
 use super::form::{Form, STEPS};
 use super::points::{Point, Points};
 use super::sound::Links;
@@ -13,14 +14,14 @@ pub struct Limits {
 }
 
 impl Limits {
-    pub fn of(form: &Form, points: &Points, links: &Links) -> Limits {
+    pub fn of(form: &Form, points: &Points, clock: Option<&Clock>, links: &Links) -> Limits {
         let mut limits = Limits {
             earliest: [0; STEPS],
             latest: [NONE; STEPS],
         };
         limits.deadlines(form, links);
-        if !form.timed.is_empty() {
-            limits.timed_facts(form, points, links);
+        if let Some(clock) = clock {
+            limits.timed_facts(form, points, clock, links);
         }
         limits.fixed_steps(form);
         limits
@@ -48,9 +49,9 @@ impl Limits {
 
     /// Rules 1 to 3 against timed facts. Of those before a point that limit it the last is the
     /// tightest, of those after it the first.
-    fn timed_facts(&mut self, form: &Form, points: &Points, links: &Links) {
+    fn timed_facts(&mut self, form: &Form, points: &Points, clock: &Clock, links: &Links) {
         for fact in 0..form.facts.len() {
-            let timed = points.timed.group(fact);
+            let timed = clock.timed.group(fact);
             if timed.is_empty() {
                 continue;
             }

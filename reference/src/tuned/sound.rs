@@ -1,7 +1,8 @@
 //! Refusals 7, 17 and 10 to 14, and the links, which the walk along each fact meets anyway.
 
+use super::clock::Clock;
 use super::form::{Form, Steps, STEPS};
-use super::points::{Point, Points, UNMERGED};
+use super::points::{Point, Points};
 use crate::bytes::{i32_at, u16_at, u32_at};
 use crate::order_file::{FIRST_TIMED, INITIAL_STATE, MOST_LINKS};
 use crate::refusal::{refuse_at, Verdict};
@@ -12,13 +13,15 @@ pub type Links = [u16; MOST_LINKS];
 pub const UNLINKED: Links = [INITIAL_STATE; MOST_LINKS];
 
 /// Refuses a job that is not sound, else finds its links.
-pub fn link(form: &Form, points: &Points, links: &mut Links) -> Verdict {
+pub fn link(form: &Form, points: &Points, clock: Option<&Clock>, links: &mut Links) -> Verdict {
     let mut found = Found::default();
     // What supports each fact in the end.
     let mut ends = [INITIAL_STATE; 256];
-    let mut merged = UNMERGED;
     for (fact, &initial) in form.facts.iter().enumerate() {
-        let setters = points.setters(fact, &mut merged);
+        let setters = match clock {
+            Some(clock) => clock.setters.group(fact),
+            None => points.effects.group(fact),
+        };
         found.meetings(setters);
         let mut walk = Walk::new(initial, setters);
         for &condition in points.conditions.group(fact) {
