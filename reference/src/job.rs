@@ -1,7 +1,8 @@
 //! A job: the records it holds, and the layout of its file.
 
-/// The latest edition that is taken: refusal 2 is for a later one, and made jobs, stored cases and
-/// comparisons are of editions up to this. What ends in `_up_to` takes the latest edition as told.
+/// The latest edition that is taken. On it depend refusal 2, the highest link that is read from an
+/// order file, and of which editions made jobs, stored cases and comparisons are. What ends in
+/// `_up_to` is told the latest edition instead.
 pub const LATEST_EDITION: u16 = 1;
 
 /// Everything "a table each" is in the tables' order:

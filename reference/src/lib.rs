@@ -1,5 +1,5 @@
-//! The second program: the literal meaning of every rule of document 01, one function a rule,
-//! with made jobs and the answers expected of them.
+//! The second program: the literal meaning of every rule of document 01 and of request a) of
+//! document 02, one function a rule, with made jobs and the answers expected of them.
 
 pub mod brute;
 pub mod bytes;

@@ -48,6 +48,7 @@ fn well_formedness_cases() -> Vec<Case> {
         damage::layouts(&file),
         damage::layouts(&empty_job().edition(2).to_file()),
         empty_jobs_between_the_editions(),
+        damage::effects_and_timed_facts_past_counting(&file),
         to_files(damage::counts_at_highest(2)),
         to_files(damage::counts_one_above(2)),
         to_files(ranges::ranges(&full)),

@@ -112,6 +112,7 @@ fn the_tenth_number_is_a_count_in_edition_2_only() {
     }
     (file[18], file[19]) = (3, 1);
     assert_eq!(well_formedness(&file), (4, 65_535));
+    all_are(&damage::effects_and_timed_facts_past_counting(&file), 4);
 }
 
 #[test]

@@ -62,7 +62,7 @@ fn choices_that_obey_their_files_are_sound_and_end_alike() {
             try_anywhere(&job, &mut random, &mut tried).unwrap_or_else(|broken| panic!("{broken}"));
         }
     }
-    assert_eq!(tried.choices, 38 * 5 * 60);
+    assert_eq!(tried.choices, 39 * 5 * 60);
 }
 
 #[test]
@@ -205,6 +205,19 @@ fn a_goal_of_the_clock_limits_nobody() {
     let job = goal_regained_by_the_clock;
     assert_eq!(links(job()), [513]);
     assert_eq!((limits(job()), latest(job())), (vec![0, 5], vec![2, -1]));
+}
+
+#[test]
+fn links_to_timed_facts_are_no_numbers_of_effects() {
+    let job = links_past_a_full_table_of_effects;
+    assert_eq!(job().effects.len(), 512);
+    assert_eq!(links(job()), [512, 512]);
+    // Read so, step 3 would come before step 5 and have the latest start 200.
+    assert_eq!(orders(job()), []);
+    assert_eq!(latest(job()), [-1; 64]);
+    let mut expected = [0; 64];
+    expected[5] = 49;
+    assert_eq!(limits(job()), expected);
 }
 
 #[test]

@@ -144,6 +144,19 @@ pub fn wrong_counts(file: &[u8]) -> Vec<Vec<u8>> {
     files
 }
 
+/// Refusal 4: effects and timed facts that together come to 65,536 or more, so that their sum in a
+/// u16 would begin again at 0.
+pub fn effects_and_timed_facts_past_counting(file: &[u8]) -> Vec<Vec<u8>> {
+    let (effects_at, timed_at) = (COUNTS_AT[4], COUNTS_AT[7]);
+    let counts: [(u16, u16); 4] = [(65_472, 64), (65_535, 3), (65_535, 65_535), (2, 65_535)];
+    counts
+        .map(|(effects, timed)| {
+            let file = patched(file, effects_at, &effects.to_le_bytes());
+            patched(&file, timed_at, &timed.to_le_bytes())
+        })
+        .to_vec()
+}
+
 /// Refusal 5: offsets off by a little, by a lot, and swapped.
 pub fn wrong_offsets(file: &[u8]) -> Vec<Vec<u8>> {
     let tables = tables_of(edition_in(file));

@@ -316,6 +316,23 @@ pub fn goal_regained_by_the_clock() -> Job {
         .goal_by(0, 1, 9)
 }
 
+/// With 512 effects a link to a timed fact, read as an effect's number, would lead into the uses:
+/// here to step 3, which nothing orders or limits.
+pub fn links_past_a_full_table_of_effects() -> Job {
+    let mut job = Job::with_facts(&[0, 0]).level(0, 0, 1);
+    for step in 0..HIGHEST[2] {
+        job = job.step(100, 20);
+        for at in 0..8 {
+            job = job.effect(step, 1, at, 1);
+        }
+    }
+    job.condition(5, 0, 2, 2, 1)
+        .uses(3, 0, 0, 1)
+        .timed(0, 50, 1)
+        .timed(0, 60, 1)
+        .goal_by(0, 1, 200)
+}
+
 /// The highest tick and the highest step before it.
 pub fn highest_tick() -> Job {
     Job::with_facts(&[1])
@@ -423,6 +440,7 @@ fn of_limits() -> Vec<(&'static str, Job)> {
         fixed_step_supported_by_the_clock,
         goal_supported_by_the_clock,
         goal_regained_by_the_clock,
+        links_past_a_full_table_of_effects,
         highest_tick,
         highest_limit,
     ]
