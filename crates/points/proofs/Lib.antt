@@ -1,4 +1,4 @@
--- How words are put and, once sorted, stand, and what the setters of a fact say of the value seen.
+-- How words are put and, once sorted, stand, what the setters of a fact say of the value seen, and the points without timed facts.
 pub mod ClockedRange
 pub mod Placing
 pub mod Putting

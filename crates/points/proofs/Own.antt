@@ -1,9 +1,8 @@
 -- The points of a job without timed facts.
-use Prim.Native.Nat.{ℕ, _+_, _<_}
-use mathlib.Core.Path.{_≡_, refl, sym, ap₂, _∙_}
+use Prim.Native.Nat.{ℕ, _<_}
+use mathlib.Core.Path.{_≡_, refl, sym, _∙_}
 use mathlib.Core.List.{List}
 use native.Mathlib.Omega.{arith}
-use lib.ListN.{getD}
 use Rattle.job.specs.declared.layout.Job.{Job}
 use Rattle.job.specs.Model.{Model, view}
 use Rattle.job.specs.WellFormed.{Ranged}
