@@ -3,3 +3,4 @@ pub mod Supported
 pub mod Putting
 pub mod Linking
 pub mod LinkList
+pub mod Numbered

@@ -2,3 +2,4 @@
 pub mod LinkList
 pub mod Linkable
 pub mod Linking
+pub mod Numbered

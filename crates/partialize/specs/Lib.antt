@@ -4,5 +4,4 @@ pub mod Answer
 pub mod Partialization
 pub mod Demands
 pub mod Found
-pub mod Numbered
 pub mod Holds

@@ -12,15 +12,14 @@ ghost use Rattle.partialize.specs.Holds.{Fileable, Filing, FiledOf};
 ghost use Rattle.partialize.specs.Demands.{Promise};
 
 pub mod answer;
-mod numbers;
 
 use answer::Answer;
 use gaps::fill;
 use job::layout::Job;
 use limits::earliest;
 use limits::latest;
+use links::numbers::number_links;
 use links::support;
-use numbers::number_links;
 use order_file::layout::MOST_LINKS;
 use order_file::layout::NO_LATEST;
 use order_file::layout::link_at;

@@ -11,7 +11,7 @@ use lib.ListN.{getD, replicate, getD-replicate}
 use lib.Dec.{eqb}
 use Rattle.laws.specs.Search.{all, lowest}
 use Rattle.laws.proofs.Search.{all-cong, lowest-start, lowest-more, lowest-found, lowest-end}
-use Rattle.job.specs.Model.{lastStart}
+use Rattle.limits.specs.Timed.{mostLimit}
 use Rattle.order_file.specs.Contents.{noLatest, gapBias, mostGap}
 use Rattle.order_file.specs.Table.{rowWidth, entryBias, tableBias, gapIn, startIn, Gaps}
 use Rattle.windows.specs.Starts.{Bounded}
@@ -101,7 +101,7 @@ rows-bounded n gaps before i at g b l w =
 
 -- The rows that a round may skip: none in the first, and what a round has given stays.
 pub given-start :
-    (n : ℕ) (gap : ℕ → ℕ → ℕ) (bias : ℕ) (limits : List ℕ) → Bounded n lastStart limits → n ≤ rowWidth
+    (n : ℕ) (gap : ℕ → ℕ → ℕ) (bias : ℕ) (limits : List ℕ) → Bounded n mostLimit limits → n ≤ rowWidth
     → Given n gap bias (startIn (replicate rowWidth noLatest)) (startIn limits)
 given-start n gap bias limits b m =
     record { given = λ i k l h e. absurd (omega (arith, b .most i l, getD-replicate {A = ℕ} rowWidth i noLatest 0 (omega arith))) }
@@ -187,9 +187,9 @@ module _ (n : ℕ) (gap : ℕ → ℕ → ℕ) (bias : ℕ) (before : List ℕ) 
         in
         (e, (filled-earliest (r + 1) next e filled-next, omega arith))
 
--- as many rounds as steps, from limits of at most 1,000,000, stay below the bound
+-- as many rounds as steps, from limits of at most 1,100,001, stay below the bound
 pub reached-bounded :
-    (n : ℕ) (gaps before : List ℕ) (r : ℕ) (starts : List ℕ) → Gaps gaps → Bounded n lastStart before → n ≤ rowWidth
+    (n : ℕ) (gaps before : List ℕ) (r : ℕ) (starts : List ℕ) → Gaps gaps → Bounded n mostLimit before → n ≤ rowWidth
     → Reached n (gapIn gaps) gapBias before r starts
     → Bounded n (aboveStarts - 1) starts
 reached-bounded n gaps before r starts g b h w =
@@ -200,6 +200,6 @@ reached-bounded n gaps before r starts g b h w =
             arith,
             w .count,
             w .filled .below k l,
-            after-most n (gapIn gaps) gapBias (startIn before) lastStart (mostGap - gapBias) (b .most) (λ i j l. gap-most gaps g i j) r k l,
+            after-most n (gapIn gaps) gapBias (startIn before) mostLimit (mostGap - gapBias) (b .most) (λ i j l. gap-most gaps g i j) r k l,
           );
     }

@@ -7,9 +7,9 @@ use order_file::table::ENTRY_BIAS;
 use order_file::table::WIDTH;
 use order_file::table::higher;
 ghost use Rattle.laws.specs.Search.{all};
-ghost use Rattle.job.specs.Model.{lastStart};
 ghost use Rattle.rounds.specs.Rounds.{demand, raised, rounds, earliest};
 ghost use Rattle.windows.specs.Loops.{aboveStarts, Given};
+ghost use Rattle.limits.specs.Timed.{mostLimit};
 ghost use Rattle.order_file.specs.Contents.{gapBias};
 ghost use Rattle.order_file.specs.Table.{rowWidth, entryBias, gapIn, startIn, Gaps};
 ghost use Rattle.windows.specs.Starts.{Bounded};
@@ -122,7 +122,7 @@ impl Starts {
 
 // The earliest starts of the first n steps at or after their limits, with the rounds up to the first that changes nothing, at most n.
 pub fn earliest_starts(limits: Starts, n: usize, gaps: &[u32]) -> Earliest
-    requires { ⌜ Gaps (now gaps) × Bounded n lastStart (limits .at) × (n ≤ rowWidth) ⌝ }
+    requires { ⌜ Gaps (now gaps) × Bounded n mostLimit (limits .at) × (n ≤ rowWidth) ⌝ }
     ensures { λ r. ⌜ r .rounds ≡ rounds n (gapIn (now (gaps .entry))) gapBias (startIn (limits .at)) ⌝ }
     ensures { λ r. ⌜ Filled n (earliest n (gapIn (now (gaps .entry))) gapBias (startIn (limits .at))) (limits .at) (r .starts .at) ⌝ }
     ensures { λ r. ⌜ r .rounds ≤ n ⌝ }

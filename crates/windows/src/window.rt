@@ -2,11 +2,11 @@
 ghost use mathlib.Core.Path.{_≡_};
 ghost use Prim.Native.Nat.{ℕ, _+_, _-_, _≤_, _<_, min};
 ghost use lib.ListN.{length};
-ghost use Rattle.job.specs.Model.{lastStart, view};
+ghost use Rattle.job.specs.Model.{view};
 ghost use Rattle.job.specs.WellFormed.{WellFormed};
-ghost use Rattle.order_file.specs.Table.{rowWidth, startIn};
-ghost use Rattle.orders.specs.Windows.{limitOf};
-ghost use Rattle.windows.specs.Starts.{Bounded, LatestStarts};
+ghost use Rattle.order_file.specs.Table.{rowWidth};
+ghost use Rattle.limits.specs.Timed.{mostLimit, ClockLimits};
+ghost use Rattle.windows.specs.Starts.{Bounded, Limits, LatestStarts};
 ghost use Rattle.windows.specs.Loops.{fixedStart, FixedStarts, Lowering, Lowered};
 use crate::starts::Starts;
 use job::layout::Job;
@@ -16,8 +16,6 @@ use job::records::effect_step;
 use job::records::step_fixed;
 use job::records::step_start;
 use job_reader::reader::goal_at;
-use order_file::layout::INITIAL_STATE;
-use order_file::layout::NO_LATEST;
 use order_file::table::WIDTH;
 
 // The written start of a fixed step, else `none`.
@@ -31,27 +29,28 @@ fn fixed_start(s: &[u8], job: Job, none: u32, k: u16) -> u32
     }
 }
 
-fn fixed_starts(s: &[u8], job: Job, none: u32) -> Starts
-    requires { ⌜ WellFormed (view job (now s)) ⌝ }
-    ensures { λ r. ⌜ FixedStarts (view job (now (s .entry))) none (r .at) ⌝ }
+// The written starts of fixed steps, and those of the clock's list for all others.
+fn fixed_starts(s: &[u8], job: Job, clock: &[u32]) -> Starts
+    requires { ⌜ WellFormed (view job (now s)) × (length (now clock) ≡ rowWidth) ⌝ }
+    ensures { λ r. ⌜ FixedStarts (view job (now (s .entry))) (now (clock .entry)) (r .at) ⌝ }
 {
     let n = job.count.steps;
     let mut at = [0; WIDTH];
     let mut k = 0;
     while k < n {
-        at[k as usize] = fixed_start(s, job, none, k);
+        at[k as usize] = fixed_start(s, job, clock[k as usize], k);
         k += 1;
     }
     Starts { at }
 }
 
-// The earliest limits of the steps.
-pub fn limits(s: &[u8], job: Job) -> Starts
-    requires { ⌜ WellFormed (view job (now s)) ⌝ }
-    ensures { λ r. ⌜ ((k : ℕ) → k < job .count .steps → startIn (r .at) k ≡ limitOf (view job (now (s .entry))) k) ⌝ }
-    ensures { λ r. ⌜ Bounded (job .count .steps) lastStart (r .at) ⌝ }
+// The earliest limits of the steps, by those that timed facts leave.
+pub fn limits(s: &[u8], job: Job, clock: &[u32]) -> Starts
+    requires { ⌜ WellFormed (view job (now s)) × ((x : ℕ → ℕ) × ClockLimits (view job (now s)) x (now clock)) ⌝ }
+    ensures { λ r. ⌜ Limits (view job (now (s .entry))) (now (clock .entry)) (r .at) ⌝ }
+    ensures { λ r. ⌜ Bounded (job .count .steps) mostLimit (r .at) ⌝ }
 {
-    fixed_starts(s, job, 0)
+    fixed_starts(s, job, clock)
 }
 
 // A difference, 0 where it would lie below 0.
@@ -67,7 +66,8 @@ fn lower(a: u32, b: u32) -> u32
     if b < a { b } else { a }
 }
 
-// Lowers the latest start of the step whose effect supports goal g to what the deadline allows; a fixed step keeps its own.
+// Lowers the latest start of the step whose effect supports goal g to what the deadline allows; a fixed step keeps its own. A goal supported
+// by the initial state or by a timed fact limits nobody: their numbers are above those of all effects.
 fn lower_latest(s: &[u8], job: Job, links: &[u16], g: u16, at: &mut [u32; WIDTH])
     requires { ⌜ Lowering (view job (now s)) (now links) (now at) × (g < job .count .goals) ⌝ }
     ensures { λ _. ⌜ Lowered (view job (now (s .entry))) (now (links .entry)) g (now (at .entry)) (now (at .exit)) ⌝ }
@@ -77,7 +77,7 @@ fn lower_latest(s: &[u8], job: Job, links: &[u16], g: u16, at: &mut [u32; WIDTH]
     let link = links[job.count.conditions as usize + g as usize];
     let k = effect_step(s, job, link);
     if (deadline != NO_DEADLINE)
-        & (link != INITIAL_STATE)
+        & (link < job.count.effects)
         & (k < job.count.steps)
         & (step_fixed(s, job, k) != 1)
     {
@@ -86,14 +86,15 @@ fn lower_latest(s: &[u8], job: Job, links: &[u16], g: u16, at: &mut [u32; WIDTH]
     }
 }
 
-// The latest starts of the steps, by the links of a schedule.
-pub fn latest_starts(s: &[u8], job: Job, links: &[u16]) -> Starts
-    requires { ⌜ WellFormed (view job (now s)) × (job .count .conditions + job .count .goals ≤ length (now links)) ⌝ }
-    ensures { λ r. ⌜ LatestStarts (view job (now (s .entry))) (now (links .entry)) (r .at) ⌝ }
+// The latest starts of the steps, by the links of a schedule and by those that timed facts leave.
+pub fn latest_starts(s: &[u8], job: Job, links: &[u16], clock: &[u32]) -> Starts
+    requires { ⌜ WellFormed (view job (now s)) × (job .count .conditions + job .count .goals ≤ length (now links))
+        × (length (now clock) ≡ rowWidth) ⌝ }
+    ensures { λ r. ⌜ LatestStarts (view job (now (s .entry))) (now (links .entry)) (now (clock .entry)) (r .at) ⌝ }
     ensures { λ r. ⌜ length (r .at) ≡ rowWidth ⌝ }
 {
     let n = job.count.goals;
-    let own = fixed_starts(s, job, NO_LATEST);
+    let own = fixed_starts(s, job, clock);
     let mut at = own.at;
     let mut g = 0;
     while g < n {

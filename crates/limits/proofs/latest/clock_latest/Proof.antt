@@ -8,7 +8,7 @@ use Rattle.validity.specs.Ticks.{scheduleOf}
 use Rattle.limits.specs.Moved.{Down, Moved, Among, Sooner, Ended, LatestBy}
 use Rattle.limits.proofs.Moved.{down-same, down-on, moved-empty, moved-more, moved-all, moved-fact}
 use Rattle.limits.proofs.Lowered.{latest-are}
-use Rattle.limits.proofs.Grouped.{timed-group, timed-late, setters-begun, wanted-begun}
+use Rattle.limits.proofs.Grouped.{timed-group, timed-late, setters-begun, wanted-known}
 use Rattle.limits.proofs.latest.clock_latest.Statement.{statement}
 use Rattle.limits.proofs.latest.clock_latest.Tie as tie
 
@@ -80,11 +80,12 @@ clock-latest-spec =
     let d = test .before .before .before .before .before .before .before .before in
     let t = test .loop-test .taken in
     let e = made .timed-of .ensures in (
-      scheduleOf (now (d .args .starts)),
-      wanted-begun (d .pre .0) t e
+      wanted-known (d .pre .0) t e
           (omega (arith, d .pre .0 .form .stepCount, d .pre .2 .size, test .before .loop .inv .1 .size, lowered .lower-setters .ensures .size))
           (c .before .before .begin-at3 .ensures .0) (c .before .begin-at4 .ensures .0),
       timed-late (d .pre .0) t e,
+      d .pre .0 .form,
+      d .pre .1,
     ))
     (λ c.
     let test = c .before .before .before .before .before .before .before .before .before .before .before .before .before .before in

@@ -15,18 +15,19 @@ lower-conditions-spec =
     (λ s job points low high timed latest₀ p₀ latest p.
     (low ≤ p) × (p ≤ high) × Moved Down (OfWords points low p (Ended (view job s) timed)) latest₀ latest)
     (λ s job points low high timed latest₀ p₀ latest p. high - p)
-    (λ c. (omega arith, c .before .before .before .pre .1 .begins, moved-empty Down down-same down-on _ _ _))
-    (λ c. search (needs, c .before .loop .inv .1, c .before .before .before .before .before .pre .1 .ends))
-    (λ c. omega (arith, c .before .loop-test .taken, c .before .before .before .before .before .before .pre .1 .ends))
+    (λ c. (omega arith, c .before .before .before .pre .0 .begins, moved-empty Down down-same down-on _ _ _))
+    (λ c. search (needs, c .before .loop .inv .1, c .before .before .before .before .before .pre .0 .ends))
+    (λ c. omega (arith, c .before .loop-test .taken, c .before .before .before .before .before .before .pre .0 .ends))
     (λ c κs.
     let test = c .before .before in
     let i = test .before .loop .inv in
     let d = test .before .before .before .before .before in
-    (omega (arith, d .pre .1 .step _ (i .0) (test .loop-test .taken), i .2 .size), d .pre .2))
+    let t = test .loop-test .taken in
+    (omega (arith, d .pre .0 .step _ (i .0) t, i .2 .size), d .pre .1, d .pre .2, d .pre .3, d .pre .0 .known _ (i .0) t))
     (λ c.
     let test = c .before .before .before .before .before in
     let d = test .before .before .before .before .before in
-    omega (arith, test .loop-test .taken, d .pre .1 .ends, d .fits))
+    omega (arith, test .loop-test .taken, d .pre .0 .ends, d .fits))
     (λ c. omega (arith, c .before .before .before .before .before .loop-test .taken))
     (λ c.
     let lowered = c .before .before in

@@ -1,7 +1,10 @@
--- A step that is not fixed may start at once.
-use native.Mathlib.Omega.{arith}
+-- The written start, or what timed facts leave.
+use mathlib.Core.Path.{ap, _∙_}
+use denote.Ref.{now}
+use Rattle.job.specs.Model.{view}
 use Rattle.orders.specs.Windows.{limitOf}
-use Rattle.orders.proofs.Near.{limit-most}
+use Rattle.windows.specs.Loops.{fixedStart}
+use Rattle.windows.proofs.Latest.{limits-bounded}
 use Rattle.windows.proofs.window.limits.Statement.{statement}
 use Rattle.windows.proofs.window.limits.Tie as tie
 
@@ -10,7 +13,10 @@ unfolding limitOf
 limits-spec =
     tie.close
     (tie.spec
-    (λ c κs. c .before .pre)
+    (λ c κs. let p = c .before .before .pre in (p .0, p .1 .1 .size))
     (λ c.
     let w = c .fixed-starts .ensures in
-    (w .each, record { size = w .size; most = λ k h. omega (arith, w .each k h, limit-most _ (c .before .before .pre) k h) })))
+    let p = c .before .before .before .pre in
+    let a = c .before .before .before .args in
+    let m = view (a .job) (now (a .s)) in
+    (λ x l k h. w .each k h ∙ ap (λ v. fixedStart m v k) (l .each k h), limits-bounded _ _ _ _ (p .0) (p .1 .1) w)))

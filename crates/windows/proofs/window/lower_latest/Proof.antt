@@ -18,44 +18,47 @@ lower-latest-spec =
     (λ c κs. search needs) (λ c. search needs) (λ c. search needs) (λ c. search needs) (λ c. search needs) (λ c κs. search needs)
     (λ c κs. search needs) (λ c κs. search needs) (λ c κs. search needs)
     (λ c.
-    let d = c .before .before .before .before .before .before .before .before in
+    let d = c .before .before .before .before .before .before .before .before .before in
     let p = d .before .before .before .pre in
     omega (arith, c .since .ensures, deadline-low (p .0 .form) _ (p .1) (ap (λ n. n .deadline) (d .goal-at .ensures))))
     (λ c. search needs) (λ c. search needs)
     (λ c.
     let t = c .before .before in
-    let e = t .before .before .before in
+    let e = t .before .before .before .before in
     let b = e .before .before .before .before .before .before in
-    omega (arith, ltb-true (e .effect-step .result) (b .args .job .count .steps) (search (and-l, and-r, t .if1 .taken)), b .pre .0 .form .stepCount))
+    let within = ltb-true (e .effect-step .result) (b .args .job .count .steps) (search (and-l, and-r, t .if1 .taken)) in
+    omega (arith, within, b .pre .0 .form .stepCount))
     (λ c κs. search needs) (λ c. search needs) (λ c. search needs)
     (λ c.
     let t = c .before .before .before .before in
-    let e = t .before .before .before in
+    let e = t .before .before .before .before in
     let b = e .before .before .before .before .before .before in
-    omega (arith, ltb-true (e .effect-step .result) (b .args .job .count .steps) (search (and-l, and-r, t .if1 .taken)), b .pre .0 .form .stepCount))
+    let within = ltb-true (e .effect-step .result) (b .args .job .count .steps) (search (and-l, and-r, t .if1 .taken)) in
+    omega (arith, within, b .pre .0 .form .stepCount))
     (λ c.
     let t = c .before .before .before .before in
     let f = t .before in
-    let e = f .before .before in
+    let e = f .before .before .before in
     let d = e .before .before .before in
     let b = d .before .before .before in
     let p = b .pre in
+    let within = ltb-true (e .effect-step .result) (b .args .job .count .steps) (search (and-l, and-r, t .if1 .taken)) in
     record {
       size = simp length-set (p .0 .size);
       goal = λ x l w.
-          latest-set _ x _ _ w (ap (λ n. n .deadline) (d .goal-at .ensures)) (goal-link _ _ _ l _ (p .1)) (e .effect-step .ensures) (f .step-fixed .ensures) _
-          (t .if1 .taken)
-          (omega (arith, ltb-true (e .effect-step .result) (b .args .job .count .steps) (search (and-l, and-r, t .if1 .taken)), p .0 .form .stepCount))
+          latest-set _ x (p .0 .form) _ _ w (ap (λ n. n .deadline) (d .goal-at .ensures)) (goal-link _ _ _ l _ (p .1)) (e .effect-step .ensures)
+          (f .step-fixed .ensures) _ (t .if1 .taken)
+          (omega (arith, within, p .0 .form .stepCount, p .0 .size))
           (c .lower .ensures ∙ ap (min _) (c .before .before .since .ensures ∙ ap (_-_ _) (c .before .before .before .effect-at .ensures .0)));
     })
     (λ c.
     let f = c .before in
-    let e = f .before .before in
+    let e = f .before .before .before in
     let d = e .before .before .before in
     let p = d .before .before .before .pre in
     record {
       size = p .0 .size;
       goal = λ x l w.
-          latest-same _ x _ _ w (ap (λ n. n .deadline) (d .goal-at .ensures)) (goal-link _ _ _ l _ (p .1)) (e .effect-step .ensures) (f .step-fixed .ensures)
-          (c .if1 .left);
+          latest-same _ x (p .0 .form) _ _ w (ap (λ n. n .deadline) (d .goal-at .ensures)) (goal-link _ _ _ l _ (p .1)) (e .effect-step .ensures)
+          (f .step-fixed .ensures) (c .if1 .left);
     }))

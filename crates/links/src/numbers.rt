@@ -1,17 +1,15 @@
 // The numbers that links have in the file: a timed fact's is 512 plus its own.
 ghost use mathlib.Core.Path.{_≡_};
-ghost use Prim.Native.Nat.{ℕ, _+_, _≤_, _<_};
+ghost use Prim.Native.Nat.{ℕ};
 ghost use mathlib.Core.List.{List};
-ghost use lib.ListN.{length};
-ghost use Rattle.job.specs.Layout.{mostEffects, mostTimed};
 ghost use Rattle.job.specs.Model.{view};
 ghost use Rattle.orders.specs.File.{linkNumber};
-ghost use Rattle.partialize.specs.Numbered.{LinkKnown, AllKnown, Numbered};
+ghost use Rattle.links.specs.Numbered.{Few, LinkKnown, AllKnown, Numbered};
 use job::layout::Job;
 use order_file::layout::INITIAL_STATE;
 
 fn link_number(job: Job, link: u16) -> u16
-    requires { ⌜ LinkKnown (job .count) link × (job .count .timed ≤ mostTimed) ⌝ }
+    requires { ⌜ LinkKnown (job .count) link × Few (job .count) ⌝ }
     ensures { λ r. ⌜ ((s : List ℕ) → r ≡ linkNumber (view job s) link) ⌝ }
 {
     if (link < job.count.effects) | (link == INITIAL_STATE) {

@@ -1,4 +1,4 @@
--- Inner: links by their numbers in the file.
+-- Between crates: links by their numbers in the file.
 use Prim.Native.Nat.{ℕ, _+_, _≤_, _<_}
 use mathlib.Core.Path.{_≡_}
 use mathlib.Core.List.{List}
@@ -10,13 +10,17 @@ use Rattle.job.specs.Model.{Model}
 use Rattle.order_file.specs.Contents.{initialState}
 use Rattle.orders.specs.File.{linkNumber}
 
+-- counts within the highest
+abbrev pub Few : Counts → Type 0
+Few n = (n .effects ≤ mostEffects) × (n .timed ≤ mostTimed)
+
 -- a link is an effect's number, one of a timed fact behind them, or stands for the initial state
 abbrev pub LinkKnown : Counts → ℕ → Type 0
 LinkKnown n link = (link < n .effects + n .timed) ⊎ (link ≡ initialState)
 
 -- so are those of all conditions and goals
 pub record AllKnown (n : Counts) (links : List ℕ) : Type 0 where
-  pub few : (n .effects ≤ mostEffects) × (n .timed ≤ mostTimed)
+  pub few : Few n
   pub room : n .conditions + n .goals ≤ length links
   pub each : (k : ℕ) → k < n .conditions + n .goals → LinkKnown n (getD links k 0)
 
