@@ -1,5 +1,5 @@
 -- The timed facts of a job among the effects of the clock, and the effects of its steps among all.
-use Prim.Native.Nat.{ℕ, _+_, _-_, _≤_, _<_}
+use Prim.Native.Nat.{ℕ, _+_, _-_, _<_}
 use mathlib.Core.Path.{_≡_, sym, ap, _∙_}
 use mathlib.Core.List.{List}
 use native.Mathlib.Decide.{decLt}
@@ -7,7 +7,7 @@ use native.Mathlib.Omega.{arith}
 use Rattle.job.specs.Model.{Model}
 use Rattle.job.specs.Clocked.{behind, clocked}
 use Rattle.job.proofs.Clocked.{of-effect, of-timed}
-use Rattle.validity.specs.Ticks.{scheduleOf, effectTick, lastTick}
+use Rattle.validity.specs.Ticks.{scheduleOf, effectTick}
 use Rattle.orders.proofs.Orders.{Opposer}
 use Rattle.limits.specs.Timed.{TimedPoints}
 

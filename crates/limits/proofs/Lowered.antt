@@ -5,7 +5,6 @@ use mathlib.Core.List.{List}
 use mathlib.Core.Logic.{_⊎_, inl, inr, ⊎-elim}
 use native.Mathlib.Decide.{ℕ-discrete}
 use native.Mathlib.Omega.{arith}
-use lib.ListN.{length}
 use Rattle.job.specs.Model.{Model, timedOf}
 use Rattle.job.specs.Clocked.{clocked}
 use Rattle.validity.specs.Ticks.{scheduleOf, effectTick}
@@ -13,7 +12,7 @@ use Rattle.points.specs.Points.{Setter, Wanting}
 use Rattle.order_file.specs.Contents.{noLatest, gapBias}
 use Rattle.order_file.specs.Table.{startIn}
 use Rattle.orders.specs.Gaps.{supportGap, opposingGap, conditionGap}
-use Rattle.orders.specs.Windows.{clockGap, clockLatest}
+use Rattle.orders.specs.Windows.{clockGap}
 use Rattle.orders.proofs.Limits.{clock-unbound, clock-bound}
 use Rattle.orders.proofs.Orders.{Opposer}
 use Rattle.limits.specs.Timed.{TimedPoints, AllAre, ClockLatest}

@@ -3,19 +3,18 @@ use Prim.Native.Nat.{ℕ, _+_, _-_, _≤_, _<_}
 use mathlib.Core.Path.{_≡_, refl, sym, ap, subst, _∙_}
 use mathlib.Core.List.{List}
 use mathlib.Core.Logic.{_⊎_, inl, inr, ⊎-elim}
-use native.Mathlib.Decide.{decLt}
 use native.Mathlib.Omega.{arith}
-use lib.ListN.{length, getD}
+use lib.ListN.{getD}
 use Rattle.job.specs.Model.{Model, timedOf}
 use Rattle.job.specs.Clocked.{clocked}
 use Rattle.job.proofs.Clocked.{clocked-form}
-use Rattle.validity.specs.Ticks.{scheduleOf, effectTick, firstTick}
+use Rattle.validity.specs.Ticks.{scheduleOf, effectTick}
 use Rattle.points.specs.Points.{Setter, Wanting}
 use Rattle.links.proofs.LinkList.{condition-link, valid-named}
-use Rattle.order_file.specs.Contents.{initialState, gapBias}
-use Rattle.order_file.specs.Table.{rowWidth, startIn}
+use Rattle.order_file.specs.Contents.{gapBias}
+use Rattle.order_file.specs.Table.{startIn}
 use Rattle.orders.specs.Links.{conditionLink}
-use Rattle.orders.specs.Gaps.{strictly, supportGap, opposingGap, conditionGap}
+use Rattle.orders.specs.Gaps.{supportGap, opposingGap, conditionGap}
 use Rattle.orders.specs.Windows.{clockGap, clockLimit}
 use Rattle.orders.proofs.Orders.{Opposer}
 use Rattle.limits.specs.Timed.{TimedPoints, TimedLinks, AllAre, mostLimit, ClockLimits}
@@ -23,7 +22,7 @@ use Rattle.limits.specs.Moved.{Up, Moved, Among, startAfter, Later, OfSe
 use Rattle.limits.proofs.Moved.{up-same, up-on, moved-either}
 use Rattle.limits.proofs.Gaps.{support-le, support-ge, opposing-le, opposing-ge, condition-le, before-ge, clock-ge, clock-le}
 use Rattle.limits.proofs.Grouped.{later-found, later-known}
-use Rattle.limits.proofs.Clock.{timed-known, timed-step, timed-offset, timed-tick, timed-opposes, of-clock, clock-opposes, of-step}
+use Rattle.limits.proofs.Clock.{timed-step, timed-offset, timed-tick, timed-opposes, of-clock, clock-opposes, of-step}
 use Rattle.limits.proofs.Clock.{own-step, own-fact, own-offset, own-value, own-tick}
 
 module _ {m : Model} {starts points begins links : List ℕ} (w : TimedPoints m starts points begins) (l : TimedLinks m starts links) where

@@ -7,7 +7,6 @@ use lib.ListN.{length, getD}
 use Rattle.timeline.specs.Words.{wordStep, wordValue, wordNumber, wordTick}
 use Rattle.job.specs.declared.records.TimedFact.{TimedFact}
 use Rattle.job.specs.Model.{Model, timedOf}
-use Rattle.validity.specs.Ticks.{scheduleOf}
 use Rattle.points.specs.Points.{wantedGroup}
 use Rattle.order_file.specs.Contents.{initialState}
 use Rattle.order_file.specs.Table.{startIn}
@@ -102,7 +101,7 @@ pub record Wanted (m : Model) (n : ℕ) (points : List ℕ) (low high : ℕ) : T
   pub step : (p : ℕ) → low ≤ p → p < high → wordStep (getD points p 0) < n
   pub known : (p : ℕ) → low ≤ p → p < high → wordNumber (getD points p 0) < m .conditions
 
--- links of a well-formed job, each the initial state, an effect or a timed fact, into a whole list
+-- links of all conditions, each the initial state, an effect or a timed fact
 pub record LinksNamed (m : Model) (links : List ℕ) : Type 0 where
   pub room : m .conditions ≤ length links
   pub named : (c : ℕ) → c < m .conditions → (getD links c 0 ≡ initialState → ⊥) → getD links c 0 < m .effects + m .timed

@@ -2,7 +2,7 @@
 use Prim.Native.Nat.{ℕ, _+_, _≤_, _<_}
 use mathlib.Core.Path.{_≡_}
 use mathlib.Core.List.{List}
-use lib.ListN.{length, getD}
+use lib.ListN.{length}
 use Rattle.job.specs.Model.{Model, lastTimed}
 use Rattle.job.specs.WellFormed.{WellFormed}
 use Rattle.job.specs.Clocked.{clocked}
@@ -11,7 +11,6 @@ use Rattle.validity.specs.Valid.{Valid}
 use Rattle.points.specs.Points.{PointsKnown}
 use Rattle.links.specs.LinkList.{LinksOf}
 use Rattle.orders.specs.Windows.{clockLimit, clockLatest}
-use Rattle.order_file.specs.Contents.{noLatest}
 use Rattle.order_file.specs.Table.{rowWidth, startIn}
 
 -- the points of the steps at starts that make a well-formed job with its timed facts valid; the clock starts at 0
@@ -19,7 +18,6 @@ pub record TimedPoints (m : Model) (starts points begins : List ℕ) : Type 0 wh
   pub form : WellFormed m
   pub known : PointsKnown m (scheduleOf starts) points begins
   pub valid : Valid (clocked m) (scheduleOf starts)
-  pub each : m .steps ≤ length starts
   pub clock : scheduleOf starts (m .steps) ≡ 0
 
 -- the links of that schedule

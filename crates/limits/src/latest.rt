@@ -1,5 +1,4 @@
 // Latest starts: a point strictly before the tick T of a timed fact gives start ≤ T − point − 1.
-ghost use mathlib.Core.Path.{_≡_};
 ghost use Prim.Native.Nat.{_+_, _≤_, _<_};
 ghost use lib.ListN.{length};
 ghost use Rattle.timeline.specs.Words.{wordStep, wordNumber, wordTick};
@@ -9,9 +8,8 @@ ghost use Rattle.job_reader.specs.Laid.{Laid};
 ghost use Rattle.little_endian.specs.Bytes.{u32Values};
 ghost use Rattle.validity.specs.Ticks.{scheduleOf};
 ghost use Rattle.order_file.specs.Contents.{noLatest};
-ghost use Rattle.order_file.specs.Table.{rowWidth};
 ghost use Rattle.limits.specs.Timed.{TimedPoints, AllAre, ClockLatest};
-ghost use Rattle.limits.specs.Moved.{Down, Moved, Single, Among, startBefore, Sooner, Ended, OfWords, LatestBy, Begun, Wanted};
+ghost use Rattle.limits.specs.Moved.{Down, Moved, Single, startBefore, Sooner, Ended, OfWords, Begun, Wanted};
 use crate::since;
 use job::layout::Job;
 use job::records::TimedFact;

@@ -14,7 +14,6 @@ use Rattle.little_endian.specs.Bytes.{u16Bytes}
 use Rattle.laws.specs.Nth.{count, nth}
 use Rattle.laws.proofs.Nth.{count-cong, nth-cong}
 use Rattle.job.specs.Model.{Model}
-use Rattle.job.specs.Clocked.{ClockedForm}
 use Rattle.order_file.specs.Contents.{Contents}
 use Rattle.order_file.specs.Encode.{headerBytes, windowBytes, orderBytes, linkBytes, gapBits, upToWindow, upToOrder, upToLink, encode}
 use Rattle.order_file.specs.Agree.{Agree}
@@ -59,7 +58,7 @@ module _ (c d : Contents) (a : Agree c d) where
   encode-agree = ap₂ _++_ (ap₂ _++_ (ap₂ _++_ header-agrees windows-agree) orders-agree) links-agree
 
 module _
-    (number : ℕ → ℕ) (m : Model) (x : ℕ → ℕ) (w : ClockedForm m) (rounds : ℕ) (limits latest earliest gaps linked : List ℕ)
+    (number : ℕ → ℕ) (m : Model) (x : ℕ → ℕ) (rounds : ℕ) (limits latest earliest gaps linked : List ℕ)
     (h : Holds number m x rounds limits latest earliest gaps linked)
   where
     -- the place of an entry from its pair of steps

@@ -8,7 +8,6 @@ use borrow.Author.Tests.{le-leb, lt-leb, lt-ltb, le-ltb}
 use lib.ListN.{length, getD}
 use Rattle.laws.specs.Nth.{count}
 use Rattle.job.specs.Model.{Model}
-use Rattle.job.specs.Clocked.{ClockedForm}
 use Rattle.order_file.specs.Encode.{encode}
 use Rattle.order_file.specs.Layout.{fileLength}
 use Rattle.order_file.proofs.Encode.{length-encode}
@@ -63,14 +62,14 @@ module _
         goal-link : (g : ℕ) → nthLink m x (m .conditions + g) ≡ goalLink m x g
         goal-link g = unfold nthLink in simp (le-ltb (m .conditions + g) (m .conditions) (omega arith), add-sub-cancel-left)
 
-module _ (number : ℕ → ℕ) (m : Model) (x : ℕ → ℕ) (w : ClockedForm m) (found : ℕ) (limits latest early gaps linked : List ℕ)
+module _ (number : ℕ → ℕ) (m : Model) (x : ℕ → ℕ) (found : ℕ) (limits latest early gaps linked : List ℕ)
     (holds : Holds number m x found limits latest early gaps linked) where
   -- the length that the code sums is the file's
   pub found-length : fileLength (m .steps) (count tableSize (entered gaps)) (m .conditions + m .goals) ≡ length (encode (fileWith number m x))
   unfolding heldIn
   found-length =
       sym (length-encode (heldIn (m .steps) (m .conditions + m .goals) found limits latest early gaps linked))
-      ∙ ap length (held-file number m x w found limits latest early gaps linked holds)
+      ∙ ap length (held-file number m x found limits latest early gaps linked holds)
 
   pub written-short :
       (n : ℕ) (before : List ℕ) → n ≡ length (encode (fileWith number m x)) → length before < n → Filing (fileWith number m x) before before BufferTooShort
@@ -86,5 +85,5 @@ module _ (number : ℕ → ℕ) (m : Model) (x : ℕ → ℕ) (w : ClockedForm m
       let f = le-leb (length (encode (fileWith number m x))) (length before) (omega arith) in
       record {
         answer = ap Filed e ∙ simp f;
-        buffer = a ∙ ap (λ (b : List ℕ). over b before) (held-file number m x w found limits latest early gaps linked holds) ∙ simp f;
+        buffer = a ∙ ap (λ (b : List ℕ). over b before) (held-file number m x found limits latest early gaps linked holds) ∙ simp f;
       }

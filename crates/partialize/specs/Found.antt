@@ -27,12 +27,12 @@ pub record ValidStarts (m : Model) (starts : List ℕ) : Type 0 where
 
 -- the points at these starts, those of timed facts among them
 pub record ValidSchedule (m : Model) (starts points begins : List ℕ) : Type 0 where
-  pub starts : ValidStarts m starts
+  pub valid : ValidStarts m starts
   pub known : PointsKnown (clocked m) (scheduleOf starts) points begins
 
 -- the links
 pub record Timed (m : Model) (starts links : List ℕ) : Type 0 where
-  pub starts : ValidStarts m starts
+  pub valid : ValidStarts m starts
   pub linked : LinksOf (clocked m) (scheduleOf starts) links
   pub size : length links ≡ linkLimit
 

@@ -1,17 +1,19 @@
 -- What is found holds what is filed: the length is the file's, and where it fits the file is written.
-use Prim.Native.Nat.{ℕ, _+_}
+use Prim.Native.Nat.{ℕ, _+_, _<_}
 use mathlib.Core.Path.{_≡_, ap, _∙_}
 use mathlib.Core.List.{List}
 use denote.Ref.{now}
-use lib.ListN.{length}
+use lib.ListN.{length, getD}
 use native.Mathlib.Omega.{arith}
 use Rattle.job.specs.Model.{Model, view}
+use Rattle.job.specs.Clocked.{clocked}
 use Rattle.order_file.specs.Layout.{fileLength}
 use Rattle.order_file.specs.Encode.{encode}
+use Rattle.orders.specs.Links.{nthLink}
 use Rattle.orders.specs.Gaps.{gapOf}
-use Rattle.orders.specs.File.{fileOf}
-use Rattle.links.specs.LinkList.{LinksOf}
+use Rattle.orders.specs.File.{linkNumber, fileWith, fileOf}
 use Rattle.gaps.specs.Table.{TableOf}
+use Rattle.partialize.specs.Found.{WindowsOf}
 use Rattle.partialize.specs.Holds.{Holds}
 use Rattle.partialize.proofs.Found.{found-holds, found-length, written-short, written-file}
 use borrow.Author.Needs.{needs}
@@ -19,80 +21,82 @@ use Rattle.partialize.proofs.file_found.Statement.{statement}
 use Rattle.partialize.proofs.file_found.Tie as tie
 
 module _ (c : tie.After-link-at) where
-  abbrev model : Model
-  model =
-      view (c .before .before .before .before .before .before .before .before .before .before .before .before .args .job)
-      (now (c .before .before .before .before .before .before .before .before .before .before .before .before .args .s))
+  abbrev start : tie.Start
+  start = c .before .before .before .before .before .before .before .before .before .before .before
 
   abbrev limits : List ℕ
-  limits = c .before .before .before .before .limits .result .at
+  limits = start .args .windows .limits .at
 
   abbrev latest : List ℕ
-  latest = c .before .before .before .latest-starts .result .at
+  latest = start .args .windows .latest .at
 
   abbrev early : List ℕ
   early = c .before .before .earliest-starts .result .starts .at
 
   abbrev gaps : List ℕ
-  gaps = now (c .before .before .before .before .before .before .before .before .before .before .before .before .args .gaps)
+  gaps = now (start .args .gaps)
 
   abbrev links : List ℕ
-  links = now (c .before .before .before .before .before .before .before .before .before .before .before .before .args .links)
+  links = now (start .args .links)
 
-  module _ (x : ℕ → ℕ) (l : LinksOf model x links) (t : TableOf (model .steps) (gapOf model x) gaps) where
-    held : Holds model x (c .before .before .earliest-starts .result .rounds) limits latest early gaps links
-    held =
-        found-holds model x _ limits latest early gaps links l t (c .before .before .before .before .limits .ensures .0)
-        (c .before .before .before .latest-starts .ensures .0 x l) (c .before .before .earliest-starts .ensures .0)
-        (c .before .before .earliest-starts .ensures .1 .0)
+  -- whatever job and schedule they belong to
+  module _ (s : List ℕ) (x : ℕ → ℕ) where
+    abbrev number : ℕ → ℕ
+    number = linkNumber (view (start .args .job) s)
 
-    fits : c .link-at .result ≡ length (encode (fileOf model x))
-    fits =
-        c .link-at .ensures .0
-        ∙ ap (λ o. fileLength (model .steps) o (model .conditions + model .goals)) (c .before .count-orders .ensures .0)
-        ∙ found-length model x (c .before .before .before .before .before .before .before .before .before .before .before .before .pre .form) _ limits
-        latest early gaps links held
+    abbrev model : Model
+    model = clocked (view (start .args .job) s)
+
+    module _ (w : WindowsOf (view (start .args .job) s) x (start .args .windows))
+        (l : (k : ℕ) → k < model .conditions + model .goals → getD links k 0 ≡ number (nthLink model x k))
+        (t : TableOf (model .steps) (gapOf model x) gaps) where
+      held : Holds number model x (c .before .before .earliest-starts .result .rounds) limits latest early gaps links
+      held =
+          found-holds number model x _ limits latest early gaps links l t (w .limitAt) (w .latestAt)
+          (c .before .before .earliest-starts .ensures .0) (c .before .before .earliest-starts .ensures .1 .0)
+
+      fits : c .link-at .result ≡ length (encode (fileWith number model x))
+      fits =
+          c .link-at .ensures .0
+          ∙ ap (λ o. fileLength (model .steps) o (model .conditions + model .goals)) (c .before .count-orders .ensures .0)
+          ∙ found-length number model x _ limits latest early gaps links held
 
 pub file-found-spec : {M : Type 1} → statement M
+unfolding fileOf
 file-found-spec =
     tie.close
     (tie.spec
-    (λ c. search needs) (λ c. search needs) (λ c. search needs) (λ c. search needs) (λ c κs. search needs) (λ c κs. search needs)
+    (λ c. search needs) (λ c. search needs) (λ c. search needs) (λ c. search needs)
     (λ c κs. search needs)
-    (λ c κs. let p = c .before .before .before .before .before .before .before .before .before .before .pre in (p .table .size, p .form .stepCount, p .rows))
+    (λ c κs. let p = c .before .before .before .before .before .before .before .before .before .pre in (p .table .size, p .stepCount, p .rows))
     (λ c κs.
-    let p = c .before .before .before .before .before .before .before .before .before .before .before .pre in
-    (omega (arith, p .form .stepCount), omega (arith, c .count-orders .ensures .1), omega (arith, p .form .conditionCount, p .form .goalCount)))
-    (λ c.
-    λ x l t.
+    let p = c .before .before .before .before .before .before .before .before .before .before .pre in
+    (omega (arith, p .stepCount), omega (arith, c .count-orders .ensures .1), omega (arith, p .linkCount)))
+    (λ c. λ s x w l t.
     let d = c .before in
-    written-short (model d) x (d .before .before .before .before .before .before .before .before .before .before .before .before .pre .form) _
-    (limits d) (latest d) (early d) (gaps d) (links d) (held d x l t) _ _ (fits d x l t) (c .if1 .taken))
+    written-short (number d s x) (model d s x) x _ (limits d) (latest d) (early d) (gaps d) (links d) (held d s x w l t) _ _ (fits d s x w l t)
+    (c .if1 .taken))
     (λ c. search needs) (λ c. search needs) (λ c. search needs)
     (λ c κs.
     let d = c .before .before .before .before .before .before .before .before .before in
-    let p = d .before .before .before .before .before .before .before .before .before .before .before .before .pre in
-    let w = p .form in
+    let p = start d .pre in
     let o = d .before .count-orders .ensures in
     let e = d .before .before .earliest-starts .ensures .1 .0 .size in
-    let f = d .before .before .before .before .limits .ensures .1 .size in
     record {
-      stepCount = w .stepCount;
-      linkCount = omega (arith, w .conditionCount, w .goalCount);
+      stepCount = p .stepCount;
+      linkCount = p .linkCount;
       orderCount = o .0;
-      limitCount = omega (arith, f, w .stepCount);
-      latestCount = omega (arith, d .before .before .before .latest-starts .ensures .1, w .stepCount);
-      earliestCount = omega (arith, e, f, w .stepCount);
+      limitCount = omega (arith, p .limits .size, p .stepCount);
+      latestCount = omega (arith, p .latest, p .stepCount);
+      earliestCount = omega (arith, e, p .limits .size, p .stepCount);
       gapCount = p .table .size;
       gapRows = p .rows;
-      linkedCount = omega (arith, p .linkCount, w .conditionCount, w .goalCount);
+      linkedCount = omega (arith, p .linked, p .linkCount);
       fileFits = omega (arith, d .link-at .ensures .0, c .before .before .before .before .before .before .before .before .if1 .left);
     })
     (λ c. omega (arith, c .before .before .before .before .before .before .before .before .before .before .before .before .link-at .ensures .1))
     (λ c. search needs)
-    (λ c.
-    λ x l t.
+    (λ c. λ s x w l t.
     let d = c .before .before .before .before .before .before .before .before .before .before .before .before in
-    written-file (model d) x (d .before .before .before .before .before .before .before .before .before .before .before .before .pre .form) _
-    (limits d) (latest d) (early d) (gaps d) (links d) (held d x l t) _ _ _ (fits d x l t)
+    written-file (number d s x) (model d s x) x _ (limits d) (latest d) (early d) (gaps d) (links d) (held d s x w l t) _ _ _ (fits d s x w l t)
     (c .before .before .before .before .before .before .before .before .before .before .before .if1 .left) (c .before .before .write-file .ensures)))

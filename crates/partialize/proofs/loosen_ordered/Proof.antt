@@ -3,9 +3,10 @@ use Prim.Native.Nat.{ℕ}
 use mathlib.Core.Path.{_≡_, sym, ap, _∙_}
 use mathlib.Core.List.{List}
 use native.Mathlib.Omega.{arith}
-use lib.ListN.{length, getD}
+use denote.Ref.{now}
+use lib.ListN.{length, getD, List·getD-eq-default}
 use Rattle.laws.proofs.Listed.{length-tabulate, getD-tabulate}
-use Rattle.job.specs.Model.{Model}
+use Rattle.job.specs.Model.{Model, view}
 use Rattle.job.specs.WellFormed.{WellFormed}
 use Rattle.validity.specs.Ticks.{plannedStarts, scheduleOf}
 use Rattle.gaps.specs.Table.{Writable}
@@ -26,6 +27,11 @@ written-writable m starts e form =
           omega (arith, start, form .startRange k h);
     }
 
+-- and give the clock none
+written-clock : (m : Model) (starts : List ℕ) → starts ≡ plannedStarts m → scheduleOf starts (m .steps) ≡ 0
+written-clock m starts e =
+    List·getD-eq-default starts 0 {n = m .steps} (omega (arith, ap length e ∙ length-tabulate (m .start) (m .steps)))
+
 pub loosen-ordered-spec : {M : Type 1} → statement M
 unfolding looseOf
 loosen-ordered-spec =
@@ -34,13 +40,21 @@ loosen-ordered-spec =
     (λ c κs. search needs) (λ c κs. search needs)
     (λ c. refused-promise _ _ _ (c .before .before .check-planned .ensures) (λ z. c .if1 .taken (c .before .number .ensures ∙ z)))
     (λ c κs.
-    let p = c .before .before .before .before .before .before .before .before .before .pre in
+    let start = c .before .before .before .before .before .before .before .before .before in
+    let p = start .pre in
     let checked = c .before .before .before in
     let sound = checked .check-planned .ensures .sound (sym (c .before .before .number .ensures) ∙ c .before .if1 .left) in
     let form : WellFormed _ = rw (p .read .header) (sound .wellFormed) in (
-      record { form = form; known = p .known; valid = rw (p .written, p .read .header) (sound .valid) },
+      record {
+        valid = record {
+          form = form;
+          valid = rw (p .written, p .read .header) (sound .valid);
+          written = written-writable _ _ (p .written) form;
+          clock = written-clock (view (start .args .job) (now (start .args .s))) _ (p .written);
+        };
+        known = p .known;
+      },
       read-lies (p .read),
-      written-writable _ _ (p .written) form,
     ))
     (λ c. search needs)
     (λ c.

@@ -1,7 +1,6 @@
 -- Each condition in turn.
 use Prim.Native.Nat.{_-_, _≤_}
 use native.Mathlib.Omega.{arith}
-use borrow.Author.Needs.{needs}
 use Rattle.job.specs.Model.{view}
 use Rattle.limits.specs.Moved.{Up, Moved, Among, LimitByLink}
 use Rattle.limits.proofs.Moved.{up-same, up-on, moved-none, moved-empty, moved-more, moved-all}

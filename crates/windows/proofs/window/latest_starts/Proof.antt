@@ -9,7 +9,6 @@ use Rattle.limits.specs.Timed.{ClockLatest}
 use Rattle.order_file.specs.Table.{rowWidth}
 use Rattle.windows.specs.Loops.{LatestBy}
 use Rattle.windows.proofs.Latest.{latest-none, latest-all}
-use borrow.Author.Needs.{needs}
 use native.Mathlib.Omega.{arith}
 use Rattle.windows.proofs.window.latest_starts.Statement.{statement}
 use Rattle.windows.proofs.window.latest_starts.Tie as tie
