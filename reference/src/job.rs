@@ -3,7 +3,7 @@
 /// The latest edition that is taken. On it depend refusal 2, the highest link that is read from an
 /// order file, and of which editions made jobs, stored cases and comparisons are. What ends in
 /// `_up_to` is told the latest edition instead.
-pub const LATEST_EDITION: u16 = 1;
+pub const LATEST_EDITION: u16 = 2;
 
 /// Everything "a table each" is in the tables' order:
 /// facts, levels, steps, conditions, effects, uses, goals and, from edition 2 on, timed facts.
