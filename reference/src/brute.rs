@@ -2,9 +2,9 @@
 //! job's own timing does.
 
 use crate::job::{Job, LATEST_EDITION};
-use crate::loosen::{loosen_up_to, order_file_up_to};
+use crate::loosen::{loosen, order_file_of};
 use crate::make::sound::{small_sound_job, sound_job, Shape};
-use crate::order_file::{read_up_to, OrderFile};
+use crate::order_file::{read, OrderFile};
 use crate::random::Random;
 use crate::timing::{end_state, first_moved_fixed_step, sound, EndState};
 
@@ -171,10 +171,9 @@ impl Trial<'_> {
 fn written_file(job: &Job) -> Result<OrderFile, String> {
     let file = job.to_file();
     let mut buffer = vec![165; 40_000];
-    let latest = job.edition;
-    let answer = loosen_up_to(latest, &file, &mut buffer);
-    match read_up_to(latest, &buffer[..answer.length]) {
-        Ok(written) if Ok(&written) == order_file_up_to(latest, &file).as_ref() => Ok(written),
+    let answer = loosen(&file, &mut buffer);
+    match read(&buffer[..answer.length]) {
+        Ok(written) if Ok(&written) == order_file_of(&file).as_ref() => Ok(written),
         other => Err(format!("broken: the file reads back\n{job:?}\n{other:?}")),
     }
 }

@@ -3,14 +3,11 @@
 //! A case is one command byte and its fields; a field is a u32 length and that many bytes.
 
 use crate::bytes::{put_u32, u32_at};
-use crate::job::LATEST_EDITION;
-use crate::loosen::loosen_up_to;
-use crate::order_file::{
-    alike_up_to, read_header_up_to, read_record_up_to, Link, Record, LINKS_TABLE, NONE,
-};
+use crate::loosen::loosen;
+use crate::order_file::{alike, read_header, read_record, Link, Record, LINKS_TABLE, NONE};
 use crate::refusal::{number_and_place, Refusal};
-use crate::timing::{check_job_up_to, check_timing_up_to};
-use crate::well_formed::well_formed_up_to;
+use crate::timing::{check_job, check_timing};
+use crate::well_formed::well_formed;
 
 /// The commands: well-formedness, job check, timing check, header, record, alike, loosening.
 pub const COMMANDS: &str = "wcthral";
@@ -102,14 +99,10 @@ pub fn cases_file(cases: &[Case]) -> Vec<u8> {
 
 /// One line a case, until the end or `bad cases`.
 pub fn answers(file: &[u8]) -> String {
-    answers_up_to(LATEST_EDITION, file)
-}
-
-pub fn answers_up_to(latest: u16, file: &[u8]) -> String {
     let mut lines = String::new();
     let mut rest = file;
     while !rest.is_empty() {
-        match next_case(&mut rest).and_then(|case| answer_up_to(latest, &case)) {
+        match next_case(&mut rest).and_then(|case| answer(&case)) {
             Some(line) => lines += &format!("{line}\n"),
             None => return lines + "bad cases\n",
         }
@@ -213,18 +206,14 @@ fn numbers_in(field: &[u8]) -> Option<Vec<u32>> {
 // The lines
 
 pub fn answer(case: &Case) -> Option<String> {
-    answer_up_to(LATEST_EDITION, case)
-}
-
-pub fn answer_up_to(latest: u16, case: &Case) -> Option<String> {
     Some(match case.asked()? {
-        Asked::WellFormed(job) => verdict_line('w', &well_formed_up_to(latest, job)),
-        Asked::Check(job) => verdict_line('c', &check_job_up_to(latest, job)),
-        Asked::Timing(job, starts) => verdict_line('t', &check_timing_up_to(latest, job, &starts)),
-        Asked::Header(file) => header_line(latest, file),
-        Asked::Record(file, table, number) => record_line(latest, file, table, number),
-        Asked::Alike(a, b) => alike_line(latest, a, b),
-        Asked::Loosening(job, length) => loosening_line(latest, job, length),
+        Asked::WellFormed(job) => verdict_line('w', &well_formed(job)),
+        Asked::Check(job) => verdict_line('c', &check_job(job)),
+        Asked::Timing(job, starts) => verdict_line('t', &check_timing(job, &starts)),
+        Asked::Header(file) => header_line(file),
+        Asked::Record(file, table, number) => record_line(file, table, number),
+        Asked::Alike(a, b) => alike_line(a, b),
+        Asked::Loosening(job, length) => loosening_line(job, length),
     })
 }
 
@@ -233,15 +222,15 @@ fn verdict_line<T>(command: char, answer: &Result<T, Refusal>) -> String {
     format!("{command} {number} {place}")
 }
 
-fn header_line(latest: u16, file: &[u8]) -> String {
-    let header = read_header_up_to(latest, file);
+fn header_line(file: &[u8]) -> String {
+    let header = read_header(file);
     let numbers = header.unwrap_or([0; 8]).map(i64::from);
     with_numbers(verdict_line('h', &header), &numbers)
 }
 
 /// After a refusal as many zeros as that table's records have numbers.
-fn record_line(latest: u16, file: &[u8], table: u32, number: u32) -> String {
-    let record = read_record_up_to(latest, file, table, number);
+fn record_line(file: &[u8], table: u32, number: u32) -> String {
+    let record = read_record(file, table, number);
     let numbers = match record {
         Ok(Record::Window(window)) => {
             let latest = window.latest.unwrap_or(i64::from(NONE));
@@ -259,16 +248,16 @@ fn link_number(link: Link) -> i64 {
     i64::from(link.number())
 }
 
-fn alike_line(latest: u16, a: &[u8], b: &[u8]) -> String {
-    let answer = alike_up_to(latest, a, b);
+fn alike_line(a: &[u8], b: &[u8]) -> String {
+    let answer = alike(a, b);
     let yes = i64::from(answer.unwrap_or(false));
     with_numbers(verdict_line('a', &answer), &[yes])
 }
 
 /// The buffer is printed up to its last byte unlike the filling; how many follow is counted.
-fn loosening_line(latest: u16, job: &[u8], length: usize) -> String {
+fn loosening_line(job: &[u8], length: usize) -> String {
     let mut buffer = vec![FILLING; length];
-    let answer = loosen_up_to(latest, job, &mut buffer);
+    let answer = loosen(job, &mut buffer);
     let last = buffer.iter().rposition(|&byte| byte != FILLING);
     let (front, rest) = buffer.split_at(last.map_or(0, |last| last + 1));
     let hex: String = front.iter().map(|byte| format!("{byte:02x}")).collect();

@@ -1,8 +1,6 @@
 //! A job: the records it holds, and the layout of its file.
 
-/// The latest edition that is taken. On it depend refusal 2, the highest link that is read from an
-/// order file, and of which editions made jobs, stored cases and comparisons are. What ends in
-/// `_up_to` is told the latest edition instead.
+/// The latest edition that is taken; those before it are too.
 pub const LATEST_EDITION: u16 = 2;
 
 /// Everything "a table each" is in the tables' order:

@@ -2,7 +2,7 @@
 
 use crate::cases::Case;
 use crate::job::{Job, LATEST_EDITION};
-use crate::loosen::order_file_up_to;
+use crate::loosen::order_file_of;
 use crate::make::near_miss::{near_miss, nearly_missed};
 use crate::make::order_files::{broken_files, slightly_changed, some_good_file};
 use crate::make::own_conflicts::some_own_conflict;
@@ -14,17 +14,13 @@ use crate::random::Random;
 
 /// A made case of a command, of any edition that is taken.
 pub fn made_case(random: &mut Random, command: char) -> Case {
-    made_case_up_to(LATEST_EDITION, random, command)
-}
-
-pub fn made_case_up_to(latest: u16, random: &mut Random, command: char) -> Case {
-    let edition = some_edition(random, latest);
+    let edition = some_edition(random);
     made_case_of(edition, random, command)
 }
 
 /// The latest as often as all those before it.
-pub fn some_edition(random: &mut Random, latest: u16) -> u16 {
-    let mut edition = latest;
+pub fn some_edition(random: &mut Random) -> u16 {
+    let mut edition = LATEST_EDITION;
     while edition > 1 && random.chance(50) {
         edition -= 1;
     }
@@ -108,7 +104,7 @@ fn loosening_case(random: &mut Random, edition: u16) -> Case {
         0..80 => some_sound_job(random, edition).to_file(),
         _ => file_for_the_job_check(random, edition),
     };
-    let length = match order_file_up_to(edition, &file) {
+    let length = match order_file_of(&file) {
         Ok(written) => written.to_file().len(),
         Err(_) => random.below(30),
     };
@@ -128,7 +124,7 @@ fn some_order_file(random: &mut Random, edition: u16) -> Vec<u8> {
     match random.below(10) {
         0..6 => some_good_file(random, edition).to_file(),
         6..9 => order_files::damaged_file(random, edition),
-        _ => one_of(random, broken_files(edition)).1,
+        _ => one_of(random, broken_files()).1,
     }
 }
 

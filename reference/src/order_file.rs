@@ -1,7 +1,6 @@
 //! The order file: writing it, reading it, what obeys it, and which two are alike.
 
 use crate::bytes::{i32_at, put_i32, put_u16, put_u32, u16_at, u32_at};
-use crate::job::LATEST_EDITION;
 use crate::refusal::Refusal;
 
 pub const EDITION: u16 = 1;
@@ -21,15 +20,8 @@ pub const INITIAL_STATE: u16 = 65_535;
 /// Links to effects are their numbers; a link to a timed fact is this plus its number.
 pub const FIRST_TIMED: u16 = 512;
 
-/// The highest link that is not to the initial state, in every order file, once jobs up to this
-/// edition are taken.
-pub const fn highest_link(latest: u16) -> u16 {
-    if latest == 1 {
-        511
-    } else {
-        575
-    }
-}
+/// The highest link that is not to the initial state, in every order file.
+pub const HIGHEST_LINK: u16 = 575;
 
 #[derive(Clone, Debug, Default, PartialEq, Eq)]
 pub struct OrderFile {
@@ -145,27 +137,14 @@ pub const ORDERS_TABLE: u32 = 1;
 pub const LINKS_TABLE: u32 = 2;
 
 pub fn read_header(file: &[u8]) -> Result<Header, Refusal> {
-    read_header_up_to(LATEST_EDITION, file)
-}
-
-pub fn read_header_up_to(latest: u16, file: &[u8]) -> Result<Header, Refusal> {
-    if breaks_its_rules(latest, file) {
+    if breaks_its_rules(file) {
         return Err(Refusal::at(16, 0));
     }
     Ok(header(file))
 }
 
 pub fn read_record(file: &[u8], table: u32, number: u32) -> Result<Record, Refusal> {
-    read_record_up_to(LATEST_EDITION, file, table, number)
-}
-
-pub fn read_record_up_to(
-    latest: u16,
-    file: &[u8],
-    table: u32,
-    number: u32,
-) -> Result<Record, Refusal> {
-    let contents = read_up_to(latest, file)?;
+    let contents = read(file)?;
     let number = number as usize;
     let record = match table {
         WINDOWS_TABLE => contents.windows.get(number).copied().map(Record::Window),
@@ -178,11 +157,7 @@ pub fn read_record_up_to(
 
 /// The whole contents of an order file.
 pub fn read(file: &[u8]) -> Result<OrderFile, Refusal> {
-    read_up_to(LATEST_EDITION, file)
-}
-
-pub fn read_up_to(latest: u16, file: &[u8]) -> Result<OrderFile, Refusal> {
-    if breaks_its_rules(latest, file) {
+    if breaks_its_rules(file) {
         return Err(Refusal::at(16, 0));
     }
     Ok(contents(file))
@@ -233,7 +208,7 @@ fn contents(file: &[u8]) -> OrderFile {
 // ---------------------------------------------------------------------------------------------
 // Refusal 16, clause by clause
 
-fn breaks_its_rules(latest: u16, file: &[u8]) -> bool {
+fn breaks_its_rules(file: &[u8]) -> bool {
     if breaks_its_layout(file) {
         return true;
     }
@@ -243,7 +218,7 @@ fn breaks_its_rules(latest: u16, file: &[u8]) -> bool {
         || orders_a_step_after_itself(&file)
         || has_a_gap_out_of_range(&file)
         || has_orders_out_of_sequence(&file)
-        || has_a_link_out_of_range(latest, &file)
+        || has_a_link_out_of_range(&file)
         || has_more_rounds_than_steps(&file)
         || has_an_earliest_time_outside_its_window(&file)
 }
@@ -293,9 +268,9 @@ fn has_orders_out_of_sequence(file: &OrderFile) -> bool {
         .any(|two| pair(&two[0]) >= pair(&two[1]))
 }
 
-fn has_a_link_out_of_range(latest: u16, file: &OrderFile) -> bool {
+fn has_a_link_out_of_range(file: &OrderFile) -> bool {
     let mut numbers = file.links.iter().map(Link::number);
-    numbers.any(|number| number != INITIAL_STATE && number > highest_link(latest))
+    numbers.any(|number| number != INITIAL_STATE && number > HIGHEST_LINK)
 }
 
 fn has_more_rounds_than_steps(file: &OrderFile) -> bool {
@@ -314,12 +289,8 @@ fn has_an_earliest_time_outside_its_window(file: &OrderFile) -> bool {
 
 /// Whether steps, limits, latest starts and orders are equal.
 pub fn alike(a: &[u8], b: &[u8]) -> Result<bool, Refusal> {
-    alike_up_to(LATEST_EDITION, a, b)
-}
-
-pub fn alike_up_to(latest: u16, a: &[u8], b: &[u8]) -> Result<bool, Refusal> {
-    let a = read_up_to(latest, a).map_err(|_| Refusal::at(16, 0))?;
-    let b = read_up_to(latest, b).map_err(|_| Refusal::at(16, 1))?;
+    let a = read(a).map_err(|_| Refusal::at(16, 0))?;
+    let b = read(b).map_err(|_| Refusal::at(16, 1))?;
     let bounds = |file: &OrderFile| -> Vec<(i64, Option<i64>)> {
         let windows = file.windows.iter();
         windows

@@ -19,14 +19,10 @@ pub fn sample(name: &str) -> Option<Job> {
     }
 }
 
-/// Those with a stored file and sheet, once jobs up to this edition are taken.
-pub fn stored_samples(latest: u16) -> Vec<&'static str> {
-    let mut names = SAMPLES.to_vec();
-    names.push("longest");
-    if latest > 1 {
-        names.extend(["barriers", "longest-timed", "longest-sheet"]);
-    }
-    names
+/// Those with a stored file and sheet.
+pub fn stored_samples() -> Vec<&'static str> {
+    let more = ["longest", "barriers", "longest-timed", "longest-sheet"];
+    [&SAMPLES[..], &more[..]].concat()
 }
 
 /// Those of edition 1 made by hand.

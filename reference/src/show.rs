@@ -1,15 +1,10 @@
 //! What program `show` prints of a job.
 
-use crate::job::LATEST_EDITION;
-use crate::loosen::order_file_up_to;
+use crate::loosen::order_file_of;
 use crate::order_file::OrderFile;
 
 pub fn show(job: &[u8]) -> String {
-    show_up_to(LATEST_EDITION, job)
-}
-
-pub fn show_up_to(latest: u16, job: &[u8]) -> String {
-    match order_file_up_to(latest, job) {
+    match order_file_of(job) {
         Ok(file) => sheet(&file),
         Err(refusal) => format!("refused {} place {}\n", refusal.number, refusal.place),
     }

@@ -1,8 +1,8 @@
 //! The stored cases of the replay program, and the lines expected of them.
 
-use crate::cases::{answers_up_to, cases_file, Case, LONGEST_FIELD, MOST_FURTHER};
-use crate::job::{Job, LATEST_EDITION};
-use crate::loosen::order_file_up_to;
+use crate::cases::{answers, cases_file, Case, LONGEST_FIELD, MOST_FURTHER};
+use crate::job::Job;
+use crate::loosen::order_file_of;
 use crate::made::made_case_of;
 use crate::make::edges::edges;
 use crate::make::highest::{chain_of_all_steps, every_pair_ordered_both_ways, highest_job};
@@ -30,26 +30,16 @@ pub struct Stored {
 
 /// The stored cases of these commands, with jobs of every edition that is taken.
 pub fn stored(commands: &str) -> Stored {
-    stored_up_to(LATEST_EDITION, commands)
-}
-
-pub fn stored_up_to(latest: u16, commands: &str) -> Stored {
-    let commands = commands.chars();
-    let cases: Vec<Case> = commands
-        .flat_map(|command| cases_up_to(latest, command))
-        .collect();
+    let cases: Vec<Case> = commands.chars().flat_map(stored_cases).collect();
     let cases = cases_file(&cases);
-    let stdout = answers_up_to(latest, &cases);
+    let stdout = answers(&cases);
     Stored { cases, stdout }
 }
 
-/// The stored cases of one command do not depend on which others are served, and those with jobs of
-/// an edition not on which later ones are taken.
-pub fn cases_up_to(latest: u16, command: char) -> Vec<Case> {
+/// The stored cases of one command do not depend on which others are served.
+pub fn stored_cases(command: char) -> Vec<Case> {
     let mut cases = cases_of_edition_1(command);
-    if latest > 1 {
-        cases.extend(stored_timed::cases_of_edition_2(command));
-    }
+    cases.extend(stored_timed::cases_of_edition_2(command));
     cases
 }
 
@@ -187,7 +177,7 @@ fn lists_too_long() -> Vec<Case> {
 
 /// The earliest times of a sound job, and with one step too early.
 pub fn timings_at_the_earliest(job: &Job) -> Vec<Case> {
-    let Ok(file) = order_file_up_to(job.edition, &job.to_file()) else {
+    let Ok(file) = order_file_of(&job.to_file()) else {
         return vec![at_written_starts(job)];
     };
     let earliest = file.earliest_times();
@@ -264,8 +254,8 @@ fn long_buffers() -> Vec<Case> {
 /// A buffer of just the length, and one a byte too short; a refused job says so even to none.
 pub fn loosened_into_buffers_around(job: &Job) -> Vec<Case> {
     let file = job.to_file();
-    let length = length_up_to(job.edition, &file);
-    let lengths = match order_file_up_to(job.edition, &file) {
+    let length = length_for(&file);
+    let lengths = match order_file_of(&file) {
         Ok(_) => [length, length - 1],
         Err(_) => [length, 0],
     };
@@ -275,13 +265,9 @@ pub fn loosened_into_buffers_around(job: &Job) -> Vec<Case> {
         .collect()
 }
 
-fn length_for(file: &[u8]) -> usize {
-    length_up_to(1, file)
-}
-
 /// The length of a job's order file; for a refused job, some bytes that must stay.
-pub fn length_up_to(latest: u16, file: &[u8]) -> usize {
-    order_file_up_to(latest, file).map_or(20, |written| written.to_file().len())
+pub fn length_for(file: &[u8]) -> usize {
+    order_file_of(file).map_or(20, |written| written.to_file().len())
 }
 
 // ---------------------------------------------------------------------------------------------
@@ -292,7 +278,7 @@ pub fn order_files(files: Vec<OrderFile>) -> Vec<Vec<u8>> {
 }
 
 fn broken() -> Vec<Vec<u8>> {
-    broken_files(1).into_iter().map(|(_, file)| file).collect()
+    broken_files().into_iter().map(|(_, file)| file).collect()
 }
 
 fn header_cases() -> Vec<Case> {

@@ -2,10 +2,10 @@
 
 use crate::cases::Case;
 use crate::job::Job;
-use crate::loosen::order_file_up_to;
+use crate::loosen::order_file_of;
 use crate::make::highest::{highest_timed_job, longest_sheet};
 use crate::make::near_miss::{near_miss, nearly_missed};
-use crate::make::order_files::{files_with_timed_links, links_out_of_range, plain_file};
+use crate::make::order_files::{files_with_timed_links, plain_file};
 use crate::make::telling::empty_job;
 use crate::make::timed_edges::timed_edges;
 use crate::make::timed_telling::timed_telling_jobs;
@@ -13,7 +13,7 @@ use crate::make::timed_timings::timed_timings;
 use crate::make::{checking_order, damage, ranges};
 use crate::random::Random;
 use crate::stored::{
-    at_written_starts, length_up_to, list, loosened_into_buffers_around, made_of, order_files,
+    at_written_starts, length_for, list, loosened_into_buffers_around, made_of, order_files,
     timings_at_the_earliest, to_files,
 };
 
@@ -126,7 +126,7 @@ fn timing_cases() -> Vec<Case> {
 
 /// The written starts with one step at its latest start, and a tick after it.
 fn one_step_too_late(job: &Job) -> Vec<Case> {
-    let Ok(file) = order_file_up_to(2, &job.to_file()) else {
+    let Ok(file) = order_file_of(&job.to_file()) else {
         return vec![];
     };
     let mut cases = Vec::new();
@@ -153,7 +153,7 @@ fn loosening_cases() -> Vec<Case> {
         longest_sheet(),
     ] {
         let file = job.to_file();
-        let length = length_up_to(2, &file);
+        let length = length_for(&file);
         cases.push(Case::loosening(file, length));
     }
     cases.push(Case::loosening(highest_timed_job(6, 256).to_file(), 24));
@@ -164,12 +164,8 @@ fn loosening_cases() -> Vec<Case> {
 // ---------------------------------------------------------------------------------------------
 // Order files
 
-fn files_around_the_highest_link() -> Vec<Vec<u8>> {
-    order_files([files_with_timed_links(), links_out_of_range(2)].concat())
-}
-
 fn header_cases() -> Vec<Case> {
-    let files = files_around_the_highest_link().into_iter();
+    let files = order_files(files_with_timed_links()).into_iter();
     let mut cases: Vec<Case> = files.map(Case::header).collect();
     cases.extend(made_of(2, 'h', 60));
     cases
@@ -177,7 +173,7 @@ fn header_cases() -> Vec<Case> {
 
 fn record_cases() -> Vec<Case> {
     let mut cases = Vec::new();
-    for file in files_around_the_highest_link() {
+    for file in order_files(files_with_timed_links()) {
         cases.extend((0..4).map(|number| Case::record(file.clone(), 2, number)));
     }
     cases.extend(made_of(2, 'r', 80));
@@ -187,7 +183,7 @@ fn record_cases() -> Vec<Case> {
 fn alike_cases() -> Vec<Case> {
     let plain = plain_file().to_file();
     let mut cases = Vec::new();
-    for other in files_around_the_highest_link() {
+    for other in order_files(files_with_timed_links()) {
         cases.push(Case::alike(plain.clone(), other.clone()));
         cases.push(Case::alike(other, plain.clone()));
     }

@@ -3,28 +3,20 @@
 //! A timing is a start for each step. What holds "at each tick" is looked at only where it can
 //! change; a test compares this with looking at every tick.
 
-use crate::job::{Condition, Effect, Goal, Job, Use, LATEST_EDITION};
+use crate::job::{Condition, Effect, Goal, Job, Use};
 use crate::refusal::{refuse_at, refuse_if, Verdict};
 use crate::setters::setters;
-use crate::well_formed::well_formed_up_to;
+use crate::well_formed::well_formed;
 
 /// The job check: 1 to 7 and 17, then 10 to 14 on the written starts.
 pub fn check_job(file: &[u8]) -> Verdict {
-    check_job_up_to(LATEST_EDITION, file)
-}
-
-pub fn check_job_up_to(latest: u16, file: &[u8]) -> Verdict {
-    let job = well_formed_up_to(latest, file)?;
+    let job = well_formed(file)?;
     sound(&job, &job.written_starts())
 }
 
 /// The timing check: 1 to 7 and 17, then 8 to 14.
 pub fn check_timing(file: &[u8], starts: &[u32]) -> Verdict {
-    check_timing_up_to(LATEST_EDITION, file, starts)
-}
-
-pub fn check_timing_up_to(latest: u16, file: &[u8], starts: &[u32]) -> Verdict {
-    let job = well_formed_up_to(latest, file)?;
+    let job = well_formed(file)?;
     refuse_if(8, starts.len() != job.steps.len())?;
     let starts: Vec<i64> = starts.iter().map(|&start| i64::from(start)).collect();
     refuse_at(9, first_moved_fixed_step(&job, &starts))?;

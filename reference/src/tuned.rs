@@ -13,7 +13,6 @@ mod rounds;
 mod sound;
 mod write;
 
-use crate::job::LATEST_EDITION;
 use crate::refusal::{number_and_place, refuse_if, Refusal, Verdict};
 use clock::Clock;
 use form::Form;
@@ -24,16 +23,12 @@ use sound::{Links, UNLINKED};
 
 /// The number and place of the job check.
 pub fn check(job: &[u8]) -> (u16, u16) {
-    check_up_to(LATEST_EDITION, job)
-}
-
-pub fn check_up_to(latest: u16, job: &[u8]) -> (u16, u16) {
     let mut links = UNLINKED;
-    number_and_place(&check_into(latest, job, &mut links))
+    number_and_place(&check_into(job, &mut links))
 }
 
-fn check_into(latest: u16, job: &[u8], links: &mut Links) -> Verdict {
-    let form = Form::read(latest, job)?;
+fn check_into(job: &[u8], links: &mut Links) -> Verdict {
+    let form = Form::read(job)?;
     let mut points = Points::NONE;
     points.gather(&form);
     let clock = Clock::of(&form, &points);
@@ -42,17 +37,13 @@ fn check_into(latest: u16, job: &[u8], links: &mut Links) -> Verdict {
 
 /// The number, place and length of loosening. A refusal changes no byte of the buffer.
 pub fn partialize(job: &[u8], out: &mut [u8]) -> (u16, u16, usize) {
-    partialize_up_to(LATEST_EDITION, job, out)
-}
-
-pub fn partialize_up_to(latest: u16, job: &[u8], out: &mut [u8]) -> (u16, u16, usize) {
-    let written = partialize_into(latest, job, out);
+    let written = partialize_into(job, out);
     let (number, place) = number_and_place(&written);
     (number, place, written.unwrap_or(0))
 }
 
-fn partialize_into(latest: u16, job: &[u8], out: &mut [u8]) -> Result<usize, Refusal> {
-    let form = Form::read(latest, job)?;
+fn partialize_into(job: &[u8], out: &mut [u8]) -> Result<usize, Refusal> {
+    let form = Form::read(job)?;
     let (mut points, mut links) = (Points::NONE, UNLINKED);
     points.gather(&form);
     let clock = Clock::of(&form, &points);

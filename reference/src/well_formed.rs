@@ -10,12 +10,8 @@ use crate::refusal::{refuse_at, refuse_if, Refusal};
 
 /// The job in a file, or the first of the refusals 1 to 7 and 17 in checking order.
 pub fn well_formed(file: &[u8]) -> Result<Job, Refusal> {
-    well_formed_up_to(LATEST_EDITION, file)
-}
-
-pub fn well_formed_up_to(latest: u16, file: &[u8]) -> Result<Job, Refusal> {
     refuse_if(1, file.len() < SHORTEST_HEADER)?;
-    refuse_if(2, !(1..=latest).contains(&edition_in(file)))?;
+    refuse_if(2, !(1..=LATEST_EDITION).contains(&edition_in(file)))?;
     refuse_if(1, file.len() < header_length(edition_in(file)))?;
     refuse_if(
         3,

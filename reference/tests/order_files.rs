@@ -2,8 +2,7 @@
 
 use reference::make::order_files::*;
 use reference::order_file::{
-    alike, alike_up_to, read, read_header, read_header_up_to, read_record, read_record_up_to,
-    read_up_to, Link, Order, OrderFile, Record,
+    alike, read, read_header, read_record, Link, Order, OrderFile, Record,
 };
 use reference::random::Random;
 use reference::refusal::Refusal;
@@ -19,7 +18,7 @@ fn what_is_written_reads_back() {
     for edition in [1, 2] {
         for _ in 0..2_000 {
             let file = some_good_file(&mut random, edition);
-            assert_eq!(read_up_to(edition, &file.to_file()), Ok(file));
+            assert_eq!(read(&file.to_file()), Ok(file));
         }
     }
     for file in files_at_the_limits() {
@@ -37,13 +36,9 @@ fn the_highest_file_has_the_highest_counts() {
 
 #[test]
 fn each_clause_alone_is_refused() {
-    for latest in [1, 2] {
-        for (clause, file) in broken_files(latest) {
-            let header = read_header_up_to(latest, &file);
-            assert_eq!(header, Err(BROKEN), "{clause}");
-            let record = read_record_up_to(latest, &file, 0, 0);
-            assert_eq!(record, Err(BROKEN), "{clause}");
-        }
+    for (clause, file) in broken_files() {
+        assert_eq!(read_header(&file), Err(BROKEN), "{clause}");
+        assert_eq!(read_record(&file, 0, 0), Err(BROKEN), "{clause}");
     }
     for file in too_many_orders() {
         assert_eq!(read_header(&file), Err(BROKEN));
@@ -91,39 +86,32 @@ fn the_alike_test_names_the_first_broken_file() {
         number: 16,
         place: 1,
     };
-    for latest in [1, 2] {
-        for (_, file) in broken_files(latest) {
-            assert_eq!(alike_up_to(latest, &file, &plain), Err(BROKEN));
-            assert_eq!(alike_up_to(latest, &plain, &file), Err(second));
-            assert_eq!(alike_up_to(latest, &file, &file), Err(BROKEN));
-        }
+    for (_, file) in broken_files() {
+        assert_eq!(alike(&file, &plain), Err(BROKEN));
+        assert_eq!(alike(&plain, &file), Err(second));
+        assert_eq!(alike(&file, &file), Err(BROKEN));
     }
 }
 
-/// 511 is the highest without timed facts and 575 with them; 65,535 is the initial state.
+/// 511 is the highest link to an effect, 575 to a timed fact; 65,535 is the initial state.
 #[test]
-fn links_to_timed_facts_are_read_once_edition_2_is_taken() {
-    let link = |latest, number: u16| {
+fn links_up_to_those_to_timed_facts_are_read() {
+    let link = |number: u16| {
         let file = OrderFile {
             links: vec![Link::of_number(number)],
             ..OrderFile::default()
         };
-        read_record_up_to(latest, &file.to_file(), 2, 0)
+        read_record(&file.to_file(), 2, 0)
     };
-    let read = |link| Ok(Record::Link(link));
-    for latest in [1, 2] {
-        assert_eq!(link(latest, 511), read(Link::Effect(511)));
-        assert_eq!(link(latest, 576), Err(BROKEN));
-        assert_eq!(link(latest, 65_534), Err(BROKEN));
-        assert_eq!(link(latest, 65_535), read(Link::InitialState));
-    }
-    assert_eq!(link(1, 512), Err(BROKEN));
-    assert_eq!(link(1, 575), Err(BROKEN));
-    assert_eq!(link(2, 512), read(Link::Timed(0)));
-    assert_eq!(link(2, 575), read(Link::Timed(63)));
+    let found = |link| Ok(Record::Link(link));
+    assert_eq!(link(511), found(Link::Effect(511)));
+    assert_eq!(link(512), found(Link::Timed(0)));
+    assert_eq!(link(575), found(Link::Timed(63)));
+    assert_eq!(link(576), Err(BROKEN));
+    assert_eq!(link(65_534), Err(BROKEN));
+    assert_eq!(link(65_535), found(Link::InitialState));
     for file in files_with_timed_links() {
-        assert_eq!(read_up_to(1, &file.to_file()), Err(BROKEN));
-        assert_eq!(read_up_to(2, &file.to_file()), Ok(file));
+        assert_eq!(read(&file.to_file()), Ok(file));
     }
 }
 
@@ -131,8 +119,7 @@ fn links_to_timed_facts_are_read_once_edition_2_is_taken() {
 fn links_to_timed_facts_do_not_matter_to_the_alike_test() {
     let plain = plain_file();
     for other in files_with_timed_links().iter().take(4) {
-        let alike = alike_up_to(2, &plain.to_file(), &other.to_file());
-        assert_eq!(alike, Ok(true));
+        assert_eq!(alike(&plain.to_file(), &other.to_file()), Ok(true));
     }
 }
 

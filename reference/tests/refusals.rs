@@ -2,37 +2,30 @@
 
 use std::collections::BTreeMap;
 
-use reference::cases::{answer_up_to, COMMANDS};
+use reference::cases::{answer, COMMANDS};
 use reference::job::Job;
 use reference::made::made_case_of;
 use reference::make::near_miss::{near_miss, nearly_missed};
 use reference::make::{checking_order, damage, edges, own_conflicts, ranges, timings};
 use reference::random::Random;
 use reference::refusal::number_and_place;
-use reference::timing::{check_job_up_to, check_timing};
-use reference::well_formed::well_formed_up_to;
+use reference::timing::{check_job, check_timing};
+use reference::well_formed::well_formed;
 
 const GOOD: (u16, u16) = (0, 65_535);
 
-/// Where no edition later than 1 is taken.
 fn well_formedness(file: &[u8]) -> (u16, u16) {
-    well_formedness_up_to(1, file)
+    number_and_place(&well_formed(file))
 }
 
-fn well_formedness_up_to(latest: u16, file: &[u8]) -> (u16, u16) {
-    number_and_place(&well_formed_up_to(latest, file))
-}
-
-/// Where no edition later than the job's is taken.
 fn all_well_formedness(jobs: Vec<Job>) -> Vec<(u16, u16)> {
     let jobs = jobs.iter();
-    jobs.map(|job| well_formedness_up_to(job.edition, &job.to_file()))
-        .collect()
+    jobs.map(|job| well_formedness(&job.to_file())).collect()
 }
 
 fn checked(jobs: Vec<Job>) -> Vec<(u16, u16)> {
     let jobs = jobs.iter();
-    jobs.map(|job| number_and_place(&check_job_up_to(job.edition, &job.to_file())))
+    jobs.map(|job| number_and_place(&check_job(&job.to_file())))
         .collect()
 }
 
@@ -76,9 +69,7 @@ fn counts_at_their_highest_and_one_above() {
 fn one_of_each_comes_in_checking_order() {
     let numbers = |edition| -> Vec<u16> {
         let files = checking_order::one_of_each(edition);
-        let verdicts = files
-            .iter()
-            .map(|file| well_formedness_up_to(edition, file));
+        let verdicts = files.iter().map(|file| well_formedness(file));
         verdicts.map(|(number, _)| number).collect()
     };
     assert_eq!(numbers(1), [1, 2, 3, 4, 5, 6, 7]);
@@ -98,7 +89,7 @@ fn of_two_refusals_the_one_checked_first_decides() {
             expected.extend([1, number.min(5), number]);
         }
         let files = checking_order::pairs_of_refusals(edition);
-        let verdicts = files.iter().map(|file| check_job_up_to(edition, file));
+        let verdicts = files.iter().map(|file| check_job(file));
         let found: Vec<u16> = verdicts.map(|v| number_and_place(&v).0).collect();
         assert_eq!(found, expected);
     }
@@ -378,7 +369,7 @@ fn numbers_of(edition: u16, command: char) -> BTreeMap<u16, usize> {
     let mut counts = BTreeMap::new();
     for _ in 0..4_000 {
         let case = made_case_of(edition, &mut random, command);
-        let line = answer_up_to(edition, &case).expect("a made case is answered");
+        let line = answer(&case).expect("a made case is answered");
         let number = line.split(' ').nth(1).and_then(|word| word.parse().ok());
         *counts.entry(number.expect("a number")).or_default() += 1;
     }

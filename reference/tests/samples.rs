@@ -1,8 +1,7 @@
 //! The sample jobs and their sheets are those that this program makes.
 
-use reference::job::LATEST_EDITION;
 use reference::samples::{sample, stored_samples};
-use reference::show::{show, show_up_to};
+use reference::show::show;
 use std::fs;
 use std::path::PathBuf;
 
@@ -14,7 +13,7 @@ fn stored(name: &str) -> PathBuf {
 
 #[test]
 fn samples_are_current() {
-    for name in stored_samples(LATEST_EDITION) {
+    for name in stored_samples() {
         let job = fs::read(stored(&format!("{name}.job"))).unwrap();
         let sheet = fs::read_to_string(stored(&format!("{name}.sheet"))).unwrap();
         assert_eq!(job, sample(name).unwrap().to_file(), "{name}.job");
@@ -23,7 +22,7 @@ fn samples_are_current() {
 }
 
 fn shown(name: &str) -> String {
-    show_up_to(2, &sample(name).expect("a sample").to_file())
+    show(&sample(name).expect("a sample").to_file())
 }
 
 #[test]

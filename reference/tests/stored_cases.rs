@@ -6,7 +6,7 @@ use std::path::PathBuf;
 use reference::cases::{answers, cases_file, Case, COMMANDS};
 use reference::make::order_files::plain_file;
 use reference::make::telling::small_job;
-use reference::stored::{cases_up_to, stored, stored_up_to, SERVED};
+use reference::stored::{stored, stored_cases, SERVED};
 
 fn replay() -> PathBuf {
     PathBuf::from(env!("CARGO_MANIFEST_DIR")).join("../crates/replay")
@@ -26,27 +26,12 @@ fn writing_them_again_gives_the_same_bytes() {
 
 #[test]
 fn all_commands_together_stay_small() {
-    for latest in [1, 2] {
-        let all = stored_up_to(latest, COMMANDS);
-        assert!(all.cases.len() < 4_000_000);
-        assert!(all.stdout.len() < 2_000_000);
-        let cases: usize = COMMANDS
-            .chars()
-            .map(|command| cases_up_to(latest, command).len())
-            .sum();
-        assert_eq!(all.stdout.lines().count(), cases);
-        assert!(!all.stdout.contains("bad cases"));
-    }
-}
-
-#[test]
-fn the_cases_of_edition_2_come_after_those_of_edition_1() {
-    for command in COMMANDS.chars() {
-        let earlier = cases_up_to(1, command);
-        let all = cases_up_to(2, command);
-        assert_eq!(all[..earlier.len()], earlier);
-        assert!(all.len() > earlier.len());
-    }
+    let all = stored(COMMANDS);
+    assert!(all.cases.len() < 4_000_000);
+    assert!(all.stdout.len() < 2_000_000);
+    let cases: usize = COMMANDS.chars().map(|c| stored_cases(c).len()).sum();
+    assert_eq!(all.stdout.lines().count(), cases);
+    assert!(!all.stdout.contains("bad cases"));
 }
 
 #[test]

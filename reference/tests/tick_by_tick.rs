@@ -9,7 +9,7 @@ use reference::make::timings::some_starts;
 use reference::random::Random;
 use reference::refusal::{number_and_place, refuse_at, Verdict};
 use reference::timing::{end_state, sound};
-use reference::well_formed::well_formed_up_to;
+use reference::well_formed::well_formed;
 
 /// Everything that happens, from tick 0 to one past the last.
 struct Course {
@@ -148,7 +148,7 @@ fn agrees_on_jobs_of(edition: u16) {
         };
         let starts = some_starts(&mut random, &job);
         let starts: Vec<i64> = starts.into_iter().map(i64::from).collect();
-        let well_formed = well_formed_up_to(edition, &job.to_file()).is_ok();
+        let well_formed = well_formed(&job.to_file()).is_ok();
         if !well_formed || starts.len() != job.steps.len() || last_tick(&job, &starts) > 500 {
             continue;
         }

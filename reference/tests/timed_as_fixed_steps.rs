@@ -13,7 +13,7 @@ use reference::orders::orders_of;
 use reference::random::Random;
 use reference::refusal::number_and_place;
 use reference::timing::{end_state, sound};
-use reference::well_formed::well_formed_up_to;
+use reference::well_formed::well_formed;
 
 /// The clock's steps and effects come after all others, so that ties go to the others.
 fn with_fixed_steps(job: &Job) -> Job {
@@ -69,7 +69,7 @@ fn without_the_clock(job: &Job, mut file: OrderFile) -> OrderFile {
 }
 
 fn well_formed_without_serial_steps(job: &Job) -> bool {
-    job.serial == 0 && well_formed_up_to(2, &job.to_file()).is_ok()
+    job.serial == 0 && well_formed(&job.to_file()).is_ok()
 }
 
 #[test]

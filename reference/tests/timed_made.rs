@@ -1,7 +1,7 @@
 //! What made jobs of edition 2 have in them: everything that the clock can do to a job.
 
 use reference::job::{Effect, Job};
-use reference::loosen::order_file_up_to;
+use reference::loosen::order_file_of;
 use reference::make::sound::small_sound_job;
 use reference::order_file::{Link, OrderFile};
 use reference::random::Random;
@@ -100,7 +100,7 @@ fn made_jobs_have_everything_that_the_clock_can_do() {
     let mut seen = Seen::default();
     for _ in 0..5_000 {
         let job = small_sound_job(&mut random, 2);
-        let file = order_file_up_to(2, &job.to_file()).expect("a made job is sound");
+        let file = order_file_of(&job.to_file()).expect("a made job is sound");
         seen.look(&job, &file);
     }
     assert!(seen.all().into_iter().all(|count| count > 50), "{seen:?}");
@@ -112,10 +112,9 @@ fn without_timed_facts_the_order_files_are_those_of_edition_1() {
     let mut random = Random::seeded(22);
     for _ in 0..2_000 {
         let job = small_sound_job(&mut random, 1);
-        let of_edition_1 = order_file_up_to(2, &job.to_file());
+        let of_edition_1 = order_file_of(&job.to_file());
         assert!(of_edition_1.is_ok());
-        assert_eq!(order_file_up_to(1, &job.to_file()), of_edition_1);
         let job = job.edition(2);
-        assert_eq!(order_file_up_to(2, &job.to_file()), of_edition_1);
+        assert_eq!(order_file_of(&job.to_file()), of_edition_1);
     }
 }

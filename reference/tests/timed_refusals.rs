@@ -5,13 +5,13 @@ use reference::job::Job;
 use reference::make::telling::empty_job;
 use reference::make::{damage, ranges, timed_edges, timed_timings};
 use reference::refusal::number_and_place;
-use reference::timing::{check_job_up_to, check_timing_up_to};
-use reference::well_formed::well_formed_up_to;
+use reference::timing::{check_job, check_timing};
+use reference::well_formed::well_formed;
 
 const GOOD: (u16, u16) = (0, 65_535);
 
 fn well_formedness(file: &[u8]) -> (u16, u16) {
-    number_and_place(&well_formed_up_to(2, file))
+    number_and_place(&well_formed(file))
 }
 
 fn all_are(files: &[Vec<u8>], number: u16) {
@@ -22,7 +22,7 @@ fn all_are(files: &[Vec<u8>], number: u16) {
 
 fn checked(jobs: Vec<Job>) -> Vec<(u16, u16)> {
     let jobs = jobs.iter();
-    jobs.map(|job| number_and_place(&check_job_up_to(2, &job.to_file())))
+    jobs.map(|job| number_and_place(&check_job(&job.to_file())))
         .collect()
 }
 
@@ -45,16 +45,16 @@ fn the_bytes_of_edition_2() {
     assert_eq!(file[52], 1);
     assert_eq!(file[53..61], [0, 0, 0xE0, 0xC8, 0x10, 0, 0, 0]);
     assert_eq!(file[61..], [0, 0, 2, 1, 0, 0, 1, 0]);
-    let read = well_formed_up_to(2, &file).map(|job| job.to_file());
+    let read = well_formed(&file).map(|job| job.to_file());
     assert_eq!(read, Ok(file));
 }
 
 #[test]
 fn what_is_written_reads_back() {
     let job = damage::full_job_of(2);
-    assert_eq!(well_formed_up_to(2, &job.to_file()), Ok(job));
+    assert_eq!(well_formed(&job.to_file()), Ok(job));
     let job = damage::full_job_of(1);
-    assert_eq!(well_formed_up_to(2, &job.to_file()), Ok(job));
+    assert_eq!(well_formed(&job.to_file()), Ok(job));
 }
 
 #[test]
@@ -85,9 +85,12 @@ fn editions_1_and_2_are_taken() {
     assert_eq!(well_formedness(&damage::full_job().to_file()), GOOD);
     all_are(&damage::wrong_editions(&file), 2);
     // Said to be of edition 1, the tenth number must be 0; without timed facts the offsets differ.
-    all_are(&damage::earlier_editions(&file), 3);
+    all_are(&damage::other_editions(&file), 3);
     let empty = empty_job().edition(2).to_file();
-    all_are(&damage::earlier_editions(&empty), 5);
+    all_are(&damage::other_editions(&empty), 5);
+    // Said to be of edition 2, the offsets differ; without records there is no eighth.
+    all_are(&damage::other_editions(&damage::full_job().to_file()), 5);
+    all_are(&damage::other_editions(&empty_job().to_file()), 1);
 }
 
 #[test]
@@ -260,7 +263,7 @@ fn timings() -> Vec<(u16, u16)> {
     let timings = timed_timings::timed_timings();
     let verdicts = timings
         .iter()
-        .map(|(job, starts)| check_timing_up_to(2, &job.to_file(), starts));
+        .map(|(job, starts)| check_timing(&job.to_file(), starts));
     verdicts.map(|verdict| number_and_place(&verdict)).collect()
 }
 

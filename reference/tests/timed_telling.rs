@@ -3,15 +3,15 @@
 
 use reference::brute::{try_anywhere, Tried};
 use reference::job::Job;
-use reference::loosen::order_file_up_to;
+use reference::loosen::order_file_of;
 use reference::make::telling::small_job;
 use reference::make::timed_telling::*;
 use reference::order_file::{Link, OrderFile};
 use reference::random::Random;
-use reference::show::show_up_to;
+use reference::show::show;
 
 fn loosened(job: Job) -> OrderFile {
-    order_file_up_to(2, &job.to_file()).expect("a telling job is sound")
+    order_file_of(&job.to_file()).expect("a telling job is sound")
 }
 
 fn orders(job: Job) -> Vec<(usize, usize, i64)> {
@@ -47,9 +47,7 @@ fn earliest(job: Job) -> Vec<i64> {
 fn every_telling_job_is_sound_and_of_edition_2() {
     for (name, job) in timed_telling_jobs() {
         assert_eq!(job.edition, 2, "{name}");
-        assert!(order_file_up_to(2, &job.to_file()).is_ok(), "{name}");
-        let refused = order_file_up_to(1, &job.to_file()).expect_err(name);
-        assert_eq!((refused.number, refused.place), (2, 65_535));
+        assert!(order_file_of(&job.to_file()).is_ok(), "{name}");
     }
 }
 
@@ -73,16 +71,14 @@ step 0 earliest 0 latest none
 step 1 earliest 6 latest none
 order 0 1 6
 ";
-    assert_eq!(show_up_to(2, &small_job_of_edition_2().to_file()), sheet);
-    assert_eq!(show_up_to(2, &small_job().to_file()), sheet);
-    let refused = "refused 2 place 65535\n";
-    assert_eq!(show_up_to(1, &small_job_of_edition_2().to_file()), refused);
+    assert_eq!(show(&small_job_of_edition_2().to_file()), sheet);
+    assert_eq!(show(&small_job().to_file()), sheet);
 }
 
 #[test]
 fn the_clock_is_no_step() {
     let job = timed_facts_without_steps;
-    assert_eq!(show_up_to(2, &job().to_file()), "steps 0 rounds 0\n");
+    assert_eq!(show(&job().to_file()), "steps 0 rounds 0\n");
     assert_eq!(links(job()), [512]);
     let job = timed_fact_during_a_serial_step;
     assert_eq!(orders(job()), [(0, 1, 5)]);

@@ -3,7 +3,7 @@
 use std::collections::BTreeSet;
 
 use reference::job::Job;
-use reference::loosen::{loosen_up_to, order_file_up_to};
+use reference::loosen::{loosen, order_file_of};
 use reference::made::made_case_of;
 use reference::make::bench_jobs::{bench_job, timed_bench_job, SPREADS, TIMED_SPREADS};
 use reference::make::edges::edges;
@@ -19,29 +19,23 @@ use reference::make::timed_telling::timed_telling_jobs;
 use reference::make::{checking_order, damage, ranges};
 use reference::random::Random;
 use reference::refusal::number_and_place;
-use reference::timing::check_job_up_to;
+use reference::timing::check_job;
 use reference::tuned;
 
 /// Both answers to one job, in buffers of the file's length, one byte less, and some more. Gives
-/// the number of the job check where editions up to the latest are taken.
-fn compare_up_to(latest: u16, job: &[u8]) -> u16 {
-    let checked = number_and_place(&check_job_up_to(latest, job));
-    assert_eq!(tuned::check_up_to(latest, job), checked);
-    let length = order_file_up_to(latest, job).map_or(20, |file| file.to_file().len());
+/// the number of the job check.
+fn compare(job: &[u8]) -> u16 {
+    let checked = number_and_place(&check_job(job));
+    assert_eq!(tuned::check(job), checked);
+    let length = order_file_of(job).map_or(20, |file| file.to_file().len());
     for length in [0, length - 1, length, length + 9] {
         let (mut expected, mut buffer) = (vec![165; length], vec![165; length]);
-        let answer = loosen_up_to(latest, job, &mut expected);
-        let tuned = tuned::partialize_up_to(latest, job, &mut buffer);
+        let answer = loosen(job, &mut expected);
+        let tuned = tuned::partialize(job, &mut buffer);
         assert_eq!(tuned, (answer.number, answer.place, answer.length));
         assert_eq!(buffer, expected);
     }
     checked.0
-}
-
-/// Gives the number where edition 2 is taken.
-fn compare(job: &[u8]) -> u16 {
-    compare_up_to(1, job);
-    compare_up_to(2, job)
 }
 
 fn compare_all<'a>(jobs: impl IntoIterator<Item = &'a Job>) {
@@ -89,13 +83,13 @@ fn on_made_jobs_with_every_refusal() {
         for _ in 0..1_500 {
             for command in ['w', 'c', 'l'] {
                 let case = made_case_of(edition, &mut random, command);
-                numbers.insert(compare_up_to(edition, &case.fields[0]));
+                numbers.insert(compare(&case.fields[0]));
             }
         }
         let missed = nearly_missed(edition);
         for &number in &missed {
             let job = near_miss(&mut random, edition, number);
-            numbers.insert(compare_up_to(edition, &job.to_file()));
+            numbers.insert(compare(&job.to_file()));
         }
         let of_the_job_check = (0..=7).chain(missed);
         assert_eq!(numbers, of_the_job_check.collect());

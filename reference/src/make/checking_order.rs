@@ -1,7 +1,8 @@
 //! Two faults in one job file, and a file for each refusal: what is checked first decides.
 
 use crate::job::{
-    header_length, Job, COUNTS_AT, EDITION_AT, OFFSETS_AT, SERIAL_AT, SHORTEST_HEADER, TENTH_AT,
+    header_length, Job, COUNTS_AT, EDITION_AT, LATEST_EDITION, OFFSETS_AT, SERIAL_AT,
+    SHORTEST_HEADER, TENTH_AT,
 };
 use crate::job_file::{counts_in, edition_in, layout};
 use crate::make::damage::{counts_one_above, full_job_of, patched};
@@ -46,7 +47,7 @@ fn faults_in_checking_order(file: &[u8]) -> Vec<(u16, usize, u8)> {
     let first_offset = offsets[0] as u8;
     let last_value_of = |table: usize| offsets[table + 1] - 2;
     let mut faults = vec![
-        (2, EDITION_AT, edition as u8 + 1),
+        (2, EDITION_AT, LATEST_EDITION as u8 + 1),
         (3, SERIAL_AT, 2),
         (4, COUNTS_AT[0] + 1, 2),
         (4, COUNTS_AT[6], 33),
@@ -76,7 +77,7 @@ pub fn one_of_each(edition: u16) -> Vec<Vec<u8>> {
     broken.steps[1].fixed = 2;
     let mut files = vec![
         file[..header - 1].to_vec(),
-        patched(&file, EDITION_AT, &[edition as u8 + 1]),
+        patched(&file, EDITION_AT, &[LATEST_EDITION as u8 + 1]),
         match edition {
             1 => patched(&file, TENTH_AT, &[1]),
             _ => patched(&file, SERIAL_AT, &[2]),

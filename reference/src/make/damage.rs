@@ -3,8 +3,8 @@
 
 use crate::bytes::{u16_at, u32_at};
 use crate::job::{
-    header_length, tables_of, Job, COUNTS_AT, EDITION_AT, HIGHEST, OFFSETS_AT, SERIAL_AT,
-    SHORTEST_HEADER, TENTH_AT,
+    header_length, tables_of, Job, COUNTS_AT, EDITION_AT, HIGHEST, LATEST_EDITION, OFFSETS_AT,
+    SERIAL_AT, SHORTEST_HEADER, TENTH_AT,
 };
 use crate::job_file::edition_in;
 use crate::random::Random;
@@ -64,20 +64,18 @@ pub fn too_short(file: &[u8]) -> Vec<Vec<u8>> {
     files
 }
 
-/// Refusal 2, where no later edition than the file's is taken.
+/// Refusal 2.
 pub fn wrong_editions(file: &[u8]) -> Vec<Vec<u8>> {
-    let edition = edition_in(file);
-    patched_u16(
-        file,
-        EDITION_AT,
-        &[0, edition + 1, 256, 256 + edition, 65_535],
-    )
+    let next = LATEST_EDITION + 1;
+    let editions = [0, next, 256, 256 + edition_in(file), 65_535];
+    patched_u16(file, EDITION_AT, &editions)
 }
 
-/// Files that say to be of an earlier edition than they are: what they hold disagrees.
-pub fn earlier_editions(file: &[u8]) -> Vec<Vec<u8>> {
-    let earlier: Vec<u16> = (1..edition_in(file)).collect();
-    patched_u16(file, EDITION_AT, &earlier)
+/// Files that say to be of another edition than they are: what they hold disagrees.
+pub fn other_editions(file: &[u8]) -> Vec<Vec<u8>> {
+    let own = edition_in(file);
+    let others: Vec<u16> = (1..=LATEST_EDITION).filter(|&other| other != own).collect();
+    patched_u16(file, EDITION_AT, &others)
 }
 
 /// Refusal 3: the serial mark and, in edition 1, the tenth number. A mark of 0 or 1 is good.
@@ -212,7 +210,7 @@ pub fn swapped_header_numbers(file: &[u8]) -> Vec<Vec<u8>> {
 pub fn layouts(file: &[u8]) -> Vec<Vec<u8>> {
     [
         wrong_editions(file),
-        earlier_editions(file),
+        other_editions(file),
         wrong_marks(file),
         wrong_counts(file),
         wrong_offsets(file),

@@ -4,7 +4,7 @@ use crate::job::Job;
 use crate::make::sound::{sound_job, Shape};
 use crate::make::timed_nudges::nudge_a_timed_fact;
 use crate::random::Random;
-use crate::timing::check_job_up_to;
+use crate::timing::check_job;
 
 /// The refusals that a job of an edition can nearly miss.
 pub fn nearly_missed(edition: u16) -> Vec<u16> {
@@ -30,7 +30,7 @@ pub fn near_miss(random: &mut Random, edition: u16, number: u16) -> Job {
         } else {
             nudge(random, &mut job, number);
         }
-        let refused = check_job_up_to(edition, &job.to_file()).err();
+        let refused = check_job(&job.to_file()).err();
         if refused.is_some_and(|refusal| refusal.number == number) {
             return job;
         }

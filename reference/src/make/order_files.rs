@@ -1,7 +1,9 @@
 //! Order files: good ones at every limit, and files broken in every way that refusal 16 names.
 
 use crate::make::sound::small_sound_job;
-use crate::order_file::{highest_link, Link, Order, OrderFile, Window, MOST_LINKS, MOST_STEPS};
+use crate::order_file::{
+    Link, Order, OrderFile, Window, FIRST_TIMED, HIGHEST_LINK, MOST_LINKS, MOST_STEPS,
+};
 use crate::orders::orders_of;
 use crate::random::Random;
 
@@ -83,7 +85,14 @@ fn some_link(random: &mut Random, edition: u16) -> Link {
         0 => Link::InitialState,
         1 if edition == 1 || random.chance(50) => Link::Effect(random.below(4)),
         1 => Link::Timed(random.below(64)),
-        _ => Link::of_number(random.below(usize::from(highest_link(edition)) + 1) as u16),
+        _ => {
+            let links = if edition == 1 {
+                FIRST_TIMED
+            } else {
+                HIGHEST_LINK + 1
+            };
+            Link::of_number(random.below(usize::from(links)) as u16)
+        }
     }
 }
 
@@ -118,7 +127,7 @@ pub fn highest_file() -> OrderFile {
     file
 }
 
-/// Files with links to timed facts, which are read once jobs of edition 2 are taken.
+/// Files with links to timed facts.
 pub fn files_with_timed_links() -> Vec<OrderFile> {
     let mut files = [0, 1, 63]
         .map(|number| changed(|file| file.links[1] = Link::Timed(number)))
@@ -189,8 +198,7 @@ fn with_last_window((limit, latest, earliest): (i64, Option<i64>, i64)) -> Order
 // ---------------------------------------------------------------------------------------------
 // Files that refusal 16 names, each clause alone
 
-/// Where jobs up to this edition are taken.
-pub fn broken_files(latest: u16) -> Vec<(&'static str, Vec<u8>)> {
+pub fn broken_files() -> Vec<(&'static str, Vec<u8>)> {
     let mut files = Vec::new();
     let mut add = |clause, broken: Vec<Vec<u8>>| {
         files.extend(broken.into_iter().map(|file| (clause, file)));
@@ -206,7 +214,7 @@ pub fn broken_files(latest: u16) -> Vec<(&'static str, Vec<u8>)> {
     add("gap out of range", to_files(gaps_out_of_range()));
     add("out of sequence", to_files(orders_out_of_sequence()));
     add("pair of another", to_files(pairs_of_another()));
-    add("link out of range", to_files(links_out_of_range(latest)));
+    add("link out of range", to_files(links_out_of_range()));
     add("rounds above the steps", rounds_above_the_steps());
     add("earliest under its limit", to_files(earliest_under_limit()));
     add("earliest over its latest", to_files(earliest_over_latest()));
@@ -387,13 +395,12 @@ fn pairs_of_another() -> Vec<OrderFile> {
     ]
 }
 
-pub fn links_out_of_range(latest: u16) -> Vec<OrderFile> {
-    let highest = highest_link(latest);
-    let numbers = [highest + 1, highest + 2, 32_768, 65_534];
+fn links_out_of_range() -> Vec<OrderFile> {
+    let numbers = [HIGHEST_LINK + 1, HIGHEST_LINK + 2, 32_768, 65_534];
     let mut files = numbers
         .map(|number| changed(|file| file.links[3] = Link::of_number(number)))
         .to_vec();
-    let next = Link::of_number(highest + 1);
+    let next = Link::of_number(HIGHEST_LINK + 1);
     files.push(changed(|file| file.links[0] = next));
     files
 }

@@ -2,7 +2,7 @@
 
 use crate::brute::obeying_choice;
 use crate::job::{Job, Step};
-use crate::loosen::order_file_up_to;
+use crate::loosen::order_file_of;
 use crate::make::telling::{fixed_step_between, small_job};
 use crate::random::Random;
 
@@ -153,7 +153,7 @@ fn within_u32(start: i64) -> u32 {
 
 /// A choice that obeys the job's order file, if the job is sound.
 fn obeying(random: &mut Random, job: &Job) -> Vec<i64> {
-    match order_file_up_to(job.edition, &job.to_file()) {
+    match order_file_of(&job.to_file()) {
         Ok(file) => obeying_choice(random, &file),
         Err(_) => job.written_starts(),
     }

@@ -2,7 +2,8 @@
 
 use crate::bytes::{i32_at, u16_at, u32_at};
 use crate::job::{
-    header_length, HIGHEST, NO_DEADLINE, SERIAL_AT, SHORTEST_HEADER, TABLES, TENTH_AT, WIDTHS,
+    header_length, HIGHEST, LATEST_EDITION, NO_DEADLINE, SERIAL_AT, SHORTEST_HEADER, TABLES,
+    TENTH_AT, WIDTHS,
 };
 use crate::job_file::{counts_in, edition_in, layout, offsets_in};
 use crate::refusal::{refuse_at, refuse_if, Refusal, Verdict};
@@ -31,8 +32,8 @@ pub struct Steps {
 }
 
 impl Form<'_> {
-    pub fn read(latest: u16, file: &[u8]) -> Result<Form<'_>, Refusal> {
-        let [facts, levels, steps, conditions, effects, uses, goals, timed] = tables(latest, file)?;
+    pub fn read(file: &[u8]) -> Result<Form<'_>, Refusal> {
+        let [facts, levels, steps, conditions, effects, uses, goals, timed] = tables(file)?;
         refuse_at(6, facts.iter().position(|&initial| initial > 1))?;
         let levels = levels.as_chunks().0;
         refuse_at(6, levels.iter().position(level_breaks))?;
@@ -79,10 +80,10 @@ impl Form<'_> {
 }
 
 /// Refusals 1 to 5, and the bytes of each table.
-fn tables(latest: u16, file: &[u8]) -> Result<[&[u8]; TABLES], Refusal> {
+fn tables(file: &[u8]) -> Result<[&[u8]; TABLES], Refusal> {
     refuse_if(1, file.len() < SHORTEST_HEADER)?;
     let edition = edition_in(file);
-    refuse_if(2, edition == 0 || edition > latest)?;
+    refuse_if(2, edition == 0 || edition > LATEST_EDITION)?;
     refuse_if(1, file.len() < header_length(edition))?;
     let tenth_breaks = edition == 1 && u16_at(file, TENTH_AT) != 0;
     refuse_if(3, u16_at(file, SERIAL_AT) > 1 || tenth_breaks)?;

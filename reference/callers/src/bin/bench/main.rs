@@ -10,7 +10,7 @@ use std::process::ExitCode;
 
 use callers::Packed;
 use measure::{in_turn, Nanoseconds};
-use reference::job::{Job, LATEST_EDITION};
+use reference::job::Job;
 use reference::make::bench_jobs::{bench_job, timed_bench_job, Spread, SPREADS, TIMED_SPREADS};
 use reference::make::telling::small_job;
 use reference::order_file::MOST_ORDERS;
@@ -43,11 +43,9 @@ fn print_all() {
     println!("{:20}{columns}{columns}", "");
     print_row("small", measure(&small_job()));
     let grown = SPREADS.map(measure_and_print);
-    if LATEST_EDITION > 1 {
-        for spread in TIMED_SPREADS {
-            let name = format!("timed, {}", spread.name());
-            print_row(&name, measure(&timed_bench_job(spread)));
-        }
+    for spread in TIMED_SPREADS {
+        let name = format!("timed, {}", spread.name());
+        print_row(&name, measure(&timed_bench_job(spread)));
     }
     println!("\ncost of 64 steps over cost of 8, all tables in proportion");
     for (spread, [at_8, at_64]) in SPREADS.iter().zip(&grown) {

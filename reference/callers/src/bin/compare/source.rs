@@ -10,7 +10,7 @@ use reference::make::highest::{chain_of_all_steps, every_pair_ordered_both_ways}
 use reference::make::near_miss::{near_miss, nearly_missed};
 use reference::make::order_files::{
     alike_files, broken_files, each_byte, files_at_the_limits, files_with_timed_links,
-    highest_file, links_out_of_range, some_file, too_many_orders, unlike_files,
+    highest_file, some_file, too_many_orders, unlike_files,
 };
 use reference::make::own_conflicts::{own_conflicts, some_own_conflict};
 use reference::make::scribbled::scribbled_job;
@@ -110,12 +110,12 @@ fn damaged(edition: u16) -> Vec<Vec<u8>> {
 
 fn order_files(edition: u16) -> Vec<Vec<u8>> {
     if edition > 1 {
-        let linked = [files_with_timed_links(), links_out_of_range(edition)].concat();
+        let linked = files_with_timed_links();
         return linked.iter().map(OrderFile::to_file).collect();
     }
     let good = [files_at_the_limits(), alike_files(), unlike_files()].concat();
     let mut files: Vec<Vec<u8>> = good.iter().map(OrderFile::to_file).collect();
-    files.extend(broken_files(edition).into_iter().map(|(_, file)| file));
+    files.extend(broken_files().into_iter().map(|(_, file)| file));
     files.extend(
         [
             each_byte(),
@@ -221,7 +221,7 @@ fn one_of<T: Clone>(random: &mut Random, items: &[T]) -> T {
 
 /// Of the latest edition as often as of those before it.
 fn made(random: &mut Random, make: impl Fn(&mut Random, u16) -> Job) -> Timed {
-    let edition = some_edition(random, LATEST_EDITION);
+    let edition = some_edition(random);
     let job = make(random, edition);
     timed(random, &job)
 }

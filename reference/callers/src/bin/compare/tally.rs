@@ -2,8 +2,6 @@
 
 use std::fmt::Write;
 
-use reference::job::LATEST_EDITION;
-
 const NUMBERS: usize = 18;
 
 #[derive(Clone, Copy)]
@@ -16,20 +14,14 @@ pub enum Entry {
     Alike,
 }
 
-/// Only jobs of edition 2 are refused with 17.
-const OF_TIMED_FACTS: u32 = if LATEST_EDITION < 2 { 0 } else { 1 << 17 };
-
 /// The name of each entry point, and which numbers it gives: one bit a number.
 const ENTRIES: [(&str, u32); 6] = [
-    ("jobs_check", 0b0_0111_1100_1111_1111 | OF_TIMED_FACTS),
-    (
-        "jobs_check_schedule",
-        0b0_0111_1111_1111_1111 | OF_TIMED_FACTS,
-    ),
-    ("jobs_partialize", 0b0_1111_1100_1111_1111 | OF_TIMED_FACTS),
-    ("jobs_order_header", 0b1_0000_0000_0000_0001),
-    ("jobs_order_record", 0b1_0000_0000_0000_0001),
-    ("jobs_alike", 0b1_0000_0000_0000_0001),
+    ("jobs_check", 0b10_0111_1100_1111_1111),
+    ("jobs_check_schedule", 0b10_0111_1111_1111_1111),
+    ("jobs_partialize", 0b10_1111_1100_1111_1111),
+    ("jobs_order_header", 0b01_0000_0000_0000_0001),
+    ("jobs_order_record", 0b01_0000_0000_0000_0001),
+    ("jobs_alike", 0b01_0000_0000_0000_0001),
 ];
 
 #[derive(Default)]
