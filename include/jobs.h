@@ -1,5 +1,5 @@
-/* The static library `exports` for C and C++ callers: job files checked and loosened, order files
- * read and compared.
+/* The static library `exports` for C and C++ callers: job files of editions 1 and 2 checked and
+ * loosened, order files read and compared.
  *
  * No function presumes anything of the bytes it is given. Each slice is a pointer and a length;
  * the pointer must be aligned and not null even where the length is 0. What a function writes
@@ -16,18 +16,20 @@
  *
  * The numbers in checking order, with what the place names:
  *
- *      1  the job file is shorter than 48 bytes
- *      2  its edition is not 1
- *      3  its serial mark exceeds 1, or its tenth number is not 0
+ *      1  the job file is shorter than 48 bytes; after 2, also than the 52 of edition 2
+ *      2  its edition is neither 1 nor 2
+ *      3  its serial mark exceeds 1, or in edition 1 its tenth number is not 0
  *      4  a count exceeds its highest
  *      5  an offset or the file's length disagrees with the tables
  *      6  a record breaks its ranges, or names a step, fact or level not counted
  *         (the record in its table; tables in the order of the file)
  *      7  a step sets a fact both ways at one tick, uses one level twice at one tick, or opposes
  *         its own condition from its first tick to before its last (step)
+ *     17  two timed facts set one fact both ways at one tick (timed fact)
  *      8  the list of starts does not have one entry a step
  *      9  a fixed step has another start (step)
- *     10  two steps' opposing effects share a tick (effect)
+ *     10  a step's effect shares a tick with an opposing one of another step, or with an opposing
+ *         timed fact (effect)
  *     11  a condition fails (condition)
  *     12  a level passes a bound (level)
  *     13  a goal fails or comes after its deadline (goal)
@@ -47,7 +49,7 @@ extern "C" {
 #endif
 
 /* A thread with this much stack can make any call. */
-#define JOBS_STACK 65536u
+#define JOBS_STACK 98304u
 
 /* The place where no record is named, and the place of an acceptance. */
 #define JOBS_NOWHERE 65535u
@@ -55,8 +57,10 @@ extern "C" {
 /* No order file is longer: a header, 64 windows, 4,032 orders, 544 links. */
 #define JOBS_LONGEST_ORDER_FILE (24u + 64u * 12u + 4032u * 8u + 544u * 2u)
 
-/* In an order file: the latest start that is none, and the link to the initial state. */
+/* In an order file: the latest start that is none, the link to timed fact 0, which those to the
+ * others follow up to 575, and the link to the initial state. */
 #define JOBS_NO_LATEST 4294967295u
+#define JOBS_FIRST_TIMED 512u
 #define JOBS_INITIAL_STATE 65535u
 
 /* The tables of an order file. */
@@ -81,14 +85,15 @@ static inline uint32_t jobs_place(uint64_t returned)
     return (uint32_t)returned & 65535u;
 }
 
-/* Whether a job is sound at its written starts. Refuses with 1 to 7 and 10 to 14. */
+/* Whether a job is sound at its written starts. Refuses with 1 to 7, 17 and 10 to 14. */
 uint64_t jobs_check(const uint8_t *job, size_t len);
 
-/* Whether a job is sound with these starts in place of the written ones. Refuses with 1 to 14. */
+/* Whether a job is sound with these starts in place of the written ones. Refuses with 1 to 14
+ * and 17. */
 uint64_t jobs_check_schedule(const uint8_t *job, size_t len, const uint32_t *starts, size_t count);
 
 /* Loosens a job into an order file at the front of `out`, and answers the file's length; bytes past
- * it stay. Refuses with 1 to 7 and 10 to 15. */
+ * it stay. Refuses with 1 to 7, 17 and 10 to 15. */
 uint64_t jobs_partialize(const uint8_t *job, size_t len, uint8_t *out, size_t out_len);
 
 /* Answers 1 if two order files have equal steps, limits, latest starts and orders, else 0.
@@ -102,8 +107,8 @@ uint64_t jobs_order_header(const uint8_t *file, size_t len, uint32_t *list, size
 
 /* Puts the numbers of one record of an order file into the list, as above. A window has its
  * earliest limit, latest start (or JOBS_NO_LATEST) and earliest time; an order has its first step,
- * its second step and its gap, to be read as an int32_t; a link has an effect's number or
- * JOBS_INITIAL_STATE. Refuses with 16. */
+ * its second step and its gap, to be read as an int32_t; a link has an effect's number,
+ * JOBS_FIRST_TIMED plus a timed fact's number, or JOBS_INITIAL_STATE. Refuses with 16. */
 uint64_t jobs_order_record(const uint8_t *file, size_t len, uint32_t table, uint32_t number,
                            uint32_t *list, size_t count);
 
