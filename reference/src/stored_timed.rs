@@ -12,6 +12,7 @@ use crate::make::timed_telling::timed_telling_jobs;
 use crate::make::timed_timings::timed_timings;
 use crate::make::{checking_order, damage, ranges};
 use crate::random::Random;
+use crate::samples::barriers;
 use crate::stored::{
     at_written_starts, length_for, list, loosened_into_buffers_around, made_of, order_files,
     timings_at_the_earliest, to_files,
@@ -33,10 +34,10 @@ pub fn cases_of_edition_2(command: char) -> Vec<Case> {
 // ---------------------------------------------------------------------------------------------
 // Jobs
 
-/// The jobs made by hand: what tells mistakes apart, and the edges of the refusals.
+/// The jobs made by hand: what tells mistakes apart, the edges of the refusals, the sample.
 fn jobs_by_hand() -> Vec<Job> {
     let telling = timed_telling_jobs().into_iter().map(|(_, job)| job);
-    telling.chain(timed_edges()).collect()
+    telling.chain(timed_edges()).chain([barriers()]).collect()
 }
 
 fn well_formedness_cases() -> Vec<Case> {
