@@ -315,8 +315,8 @@ timedCases =
     -- an effect between two timed facts that oppose it; "the tightest counts"
     ∷ record {
       job =
-        withTimed 0 [] (effect 0 1 3 1 ∷ []) []
-        (timedFact 1 4 0 ∷ timedFact 1 30 0 ∷ timedFact 1 2 0 ∷ timedFact 1 40 0 ∷ []);
+          withTimed 0 [] (effect 0 1 3 1 ∷ []) []
+          (timedFact 1 4 0 ∷ timedFact 1 30 0 ∷ timedFact 1 2 0 ∷ timedFact 1 40 0 ∷ []);
       expected = accepted 1 (window 2 26 2 ∷ []) [] [];
     }
     -- a goal that a timed fact supports limits nobody

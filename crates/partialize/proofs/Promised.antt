@@ -166,7 +166,7 @@ module _ (s : List ℕ) (p : Sound s (planned (modelOf s))) where
         contents = a;
         returned = encoded-read-back (looseOf s) (within m w v);
         supporters =
-          links-supported (clocked m) (planned m) (form m w v) v (λ j. linkedEffect m (c .link j)) (filed-links m w v a);
+            links-supported (clocked m) (planned m) (form m w v) v (λ j. linkedEffect m (c .link j)) (filed-links m w v a);
         gaps = filed-gap (linkNumber m) (clocked m) (planned m) (form m w v) v (planned-zero m) c a;
       }
 

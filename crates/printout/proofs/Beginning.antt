@@ -96,7 +96,8 @@ module _ (s : List ℕ) (long : mostJob < length s) where
   unfolding jobCheck formCheck
   job-long =
       let e = first-refused (headerCheck s) _ _ not-passed in
-      sym (then-refused _ _ (λ z. not-passed (ap number e ∙ z))) ∙ sym e ∙ header-long
+      let f = e ∙ then-refused _ _ (λ z. not-passed (ap number e ∙ z)) in
+      sym (then-refused _ _ (λ z. not-passed (ap number f ∙ z))) ∙ sym f ∙ header-long
 
   not-accepted : accepts s ≡ false
   unfolding accepts
