@@ -4,7 +4,7 @@ use mathlib.Core.Path.{_≡_, sym, ap, _∙_}
 use mathlib.Core.List.{List}
 use Rattle.verdict.specs.declared.Verdict.{Verdict}
 use Rattle.verdict.specs.Verdict.{number, _then_}
-use Rattle.verdict.proofs.Chain.{then-accepted, first-refused, zero-then}
+use Rattle.verdict.proofs.Chain.{then-accepted, first-refused}
 use Rattle.job.specs.declared.layout.Job.{Job}
 use Rattle.job.specs.Model.{view, modelOf}
 use Rattle.record_check.specs.declared.Form.{Form}
@@ -24,12 +24,6 @@ module _ (s : List ℕ) where
   pub records-refused : (number (headerCheck s then recordCheck (modelOf s)) ≡ 0 → ⊥) → (headerCheck s then recordCheck (modelOf s)) ≡ formCheck s
   unfolding formCheck
   records-refused = first-refused _ _ _
-
-  pub form-passes :
-      number (headerCheck s then recordCheck (modelOf s)) ≡ 0 → number (stepCheck (modelOf s)) ≡ 0 → number (timedCheck (modelOf s)) ≡ 0
-      → number (formCheck s) ≡ 0
-  unfolding formCheck
-  form-passes r a b = zero-then _ _ (zero-then _ _ r a) b
 
 -- the same of records that were read: the verdict of the form check with and without refusals 7 and 17
 module _ {s : List ℕ} {r : Form} (p : RecordsPromise s r) where

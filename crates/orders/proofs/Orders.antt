@@ -193,7 +193,8 @@ module _ (m : Model) (x y : ℕ → ℕ) (w : ClockedForm m) (s : Valid m x) (ze
 
   -- and two uses of levels
   keeps-points :
-      {i k gap : ℕ} (p q : ℕ) → i < m .steps → k < m .steps → q ≤ lastTimed → strictly p q ≤ gap → ((i ≡ k → ⊥) → gap ≤ gapOf m x i k)
+      {i k gap : ℕ} (p q : ℕ) → i < m .steps → k < m .steps → q ≤ lastTimed → strictly p q ≤ gap
+      → ((i ≡ k → ⊥) → gap ≤ gapOf m x i k)
       → x i + p < x k + q
       → y i + p < y k + q
   keeps-points {i} {k} p q h g b s c l =

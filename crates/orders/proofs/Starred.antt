@@ -41,7 +41,8 @@ use Rattle.orders.specs.Gaps.{serialGap, gapOf}
 use Rattle.orders.specs.Windows.{clockGap, clockLimit, limitOf, clockLatest, allowed, latestOf}
 use Rattle.rounds.specs.Rounds.{demand, raised, after, unchanged, rounds, earliest}
 use Rattle.orders.specs.File.{linkNumber, ordered, fileWith, fileOf}
-use Rattle.orders.specs.Starred.{fact, level, step, condition, effect, usage, goal, timedFact, joined, offsets, timedTable, tablesOf, editionOf, jobBytes, Window, window, Order, order}
+use Rattle.orders.specs.Starred.{fact, level, step, condition, effect, usage, goal, timedFact, joined, offsets, timedTable, tablesOf}
+use Rattle.orders.specs.Starred.{editionOf, jobBytes, Window, window, Order, order}
 use Rattle.orders.specs.Starred.{contentsWith, Expected, refused, accepted, Answers, Case, AllAnswer}
 use Rattle.orders.specs.Starred.{small, nothing, levelled, serially, starred, withTimed, tied, timedCases}
 use Rattle.order_file.specs.Contents.{Contents}
@@ -212,8 +213,8 @@ unfolding AllAnswerBy AnswersBy starred small nothing levelled serially jobBytes
     u32At biasedAt largest least sum tabulate any all lowest lowestOwner headerWidth countsOf tableAt positionsOf jobOf countTooHigh
     editionKnown marksWrong layoutAgrees _then_ refuseIf refuseLowest factOk levelOk stepOk conditionOk effectOk useOk goalOk timedOk bothWays usesTwice
     opposesOwn setBefore usedBefore opposesAny bothWaysStep usesTwiceStep opposesOwnStep headerCheck tableCheck recordCheck
-    againstStep stepCheck timedBothWays timedConflicts timedCheck formCheck givenAt lastGiven seen afterAll risesBefore fallsBefore meets conflicts breaks conditionFails
-    passes levelFails undoes late goalFails overlaps crowded ruleCheck timingCheck jobCheck producer earliestProduced
+    againstStep stepCheck timedBothWays timedConflicts timedCheck formCheck givenAt lastGiven seen afterAll risesBefore fallsBefore meets
+    conflicts breaks conditionFails passes levelFails undoes late goalFails overlaps crowded ruleCheck timingCheck jobCheck producer earliestProduced
     supporter linkOf conditionLink goalLink supportOrder supportGap opposingOrder opposingGap beforeOrder afterOrder
     conditionGap levelOrder levelGap serialGap gapOf clockGap clockLimit limitOf clockLatest allowed latestOf demand raised after unchanged rounds earliest
 starred-computed =
@@ -241,8 +242,8 @@ unfolding AllAnswerBy AnswersBy timedCases withTimed tied jobBytes timedTable ta
     u32At biasedAt largest least sum tabulate any all lowest lowestOwner headerWidth countsOf tableAt positionsOf jobOf countTooHigh
     editionKnown marksWrong layoutAgrees _then_ refuseIf refuseLowest factOk levelOk stepOk conditionOk effectOk useOk goalOk timedOk bothWays usesTwice
     opposesOwn setBefore usedBefore opposesAny bothWaysStep usesTwiceStep opposesOwnStep headerCheck tableCheck recordCheck
-    againstStep stepCheck timedBothWays timedConflicts timedCheck formCheck givenAt lastGiven seen afterAll risesBefore fallsBefore meets conflicts breaks conditionFails
-    passes levelFails undoes late goalFails overlaps crowded ruleCheck timingCheck jobCheck producer earliestProduced
+    againstStep stepCheck timedBothWays timedConflicts timedCheck formCheck givenAt lastGiven seen afterAll risesBefore fallsBefore meets
+    conflicts breaks conditionFails passes levelFails undoes late goalFails overlaps crowded ruleCheck timingCheck jobCheck producer earliestProduced
     supporter linkOf conditionLink goalLink supportOrder supportGap opposingOrder opposingGap beforeOrder afterOrder
     conditionGap levelOrder levelGap serialGap gapOf clockGap clockLimit limitOf clockLatest allowed latestOf demand raised after unchanged rounds earliest
 timed-computed =

@@ -54,7 +54,8 @@ gap-agrees c d a i k =
     (λ o h. cc (a .first o h, a .second o h, a .gap o h))
 
 -- contents that agree with what is filed of a valid schedule
-module _ (number : ℕ → ℕ) (m : Model) (x : ℕ → ℕ) (w : ClockedForm m) (v : Valid m x) (zero : x (m .steps) ≡ 0) (c : Contents) (a : Agree c (fileWith number m x)) where
+module _ (number : ℕ → ℕ) (m : Model) (x : ℕ → ℕ) (w : ClockedForm m) (v : Valid m x) (zero : x (m .steps) ≡ 0)
+    (c : Contents) (a : Agree c (fileWith number m x)) where
   -- have its gaps
   pub filed-gap : (i k : ℕ) → i < m .steps → k < m .steps → filedGap c i k ≡ gapOf m x i k
   filed-gap i k h g = gap-agrees c (fileWith number m x) a i k ∙ gap-filed number m x w i k h g

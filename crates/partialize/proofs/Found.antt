@@ -72,7 +72,8 @@ module _ (number : ℕ → ℕ) (m : Model) (x : ℕ → ℕ) (found : ℕ) (lim
       ∙ ap length (held-file number m x found limits latest early gaps linked holds)
 
   pub written-short :
-      (n : ℕ) (before : List ℕ) → n ≡ length (encode (fileWith number m x)) → length before < n → Filing (fileWith number m x) before before BufferTooShort
+      (n : ℕ) (before : List ℕ) → n ≡ length (encode (fileWith number m x)) → length before < n
+      → Filing (fileWith number m x) before before BufferTooShort
   written-short n before e h =
       let f = lt-leb (length (encode (fileWith number m x))) (length before) (omega arith) in
       record { answer = simp f; buffer = simp f }

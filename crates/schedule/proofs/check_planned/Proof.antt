@@ -26,4 +26,5 @@ check-planned-spec =
     job-promise s
     (c .check-ordered .ensures
     ∙ ap₂ _then_ (read-form (d .pre .read))
-    (ap (startsCheck m) (d .pre .written) ∙ planned-check m ∙ ap (λ (j : Job). timingCheck (clocked (view j s)) (planned (view j s))) (d .pre .read .header)))))
+    (ap (startsCheck m) (d .pre .written) ∙ planned-check m
+    ∙ ap (λ (j : Job). timingCheck (clocked (view j s)) (planned (view j s))) (d .pre .read .header)))))

@@ -12,8 +12,11 @@ check-small-spec =
     (λ c. search needs) (λ c. search needs) (λ c. search needs)
     (λ c κs.
     let p = c .before .before .before .before .before .pre in
-    let few = p .1 in
-    (read-in-range (p .0), record { listed = omega (arith, few .points); sorted = omega (arith, few .points); grouped = omega (arith, few .groups) }, read-lies (p .0)))
+    let few = p .1 in (
+      read-in-range (p .0),
+      record { listed = omega (arith, few .points); sorted = omega (arith, few .points); grouped = omega (arith, few .groups) },
+      read-lies (p .0),
+    ))
     (λ c. search needs) (λ c. search needs)
     (λ c κs.
     let listed = c .before .before .before .before .before in

@@ -39,12 +39,14 @@ number-links-spec =
     (λ c. search needs)
     (λ c. omega (arith, c .before .before .loop-test .taken))
     (λ c.
-    let i = c .before .before .before .loop .inv in (
+    let i = c .before .before .before .loop .inv in
+    let start = c .before .before .before .before .before .before .before .before .before in
+    let below = c .before .before .loop-test .taken in (
       i .0,
       i .1,
-      omega (arith, c .before .before .loop-test .taken),
+      omega (arith, below),
       λ s.
-          numbered-more (view (c .before .before .before .before .before .before .before .before .before .args .job) s) _ (omega (arith, i .0 .room, i .1, i .3 [] .size, c .before .before .loop-test .taken)) (c .link-number .ensures s) (i .3 s),
+          numbered-more (view (start .args .job) s) _ (omega (arith, i .0 .room, i .1, i .3 [] .size, below)) (c .link-number .ensures s) (i .3 s),
     ))
     (λ c. c .before .loop .inv .3 [] .size)
     (λ c. λ s.
