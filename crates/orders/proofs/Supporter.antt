@@ -206,7 +206,7 @@ module _ (m : Model) (x : ℕ → ℕ) (fact v t : ℕ) (before : ℕ → Type 0
 
 -- the plain record leaves one link
 module _ (m : Model) (x : ℕ → ℕ) (fact v : ℕ) (before : ℕ → Type 0) (a b : ℕ) where
-  linked-once : LinkedTo m x fact v before a → LinkedTo m x fact v before b → a ≡ b
+  pub linked-once : LinkedTo m x fact v before a → LinkedTo m x fact v before b → a ≡ b
   linked-once (byInitialState p i) (byInitialState q j) = p ∙ sym q
   linked-once (byInitialState p i) (byEffect n s) = absurd (n i)
   linked-once (byEffect n s) (byInitialState p i) = absurd (n i)

@@ -66,7 +66,7 @@ near x i k j n p q c h g =
     (λ t. let b = and-both _ _ (and-both _ _ (and-both _ _ t .0) .0) in (h (eqb-true _ _ (b .0)), g (eqb-true _ _ (b .1))))
 
 -- a link is an effect's number, or stands for the initial state
-link-known :
+pub link-known :
     (m : Model) (x : ℕ → ℕ) (fact v : ℕ) (before : ℕ → Type 0) (link : ℕ) → LinkedTo m x fact v before link
     → (link < m .effects) ⊎ (link ≡ initialState)
 link-known m x fact v before link (byInitialState z i) = inr z

@@ -37,6 +37,8 @@ use Rattle.partialize.specs.declared.answer.Answer.{Answer}
 use Rattle.partialize.specs.declared.answer.Answer.the-variants.{Filed, Refused, BufferTooShort}
 use Rattle.partialize.specs.Answer.{number, place, lengthOf}
 use Rattle.orders.specs.Obeys.{Obeys}
+use Rattle.orders.specs.Limited.{Limited}
+use Rattle.orders.specs.Windows.{limitOf, latestOf}
 use Rattle.orders.specs.File.{earliestOf, linkNumber, linkedEffect, fileWith, fileOf}
 use Rattle.order_file.specs.Held.{over}
 use Rattle.partialize.specs.Partialization.{looseOf, fileBytes, accepts, fits, answerTo, bufferAfter}
@@ -48,6 +50,7 @@ use Rattle.orders.proofs.Sound.{obeying-valid}
 use Rattle.orders.proofs.End.{same-end}
 use Rattle.orders.proofs.Satisfied.{satisfies-obeys, planned-satisfies, earliest-first, earliest-planned, earliest-satisfies}
 use Rattle.orders.proofs.Within.{nth-known, file-within}
+use Rattle.orders.proofs.Limited.{limits-plain, limited-same}
 use Rattle.orders.proofs.Numbers.{number-initial, number-last, link-back, obeys-clock}
 use Rattle.partialize.proofs.Counted.{filed-gap, some-counted, last-counted, earlier-counted}
 
@@ -145,6 +148,12 @@ module _ (m : Model) (w : WellFormed m) (v : Valid (clocked m) (planned m)) wher
   unfolding fileOf fileWith
   rounds-filed = omega (arith, read-back .rounds, within .rounds)
 
+  -- its limits and latest starts are those of the plain record
+  filed-limits : {c : Contents} → Agree c (fileOf m x) → Limited m x (c .limit) (c .latest)
+  unfolding fileOf fileWith
+  filed-limits {c} a =
+      limited-same m x (limitOf M x) (latestOf M x) (c .limit) (c .latest) (a .limit) (a .latest) (limits-plain m x w v (planned-zero m))
+
   -- its links are read back as what supports
   filed-links :
       {c : Contents} → Agree c (fileOf m x) → (j : ℕ) → j < m .conditions + m .goals → linkedEffect m (c .link j) ≡ nthLink M x j
@@ -168,6 +177,7 @@ module _ (s : List ℕ) (p : Sound s (planned (modelOf s))) where
         supporters =
             links-supported (clocked m) (planned m) (form m w v) v (λ j. linkedEffect m (c .link j)) (filed-links m w v a);
         gaps = filed-gap (linkNumber m) (clocked m) (planned m) (form m w v) v (planned-zero m) c a;
+        windows = filed-limits m w v a;
       }
 
   loose-file : Loose s (encode (looseOf s))

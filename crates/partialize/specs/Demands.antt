@@ -23,6 +23,7 @@ use Rattle.order_check.specs.WellFormed.{wellFormed}
 use Rattle.order_answers.specs.ReadBack.{ReadBack}
 use Rattle.orders.specs.Supporter.{LinksSupported}
 use Rattle.orders.specs.Gaps.{gapOf}
+use Rattle.orders.specs.Limited.{Limited}
 use Rattle.orders.specs.File.{linkedEffect}
 use Rattle.orders.specs.Satisfies.{SatisfiesFile}
 use Rattle.partialize.specs.declared.answer.Answer.{Answer}
@@ -48,6 +49,8 @@ pub record Exact (s file : List ℕ) : Type 0 where
   pub gaps :
       (i k : ℕ) → i < modelOf s .steps → k < modelOf s .steps
       → filedGap (contentsOf file) i k ≡ gapOf (clocked (modelOf s)) (planned (modelOf s)) i k
+  -- the limits and latest starts are what written starts, deadlines and timed facts ask, and no tighter
+  pub windows : Limited (modelOf s) (planned (modelOf s)) (contentsOf file .limit) (contentsOf file .latest)
 
 -- whether one more round changes nothing, after r rounds over the filed orders that begin with the filed limits
 unfoldable pub settledAfter : Contents → ℕ → Bool
