@@ -11,7 +11,7 @@ use Rattle.verdict.specs.declared.Verdict.the-variants.{GoalFails, StepsOverlap
 use Rattle.job.specs.Model.{modelOf}
 use Rattle.validity.specs.Ticks.{planned}
 use Rattle.validity.specs.Checks.{jobCheck}
-use Rattle.order_file.specs.Contents.{Contents, noLatest, gapBias}
+use Rattle.order_file.specs.Contents.{Contents, noLatest, initialState, gapBias}
 use Rattle.order_file.specs.Agree.{Agree}
 use Rattle.orders.specs.File.{fileOf}
 
@@ -305,12 +305,12 @@ timedCases =
     -- "one strictly before gives start ≤ T − point − 1": the point is the condition's last tick
     ∷ record {
       job = withTimed 0 (condition 0 0 0 3 1 ∷ []) [] [] (timedFact 0 30 0 ∷ []);
-      expected = accepted 1 (window 0 26 0 ∷ []) [] (65535 ∷ []);
+      expected = accepted 1 (window 0 26 0 ∷ []) [] (initialState ∷ []);
     }
     -- a fixed step keeps its start
     ∷ record {
       job = withTimed 1 (condition 0 0 0 3 1 ∷ []) [] [] (timedFact 0 30 0 ∷ []);
-      expected = accepted 1 (window 20 20 20 ∷ []) [] (65535 ∷ []);
+      expected = accepted 1 (window 20 20 20 ∷ []) [] (initialState ∷ []);
     }
     -- an effect between two timed facts that oppose it; "the tightest counts"
     ∷ record {
