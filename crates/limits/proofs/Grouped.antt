@@ -26,6 +26,7 @@ module _ (x at value step : ℕ → ℕ) (P : ℕ → Type 0) (points : List ℕ
         ends = g .ends;
         step = λ p a b. omega (arith, g .steps p a b, h (numberAt points p) (g .holds p a b));
         begun = λ p a b. omega (arith, g .ticks p a b, ap x (g .steps p a b));
+        rises = g .rises;
       }
 
   -- the orders of the points are those of the records
@@ -167,3 +168,19 @@ module _ {m : Model} {starts points begins : List ℕ} (w : TimedPoints m starts
         rw (a, b)
         (placed-begun (scheduleOf starts) (m .conditionFrom) (m .conditionValue) (m .conditionStep) (Wanting m (timed .fact)) points _ _
         (w .known .wanted (timed .fact) timed-fact) many (λ n h. omega (arith, w .form .conditionStep n (h .0))))
+
+-- those of fact f
+module _ {m : Model} {starts points begins : List ℕ} (w : TimedPoints m starts points begins) {f : ℕ} (h : f < m .facts) {many low high : ℕ}
+    (few : m .steps ≤ many) where
+  pub fact-setters : low ≡ getD begins f 0 → high ≡ getD begins (f + 1) 0 → Begun many (scheduleOf starts) points low high
+  fact-setters a b =
+      rw (a, b)
+      (placed-begun (scheduleOf starts) (m .effectAt) (m .effectValue) (m .effectStep) (Setter m f) points _ _
+      (w .known .setters f h) many (λ n i. omega (arith, w .form .effectStep n (i .0))))
+
+  pub fact-wanted :
+      low ≡ getD begins (m .facts + f) 0 → high ≡ getD begins (m .facts + f + 1) 0 → Begun many (scheduleOf starts) points low high
+  fact-wanted a b =
+      rw (a, b)
+      (placed-begun (scheduleOf starts) (m .conditionFrom) (m .conditionValue) (m .conditionStep) (Wanting m f) points _ _
+      (w .known .wanted f h) many (λ n i. omega (arith, w .form .conditionStep n (i .0))))

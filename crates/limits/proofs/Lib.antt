@@ -6,3 +6,5 @@ pub mod Gaps
 pub mod Clock
 pub mod Raised
 pub mod Lowered
+pub mod Known
+pub mod Walked

@@ -4,7 +4,7 @@ use mathlib.Core.Path.{_≡_}
 use mathlib.Core.List.{List}
 use mathlib.Core.Logic.{_⊎_}
 use lib.ListN.{length, getD}
-use Rattle.timeline.specs.Words.{wordStep, wordValue, wordNumber, wordTick}
+use Rattle.timeline.specs.Words.{wordStep, wordValue, wordNumber, wordTick, tickAt, valueAt}
 use Rattle.job.specs.declared.records.TimedFact.{TimedFact}
 use Rattle.job.specs.Model.{Model, timedOf}
 use Rattle.points.specs.Points.{wantedGroup}
@@ -41,11 +41,14 @@ startAfter tick at = tick + 1 - at
 abbrev pub startBefore : ℕ → ℕ → ℕ
 startBefore tick at = tick - (at + 1)
 
--- a point that has another value than a timed fact and lies after it
+-- a point that has another value than a timed fact of this tick and value, and lies after it
+abbrev pub LaterThan : (ℕ → ℕ) → ℕ → ℕ → ℕ → ℕ → ℕ → Type 0
+LaterThan x tick value word k v =
+    (wordValue word ≡ value → ⊥) × (tick < wordTick word) × (wordStep word ≡ k)
+    × (v ≡ startAfter tick (wordTick word - x (wordStep word)))
+
 abbrev pub Later : (ℕ → ℕ) → TimedFact → ℕ → ℕ → ℕ → Type 0
-Later x timed word k v =
-    (wordValue word ≡ timed .value → ⊥) × (timed .tick < wordTick word) × (wordStep word ≡ k)
-    × (v ≡ startAfter (timed .tick) (wordTick word - x (wordStep word)))
+Later x timed = LaterThan x (timed .tick) (timed .value)
 
 -- a setter that has another value and lies before it
 abbrev pub Sooner : (ℕ → ℕ) → TimedFact → ℕ → ℕ → ℕ → Type 0
@@ -70,6 +73,17 @@ OfSetters points begins f = OfWords points (getD begins f 0) (getD begins (f + 1
 abbrev pub OfWanted : Model → List ℕ → List ℕ → ℕ → (ℕ → ℕ → ℕ → Type 0) → ℕ → ℕ → Type 0
 OfWanted m points begins f = OfWords points (getD begins (wantedGroup m f) 0) (getD begins (wantedGroup m f + 1) 0)
 
+-- a point's orders with the timed facts from place to place
+abbrev pub OfTimed : List ℕ → ℕ → ℕ → (ℕ → ℕ → ℕ → ℕ → ℕ → Type 0) → ℕ → ℕ → ℕ → Type 0
+OfTimed order from until By word = Among from until (λ q. By (tickAt order q) (valueAt order q) word)
+
+-- those of the setters and of the conditions of fact f with its timed facts, by how many facts there are
+abbrev pub OfFact :
+    ℕ → List ℕ → List ℕ → List ℕ → List ℕ → (ℕ → ℕ → ℕ → ℕ → ℕ → Type 0) → (ℕ → ℕ → ℕ → ℕ → ℕ → Type 0) → ℕ → ℕ → ℕ → Type 0
+OfFact facts points begins order marks By With f k v =
+    OfSetters points begins f (OfTimed order (getD marks f 0) (getD marks (f + 1) 0) By) k v
+    ⊎ OfSetters points begins (facts + f) (OfTimed order (getD marks f 0) (getD marks (f + 1) 0) With) k v
+
 -- rules 2 and 3 from timed fact j to a step, and from a step to it
 abbrev pub LimitBy : Model → (ℕ → ℕ) → List ℕ → List ℕ → ℕ → ℕ → ℕ → Type 0
 LimitBy m x points begins j k v =
@@ -87,12 +101,13 @@ LimitByLink m links c k v =
     (m .effects ≤ getD links c 0) × (getD links c 0 ≡ initialState → ⊥) × (m .conditionStep c ≡ k)
     × (v ≡ startAfter (m .timedTick (getD links c 0 - m .effects)) (m .conditionFrom c))
 
--- points of the first n steps, none before its step's start
+-- points of the first n steps in the order of their ticks, none before its step's start
 pub record Begun (n : ℕ) (x : ℕ → ℕ) (points : List ℕ) (low high : ℕ) : Type 0 where
   pub begins : low ≤ high
   pub ends : high ≤ length points
   pub step : (p : ℕ) → low ≤ p → p < high → wordStep (getD points p 0) < n
   pub begun : (p : ℕ) → low ≤ p → p < high → x (wordStep (getD points p 0)) ≤ wordTick (getD points p 0)
+  pub rises : (p q : ℕ) → low ≤ p → p < q → q < high → tickAt points p ≤ tickAt points q
 
 -- conditions of the first n steps
 pub record Wanted (m : Model) (n : ℕ) (points : List ℕ) (low high : ℕ) : Type 0 where

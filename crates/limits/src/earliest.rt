@@ -1,72 +1,101 @@
 // Earliest limits: a point strictly after the tick T of a timed fact gives start ≥ T + 1 − point.
 ghost use mathlib.Core.Path.{_≡_};
-ghost use Prim.Native.Nat.{_≤_, _<_};
+ghost use Prim.Native.Nat.{_-_, _≤_, _<_};
 ghost use lib.ListN.{length};
 ghost use Rattle.timeline.specs.Words.{wordStep, wordTick};
-ghost use Rattle.job.specs.Model.{view, lastTimed};
+ghost use Rattle.job.specs.Model.{view};
 ghost use Rattle.job.specs.WellFormed.{WellFormed};
 ghost use Rattle.job_reader.specs.Laid.{Laid};
 ghost use Rattle.validity.specs.Ticks.{scheduleOf};
 ghost use Rattle.order_file.specs.Table.{rowWidth};
-ghost use Rattle.limits.specs.Timed.{TimedPoints, TimedLinks, AllAre, ClockLimits};
-ghost use Rattle.limits.specs.Moved.{Up, Moved, Single, Among, startAfter, Later, OfWords, LimitBy, LimitByLink, Begun, LinksNamed};
+ghost use Rattle.limits.specs.Timed.{TimedPoints, TimedLinks, AllAre, mostLimit, ClockLimits};
+ghost use Rattle.limits.specs.Moved.{Up, Moved, Single, Among, LaterThan, OfWords, OfTimed, LimitBy, LimitByLink, Begun, LinksNamed};
+ghost use Rattle.limits.specs.Known.{Row, Passed, LastOther};
 use crate::since;
+use crate::timed::MARKS;
+use crate::timed::MOST_TIMED;
+use crate::timed::Span;
+use crate::timed::list_timed;
+use crate::timed::span_of;
 use job::layout::Job;
-use job::records::TimedFact;
 use job_reader::laid::condition_of;
 use job_reader::laid::timed_of;
 use order_file::layout::INITIAL_STATE;
 use points::ticks::start_of;
-use timeline::word::begin_at;
+use timeline::walk::Cursor;
+use timeline::walk::advance;
 use timeline::word::step_of;
 use timeline::word::tick_of;
 use timeline::word::value_of;
 
-// Raises the limit of a step so that what lies `at` into it comes after a tick.
-fn raise_limit(step: u16, at: usize, tick: usize, limits: &mut [u32])
-    requires { ⌜ (step < length (now limits)) × (tick ≤ lastTimed) ⌝ }
-    ensures { λ _. ⌜ Moved Up (Single step (startAfter tick at)) (now (limits .entry)) (now (limits .exit)) ⌝ }
+// Raises the limit of a step so that what lies `at` into it does not come before tick `first`.
+fn raise_limit(step: u16, at: usize, first: usize, limits: &mut [u32])
+    requires { ⌜ (step < length (now limits)) × (first ≤ mostLimit) ⌝ }
+    ensures { λ _. ⌜ Moved Up (Single step (first - at)) (now (limits .entry)) (now (limits .exit)) ⌝ }
 {
     let k = step as usize;
-    let limit = since(tick + 1, at) as u32;
+    let limit = since(first, at) as u32;
     if limits[k] < limit {
         limits[k] = limit;
     }
 }
 
-// Rules 2 and 3: a point of another value, an effect or where a condition begins, comes after the timed fact that it lies after.
-fn raise_point(starts: &[u32], word: u64, timed: TimedFact, limits: &mut [u32])
-    requires { ⌜ (wordStep word < length (now limits)) × (scheduleOf (now starts) (wordStep word) ≤ wordTick word) × (timed .tick ≤ lastTimed) ⌝ }
-    ensures { λ _. ⌜ Moved Up (Later (scheduleOf (now (starts .entry))) timed word) (now (limits .entry)) (now (limits .exit)) ⌝ }
+// One more than the tick of the last timed fact before a cursor that has another value, or 0 where there is none.
+fn last_other(order: &[u64], from: usize, cursor: Cursor, value: u16) -> usize
+    requires { ⌜ Passed (now order) from cursor ⌝ }
+    ensures { λ r. ⌜ LastOther (now (order .entry)) from (cursor .place) value r ⌝ }
 {
-    if (value_of(word) != timed.value) & (timed.tick < tick_of(word)) {
-        let step = step_of(word);
-        let at = tick_of(word) - start_of(starts, step);
-        raise_limit(step, at, timed.tick, limits);
+    if cursor.place <= from {
+        return 0;
     }
+    let last = order[cursor.place - 1];
+    if value_of(last) != value {
+        return tick_of(last) + 1;
+    }
+    if cursor.run <= from {
+        return 0;
+    }
+    tick_of(order[cursor.run - 1]) + 1
 }
 
-// The same for the points from place `low` up to `high`.
-fn raise_points(
-    starts: &[u32],
-    points: &[u64],
-    low: usize,
-    high: usize,
-    timed: TimedFact,
-    limits: &mut [u32],
-)
-    requires { ⌜ Begun (length (now limits)) (scheduleOf (now starts)) (now points) low high × (timed .tick ≤ lastTimed) ⌝ }
-    ensures { λ _. ⌜ Moved Up (OfWords (now (points .entry)) low high (Later (scheduleOf (now (starts .entry))) timed))
+// Rules 2 and 3: a point, an effect or where a condition begins, comes after the last timed fact of another value that it lies after.
+fn raise_point(starts: &[u32], word: u64, first: usize, limits: &mut [u32])
+    requires { ⌜ (wordStep word < length (now limits)) × (scheduleOf (now starts) (wordStep word) ≤ wordTick word) × (first ≤ mostLimit) ⌝ }
+    ensures { λ _. ⌜ Moved Up (Single (wordStep word) (first - (wordTick word - scheduleOf (now (starts .entry)) (wordStep word))))
         (now (limits .entry)) (now (limits .exit)) ⌝ }
 {
-    let mut p = low;
-    while p < high {
-        raise_point(starts, points[p], timed, limits);
+    let step = step_of(word);
+    let at = tick_of(word) - start_of(starts, step);
+    raise_limit(step, at, first, limits);
+}
+
+// The same for the points of a span: along them and, beside them, its timed facts.
+fn raise_points(starts: &[u32], points: &[u64], order: &[u64], span: Span, limits: &mut [u32])
+    requires { ⌜ Begun (length (now limits)) (scheduleOf (now starts)) (now points) (span .low) (span .high)
+        × Row (now order) (span .from) (span .until) ⌝ }
+    ensures { λ _. ⌜ Moved Up
+        (OfWords (now (points .entry)) (span .low) (span .high)
+        (OfTimed (now (order .entry)) (span .from) (span .until) (LaterThan (scheduleOf (now (starts .entry))))))
+        (now (limits .entry)) (now (limits .exit)) ⌝ }
+{
+    if span.until <= span.from {
+        return;
+    }
+    let mut cursor = Cursor {
+        place: span.from,
+        run: span.from,
+    };
+    let mut p = span.low;
+    while p < span.high {
+        let word = points[p];
+        cursor = advance(order, span.from, span.until, tick_of(word), cursor);
+        let first = last_other(order, span.from, cursor, value_of(word));
+        raise_point(starts, word, first, limits);
         p += 1;
     }
 }
 
-// For all points of each timed fact's fact.
+// For all points of each fact.
 fn raise_timed(
     s: &[u8],
     job: Job,
@@ -81,19 +110,20 @@ fn raise_timed(
         (LimitBy (view job (now (s .entry))) (scheduleOf (now (starts .entry))) (now (points .entry)) (now (begins .entry))))
         (now (limits .entry)) (now (limits .exit)) ⌝ }
 {
-    let n = job.count.timed;
+    if job.count.timed == 0 {
+        return;
+    }
+    let mut order = [0u64; MOST_TIMED];
+    let mut marks = [0u16; MARKS];
+    list_timed(s, job, starts, &mut order, &mut marks);
     let facts = job.count.facts as usize;
-    let mut j = 0;
-    while j < n {
-        let timed = timed_of(s, job, j);
-        let f = timed.fact as usize;
-        let low = begin_at(begins, f);
-        let high = begin_at(begins, f + 1);
-        raise_points(starts, points, low, high, timed, limits);
-        let after = begin_at(begins, facts + f);
-        let until = begin_at(begins, facts + f + 1);
-        raise_points(starts, points, after, until, timed, limits);
-        j += 1;
+    let mut f = 0;
+    while f < facts {
+        let setters = span_of(begins, f, &marks, f);
+        raise_points(starts, points, &order, setters, limits);
+        let wanted = span_of(begins, facts + f, &marks, f);
+        raise_points(starts, points, &order, wanted, limits);
+        f += 1;
     }
 }
 
@@ -109,7 +139,7 @@ fn raise_linked(s: &[u8], job: Job, links: &[u16], c: u16, limits: &mut [u32])
     }
     let condition = condition_of(s, job, c);
     let timed = timed_of(s, job, link - job.count.effects);
-    raise_limit(condition.step, condition.from, timed.tick, limits);
+    raise_limit(condition.step, condition.from, timed.tick + 1, limits);
 }
 
 // For all conditions.

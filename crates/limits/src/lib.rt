@@ -4,6 +4,7 @@ ghost use Prim.Native.Nat.{_-_};
 
 pub mod earliest;
 pub mod latest;
+mod timed;
 
 // A difference, 0 where it would lie below 0.
 fn since(a: usize, b: usize) -> usize

@@ -10,7 +10,6 @@ pub raise-limit-spec : {M : Type 1} → statement M
 raise-limit-spec =
     tie.close
     (tie.spec
-    (λ c. omega (arith, c .before .pre .1))
     (λ c κs. search needs)
     (λ c. omega (arith, c .since .ensures, c .before .before .pre .1))
     (λ c. search needs)

@@ -1,4 +1,5 @@
 -- The link read from the list decides.
+use Prim.Native.Nat.{_-_}
 use mathlib.Core.Path.{ap, ap₂}
 use native.Mathlib.Omega.{arith}
 use borrow.Author.Needs.{needs}
@@ -29,18 +30,27 @@ raise-linked-spec =
     let a = d .args in
     let t = is-timed (getD (now (a .links)) (a .c) 0) (a .job .count .effects) initialState (c .before .before .if1 .left) in
     (d .pre .3, omega (arith, t .0, d .pre .1 .named _ (d .pre .2) (t .1))))
-    (λ c κs.
+    (λ c.
     let d = c .before .before .before .before .before .before .before .before .before .before in
     let a = d .args in
     let t = is-timed (getD (now (a .links)) (a .c) 0) (a .job .count .effects) initialState (c .before .before .before .before .if1 .left) in
-    rw (c .before .timed-of .ensures, c .before .before .before .condition-of .ensures) (
+    omega (
+      arith,
+      ap (λ (q : TimedFact). q .tick) (c .before .timed-of .ensures),
+      d .pre .0 .timedTick (getD (now (a .links)) (a .c) 0 - a .job .count .effects) (omega (arith, t .0, d .pre .1 .named _ (d .pre .2) (t .1))),
+    ))
+    (λ c κs.
+    let d = c .before .before .before .before .before .before .before .before .before .before .before in
+    let a = d .args in
+    let t = is-timed (getD (now (a .links)) (a .c) 0) (a .job .count .effects) initialState (c .before .before .before .before .before .if1 .left) in
+    rw (c .before .before .timed-of .ensures, c .before .before .before .before .condition-of .ensures) (
       omega (arith, d .pre .4, d .pre .0 .stepCount, d .pre .0 .conditionStep _ (d .pre .2)),
-      d .pre .0 .timedTick _ (omega (arith, t .0, d .pre .1 .named _ (d .pre .2) (t .1))),
+      omega (arith, d .pre .0 .timedTick (getD (now (a .links)) (a .c) 0 - a .job .count .effects) (omega (arith, t .0, d .pre .1 .named _ (d .pre .2) (t .1)))),
     ))
     (λ c. search needs)
     (λ c.
     let raised = c .before .before in
-    let timed = raised .before .before in
+    let timed = raised .before .before .before in
     let condition = timed .before .before in
     let t = is-timed _ _ initialState (condition .before .if1 .left) in
     let second = condition .condition-of .ensures in

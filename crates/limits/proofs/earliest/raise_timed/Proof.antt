@@ -1,13 +1,15 @@
--- Each timed fact in turn.
+-- Each fact in turn.
 use Prim.Native.Nat.{_-_, _≤_}
 use native.Mathlib.Omega.{arith}
 use borrow.Author.Needs.{needs}
 use denote.Ref.{now}
 use Rattle.job.specs.Model.{view}
 use Rattle.validity.specs.Ticks.{scheduleOf}
-use Rattle.limits.specs.Moved.{Up, Moved, Among, Later, LimitBy}
-use Rattle.limits.proofs.Moved.{up-same, up-on, moved-empty, moved-more, moved-all, moved-fact}
-use Rattle.limits.proofs.Grouped.{timed-group, timed-late, setters-begun, wanted-begun}
+use Rattle.limits.specs.Moved.{Up, Moved, Among, LaterThan, OfFact}
+use Rattle.limits.proofs.Moved.{up-same, up-on, moved-none, moved-empty, moved-more, moved-all}
+use Rattle.limits.proofs.Grouped.{fact-setters, fact-wanted}
+use Rattle.limits.proofs.Known.{timed-row}
+use Rattle.limits.proofs.Walked.{moved-points, moved-timed}
 use Rattle.limits.proofs.earliest.raise_timed.Statement.{statement}
 use Rattle.limits.proofs.earliest.raise_timed.Tie as tie
 
@@ -15,98 +17,83 @@ pub raise-timed-spec : {M : Type 1} → statement M
 raise-timed-spec =
     tie.close
     (tie.spec
-    (λ s job starts points begins limits₀ n facts j₀ limits j.
-    (j ≤ n) × Moved Up (Among 0 j (LimitBy (view job s) (scheduleOf starts) points begins)) limits₀ limits)
-    (λ s job starts points begins limits₀ n facts j₀ limits j. n - j)
+    (λ s starts points begins limits₀ order marks facts f₀ limits f.
+    (f ≤ facts)
+    × Moved Up (Among 0 f (OfFact facts points begins order marks (LaterThan (scheduleOf starts)) (LaterThan (scheduleOf starts)))) limits₀ limits)
+    (λ s starts points begins limits₀ order marks facts f₀ limits f. facts - f)
+    (λ c. moved-none Up up-same up-on _ _ (λ k v o. absurd (omega (arith, o .2, c .if1 .taken))))
+    (λ c. search needs) (λ c. search needs)
+    (λ c κs. let d = c .before .before .before .before .before .before .before .before .before in (d .pre .0 .form, d .pre .1, d .pre .0 .clock, search needs, search needs))
     (λ c. search needs)
     (λ c. (omega arith, moved-empty Up up-same up-on _ _ _))
-    (λ c κs. (c .before .before .before .before .before .before .before .before .pre .1, c .loop-test .taken))
     (λ c. search needs)
     (λ c κs.
-    let made = c .before in
-    let test = made .before in
-    let d = test .before .before .before .before .before .before .before .before in
-    omega (arith, timed-group (d .pre .0) (test .loop-test .taken) (made .timed-of .ensures)))
-    (λ c.
-    let made = c .before .before in
-    let test = made .before in
-    let d = test .before .before .before .before .before .before .before .before in
-    omega (arith, timed-group (d .pre .0) (test .loop-test .taken) (made .timed-of .ensures)))
+    let test = c .before in
+    let listed = test .before .before .before .before .before in
+    let d = listed .before .before .before .before .before .before .before .before .before .before in
+    (omega (arith, d .pre .0 .known .room, test .loop-test .taken), listed .list-timed .ensures .room _ (test .loop-test .taken)))
+    (λ c. search needs)
     (λ c κs.
-    let made = c .before .before in
-    let test = made .before in
-    let d = test .before .before .before .before .before .before .before .before in
-    omega (arith, timed-group (d .pre .0) (test .loop-test .taken) (made .timed-of .ensures)))
-    (λ c κs.
-    let made = c .before .before .before .before in
-    let test = made .before in
-    let d = test .before .before .before .before .before .before .before .before in
-    let t = test .loop-test .taken in
-    let e = made .timed-of .ensures in (
-      setters-begun (d .pre .0) t e (omega (arith, d .pre .0 .form .stepCount, d .pre .2, test .before .loop .inv .1 .size))
-          (c .before .before .begin-at .ensures .0) (c .before .begin-at2 .ensures .0),
-      timed-late (d .pre .0) t e,
+    let span = c .before .before .span-of .ensures in
+    let test = c .before .before .before .before in
+    let listed = test .before .before .before .before .before in
+    let d = listed .before .before .before .before .before .before .before .before .before .before in (
+      fact-setters (d .pre .0) (test .loop-test .taken)
+          (omega (arith, d .pre .0 .form .stepCount, d .pre .2, test .before .loop .inv .1 .size)) (span .0) (span .1),
+      timed-row (d .pre .0 .form) (listed .list-timed .ensures) _ (test .loop-test .taken) (span .2) (span .3),
     ))
     (λ c.
-    let made = c .before .before .before .before .before .before .before in
-    let test = made .before in
-    let d = test .before .before .before .before .before .before .before .before in
-    omega (arith, timed-group (d .pre .0) (test .loop-test .taken) (made .timed-of .ensures)))
+    let test = c .before .before .before .before .before .before .before in
+    let listed = test .before .before .before .before .before in
+    let d = listed .before .before .before .before .before .before .before .before .before .before in
+    omega (arith, d .pre .0 .form .factCount, test .loop-test .taken))
+    (λ c. search needs)
     (λ c κs.
-    let made = c .before .before .before .before .before .before .before in
-    let test = made .before in
-    let d = test .before .before .before .before .before .before .before .before in
-    omega (arith, timed-group (d .pre .0) (test .loop-test .taken) (made .timed-of .ensures)))
-    (λ c.
-    let made = c .before .before .before .before .before .before .before .before in
-    let test = made .before in
-    let d = test .before .before .before .before .before .before .before .before in
-    omega (arith, timed-group (d .pre .0) (test .loop-test .taken) (made .timed-of .ensures)))
-    (λ c.
-    let made = c .before .before .before .before .before .before .before .before in
-    let test = made .before in
-    let d = test .before .before .before .before .before .before .before .before in
-    omega (arith, timed-group (d .pre .0) (test .loop-test .taken) (made .timed-of .ensures)))
+    let test = c .before .before .before .before .before .before .before .before in
+    let listed = test .before .before .before .before .before in
+    let d = listed .before .before .before .before .before .before .before .before .before .before in
+    (omega (arith, d .pre .0 .known .room, test .loop-test .taken), listed .list-timed .ensures .room _ (test .loop-test .taken)))
+    (λ c. search needs)
     (λ c κs.
-    let made = c .before .before .before .before .before .before .before .before in
-    let test = made .before in
-    let d = test .before .before .before .before .before .before .before .before in
-    omega (arith, timed-group (d .pre .0) (test .loop-test .taken) (made .timed-of .ensures)))
-    (λ c κs.
-    let raised = c .before .before .before .before .before in
-    let made = raised .before .before .before .before .before in
-    let test = made .before in
-    let d = test .before .before .before .before .before .before .before .before in
-    let t = test .loop-test .taken in
-    let e = made .timed-of .ensures in (
-      wanted-begun (d .pre .0) t e
-          (omega (arith, d .pre .0 .form .stepCount, d .pre .2, test .before .loop .inv .1 .size, raised .raise-points .ensures .size))
-          (c .before .before .begin-at3 .ensures .0) (c .before .begin-at4 .ensures .0),
-      timed-late (d .pre .0) t e,
+    let span = c .before .before .span-of2 .ensures in
+    let raised = c .before .before .before .before .before .before in
+    let test = raised .before .before .before .before .before in
+    let listed = test .before .before .before .before .before in
+    let d = listed .before .before .before .before .before .before .before .before .before .before in (
+      fact-wanted (d .pre .0) (test .loop-test .taken)
+          (omega (arith, d .pre .0 .form .stepCount, d .pre .2, test .before .loop .inv .1 .size, raised .raise-points .ensures .size)) (span .0) (span .1),
+      timed-row (d .pre .0 .form) (listed .list-timed .ensures) _ (test .loop-test .taken) (span .2) (span .3),
     ))
     (λ c.
     let test = c .before .before .before .before .before .before .before .before .before .before .before .before .before .before in
-    omega (arith, test .loop-test .taken, test .before .before .before .before .before .before .before .before .pre .0 .form .timedCount))
+    let d = test .before .before .before .before .before .before .before .before .before .before .before .before .before .before .before in
+    omega (arith, d .pre .0 .form .factCount, test .loop-test .taken))
     (λ c. omega (arith, c .before .before .before .before .before .before .before .before .before .before .before .before .before .before .loop-test .taken))
     (λ c.
     let second = c .before .before in
-    let until = second .before .before in
-    let after = until .before in
-    let first = after .before .before .before in
-    let high = first .before .before in
-    let low = high .before in
-    let made = low .before .before in
-    let test = made .before in
-    let i = test .before .loop .inv in
-    let a = test .before .before .before .before .before .before .before .before .args in (
+    let wanted = second .before .before .before .span-of2 .ensures in
+    let first = second .before .before .before .before .before .before .before in
+    let setters = first .before .before .before .span-of .ensures in
+    let test = first .before .before .before .before .before in
+    let loop = test .before in
+    let i = loop .loop .inv in
+    let listed = loop .before .before .before .before in
+    let d = listed .before .before .before .before .before .before .before .before .before .before in
+    let a = d .args in (
       omega (arith, test .loop-test .taken),
       moved-more Up up-same up-on _ _ _ _ _ _ (omega arith) (i .1)
-          (moved-fact Up up-same up-on (view (a .job) (now (a .s))) (now (a .points)) (now (a .begins)) (Later (scheduleOf (now (a .starts))))
-          (Later (scheduleOf (now (a .starts)))) _ _ _ {j = test .before .loop .j} (made .timed-of .ensures)
-          (low .begin-at .ensures .0) (high .begin-at2 .ensures .0) (after .begin-at3 .ensures .0) (until .begin-at4 .ensures .0)
+          (moved-points Up up-same up-on (view (a .job) (now (a .s))) (now (a .points)) (now (a .begins)) _ _
+          (LaterThan (scheduleOf (now (a .starts)))) (LaterThan (scheduleOf (now (a .starts)))) (d .pre .0 .form) (listed .list-timed .ensures)
+          _ _ _ (loop .loop .f)
+          (setters .0) (setters .1) (setters .2) (setters .3) (wanted .0) (wanted .1) (wanted .2) (wanted .3)
           (first .raise-points .ensures) (second .raise-points2 .ensures)),
     ))
     (λ c. omega (arith, c .before .loop .inv .1 .size))
     (λ c.
     let i = c .before .loop .inv in
-    moved-all Up up-same up-on _ _ _ _ _ _ (i .0) (omega (arith, c .loop-test .left)) (i .1)))
+    let listed = c .before .before .before .before .before in
+    let d = listed .before .before .before .before .before .before .before .before .before .before in
+    let a = d .args in
+    moved-timed Up up-same up-on (view (a .job) (now (a .s))) (now (a .points)) (now (a .begins)) _ _
+    (LaterThan (scheduleOf (now (a .starts)))) (LaterThan (scheduleOf (now (a .starts)))) (d .pre .0 .form) (listed .list-timed .ensures) _ _
+    (moved-all Up up-same up-on _ _ _ _ _ _ (i .0) (omega (arith, c .loop-test .left)) (i .1))))
