@@ -1,15 +1,14 @@
 -- The points of a timed fact's fact: where they stand, and what each of them is.
-use Prim.Native.Nat.{ℕ, _+_, _-_, _≤_, _<_}
+use Prim.Native.Nat.{ℕ, _+_, _≤_, _<_}
 use mathlib.Core.Path.{_≡_, sym, ap, _∙_}
 use mathlib.Core.List.{List}
 use native.Mathlib.Omega.{arith}
-use lib.ListN.{length, getD}
+use lib.ListN.{getD}
 use Rattle.timeline.specs.Words.{stepAt, tickAt, valueAt, numberAt}
 use Rattle.timeline.specs.Placed.{Placed}
 use Rattle.job.specs.declared.records.Condition.{Condition}
 use Rattle.job.specs.declared.records.TimedFact.{TimedFact}
-use Rattle.job.specs.Layout.{mostFacts}
-use Rattle.job.specs.Model.{Model, conditionOf, timedOf, longest, lastTimed}
+use Rattle.job.specs.Model.{Model, conditionOf, longest}
 use Rattle.job.specs.WellFormed.{WellFormed}
 use Rattle.validity.specs.Ticks.{scheduleOf}
 use Rattle.points.specs.Points.{Setter, Wanting}
@@ -127,48 +126,6 @@ condition-near {n = n} w l e =
     let most = w .lengthRange _ (w .conditionStep n l) in
     rw e (omega (arith, to, most, w .conditionSpan n l), omega (arith, to, most))
 
--- those of timed fact j, which the code has read
-module _ {m : Model} {starts points begins : List ℕ} (w : TimedPoints m starts points begins) {j : ℕ} (l : j < m .timed) {timed : TimedFact}
-    (e : timed ≡ timedOf m j) where
-  timed-fact : timed .fact < m .facts
-  timed-fact = omega (arith, ap (λ (t : TimedFact). t .fact) e, w .form .timedFact j l)
-
-  pub timed-late : timed .tick ≤ lastTimed
-  timed-late = omega (arith, ap (λ (t : TimedFact). t .tick) e, w .form .timedTick j l)
-
-  -- its groups are there
-  pub timed-group : (timed .fact < m .facts) × (m .facts ≤ mostFacts) × (m .facts + timed .fact + 1 < length begins)
-  timed-group = (timed-fact, w .form .factCount, omega (arith, timed-fact, w .known .room))
-
-  module _ {many low high : ℕ} (few : m .steps ≤ many) where
-    pub setters-begun :
-        low ≡ getD begins (timed .fact) 0 → high ≡ getD begins (timed .fact + 1) 0 → Begun many (scheduleOf starts) points low high
-    setters-begun a b =
-        rw (a, b)
-        (placed-begun (scheduleOf starts) (m .effectAt) (m .effectValue) (m .effectStep) (Setter m (timed .fact)) points _ _
-        (w .known .setters (timed .fact) timed-fact) many (λ n h. omega (arith, w .form .effectStep n (h .0))))
-
-    -- the conditions are known
-    pub wanted-known :
-        low ≡ getD begins (m .facts + timed .fact) 0 → high ≡ getD begins (m .facts + timed .fact + 1) 0 → Wanted m many points low high
-    wanted-known a b =
-        rw (a, b)
-        (let g = w .known .wanted (timed .fact) timed-fact in
-        record {
-          begins = g .begins;
-          ends = g .ends;
-          step = λ p c d. omega (arith, g .steps p c d, w .form .conditionStep (numberAt points p) (g .holds p c d .0));
-          known = λ p c d. g .holds p c d .0;
-        })
-
-    pub wanted-begun :
-        low ≡ getD begins (m .facts + timed .fact) 0 → high ≡ getD begins (m .facts + timed .fact + 1) 0
-        → Begun many (scheduleOf starts) points low high
-    wanted-begun a b =
-        rw (a, b)
-        (placed-begun (scheduleOf starts) (m .conditionFrom) (m .conditionValue) (m .conditionStep) (Wanting m (timed .fact)) points _ _
-        (w .known .wanted (timed .fact) timed-fact) many (λ n h. omega (arith, w .form .conditionStep n (h .0))))
-
 -- those of fact f
 module _ {m : Model} {starts points begins : List ℕ} (w : TimedPoints m starts points begins) {f : ℕ} (h : f < m .facts) {many low high : ℕ}
     (few : m .steps ≤ many) where
@@ -184,3 +141,15 @@ module _ {m : Model} {starts points begins : List ℕ} (w : TimedPoints m starts
       rw (a, b)
       (placed-begun (scheduleOf starts) (m .conditionFrom) (m .conditionValue) (m .conditionStep) (Wanting m f) points _ _
       (w .known .wanted f h) many (λ n i. omega (arith, w .form .conditionStep n (i .0))))
+
+  pub fact-known : low ≡ getD begins (m .facts + f) 0 → high ≡ getD begins (m .facts + f + 1) 0 → Wanted m many points low high
+  fact-known a b =
+      rw (a, b)
+      (let g = w .known .wanted f h in
+      record {
+        begins = g .begins;
+        ends = g .ends;
+        step = λ p c d. omega (arith, g .steps p c d, w .form .conditionStep (numberAt points p) (g .holds p c d .0));
+        known = λ p c d. g .holds p c d .0;
+        rises = g .rises;
+      })

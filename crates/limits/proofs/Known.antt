@@ -7,7 +7,7 @@ use native.Mathlib.Decide.{decLt}
 use native.Mathlib.Omega.{arith}
 use lib.ListN.{length, getD}
 use Rattle.timeline.specs.Words.{tickAt, valueAt, numberAt}
-use Rattle.timeline.specs.Placed.{Placed, Parted, Run}
+use Rattle.timeline.specs.Placed.{Placed}
 use Rattle.timeline.specs.declared.walk.Cursor.{Cursor}
 use Rattle.job.specs.declared.layout.Job.{Job}
 use Rattle.job.specs.Layout.{mostTimed}

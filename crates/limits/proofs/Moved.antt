@@ -1,17 +1,15 @@
 -- A list of starts moved to what orders say: the order in which it happens does not matter, and of several the tightest counts.
-use Prim.Native.Nat.{ℕ, _+_, _≤_, _<_}
+use Prim.Native.Nat.{ℕ, _+_, _-_, _≤_, _<_}
 use mathlib.Core.Path.{_≡_, refl, sym, ap, subst, _∙_}
 use mathlib.Core.List.{List}
 use mathlib.Core.Logic.{_⊎_, inl, inr, ⊎-elim}
 use native.Mathlib.Decide.{ℕ-discrete}
 use native.Mathlib.Omega.{arith}
-use lib.ListN.{length, getD, set, replicate, length-set, length-replicate, getD-replicate}
+use lib.ListN.{length, set, replicate, length-set, length-replicate, getD-replicate}
 use lib.Seq.{getD-set-same, getD-set-other}
 use Rattle.order_file.specs.Table.{rowWidth, startIn}
-use Rattle.job.specs.declared.records.TimedFact.{TimedFact}
-use Rattle.job.specs.Model.{Model, timedOf}
 use Rattle.limits.specs.Timed.{AllAre}
-use Rattle.limits.specs.Moved.{Up, Down, Moved, Single, Among, OfWords, OfSetters, OfWanted}
+use Rattle.limits.specs.Moved.{Up, Down, Moved, Single, Among, Before, startBefore}
 
 -- a new list
 pub all-are : (start : ℕ) → AllAre start (replicate rowWidth start)
@@ -150,20 +148,11 @@ module _ (To : ℕ → ℕ → Type 0) (same : (a : ℕ) → To a a) (on : (a b 
     pub allowed-none : (list : List ℕ) → (A → B → ⊥) → Moved To (λ k v. A × B × (step ≡ k) × (v ≡ start)) list list
     allowed-none list d = moved-none (λ k v. A × B × (step ≡ k) × (v ≡ start)) list (λ k v o. d (o .0) (o .1))
 
-  -- the orders of the setters and of the conditions of a timed fact's fact
-  pub moved-fact :
-      (m : Model) (points begins : List ℕ) (P Q : TimedFact → ℕ → ℕ → ℕ → Type 0) (before mid after : List ℕ) {j low high from until : ℕ}
-      {timed : TimedFact}
-      → timed ≡ timedOf m j
-      → low ≡ getD begins (timed .fact) 0
-      → high ≡ getD begins (timed .fact + 1) 0
-      → from ≡ getD begins (m .facts + timed .fact) 0
-      → until ≡ getD begins (m .facts + timed .fact + 1) 0
-      → Moved To (OfWords points low high (P timed)) before mid
-      → Moved To (OfWords points from until (Q timed)) mid after
-      → Moved To
-      (λ k v. OfSetters points begins (m .timedFact j) (P (timedOf m j)) k v ⊎ OfWanted m points begins (m .timedFact j) (Q (timedOf m j)) k v)
-      before after
-  moved-fact m points begins P Q before mid after {j} et el eh ef eu v w =
-      moved-either (OfSetters points begins (m .timedFact j) (P (timedOf m j))) (OfWanted m points begins (m .timedFact j) (Q (timedOf m j)))
-      before mid after (rw (el, eh, et) at v) (rw (ef, eu, et) at w)
+-- an order to come before a tick
+pub before-one :
+    {next step : ℕ} (at : ℕ) (before after : List ℕ) → (next ≡ 0 → ⊥) → Moved Down (Single step (startBefore (next - 1) at)) before after
+    → Moved Down (Before next step at) before after
+before-one {next} {step} at before after d w =
+    moved-is Down down-same down-on (Single step (startBefore (next - 1) at)) (Before next step at) before after w
+    (λ k v o. (d, o .0, o .1))
+    (λ k v o. (o .1, o .2))

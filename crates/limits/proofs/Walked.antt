@@ -1,9 +1,9 @@
 -- A walk along points beside the timed facts of their fact.
 use Prim.Native.Nat.{ℕ, _+_, _-_, _≤_, _<_}
-use mathlib.Core.Path.{_≡_, refl, sym, ap, ap₂, subst, _∙_}
+use mathlib.Core.Path.{_≡_, refl, sym, ap, subst, _∙_}
 use mathlib.Core.List.{List}
 use mathlib.Core.Logic.{_⊎_, inl, inr, ⊎-elim}
-use native.Mathlib.Decide.{decLt}
+use native.Mathlib.Decide.{decLt, ℕ-discrete}
 use native.Mathlib.Omega.{arith}
 use lib.ListN.{getD}
 use Rattle.timeline.specs.Words.{wordStep, wordTick, wordValue, tickAt, valueAt, numberAt}
@@ -14,8 +14,9 @@ use Rattle.job.specs.Model.{Model}
 use Rattle.job.specs.WellFormed.{WellFormed}
 use Rattle.points.specs.Points.{wantedGroup}
 use Rattle.limits.specs.Timed.{mostLimit}
-use Rattle.limits.specs.Moved.{Up, Moved, Single, Among, startAfter, LaterThan, OfWords, OfSetters, OfWanted, OfTimed, OfFact}
-use Rattle.limits.specs.Known.{TimedKnown, Row, Passed, LastOther}
+use Rattle.limits.specs.Moved.{Up, Down, Moved, Single, Among, startAfter, startBefore, LaterThan, Before}
+use Rattle.limits.specs.Moved.{OfWords, OfSetters, OfWanted, OfTimed, OfFact}
+use Rattle.limits.specs.Known.{TimedKnown, Row, Passed, LastOther, NoOther, NextOther}
 use Rattle.limits.proofs.Moved.{moved-is, moved-either}
 
 -- a cursor before all timed facts, one that has come to a tick, and one that goes on to a later one
@@ -111,6 +112,103 @@ module _ {order : List ℕ} {from until : ℕ} (w : Row order from until) {t : �
               ))
               (o .one));
         }
+
+-- the places up to which no timed fact has another value after the points' ticks
+pub next-later :
+    {order : List ℕ} {from old until value t place t' : ℕ} → NoOther order from old value t → NextOther order old until value t place → t ≤ t'
+    → NoOther order from place value t'
+next-later {old = old} a b l p c d e g =
+    elim (decLt p old) [
+      | yes h ↦ a p c h e (omega arith)
+      | no h ↦ b .before p (omega arith) d e (omega arith)
+    ]
+
+pub no-more :
+    (order : List ℕ) (from place value t : ℕ) → NoOther order from place value t
+    → ((valueAt order place ≡ value → ⊥) → t < tickAt order place → ⊥)
+    → NoOther order from (place + 1) value t
+no-more order from place value t a d p b c e g =
+    elim (decLt p place) [
+      | yes h ↦ a p b h e g
+      | no h ↦
+          let q : p ≡ place = omega arith in
+          d (λ z. e (sym z ∙ ap (valueAt order) (sym q))) (subst (λ p. t < tickAt order p) q g)
+    ]
+
+next-whole :
+    {order : List ℕ} {from old until value t place : ℕ} → from ≤ old → NoOther order from old value t → NextOther order old until value t place
+    → NextOther order from until value t place
+next-whole h a b =
+    record { begins = omega (arith, b .begins); ends = b .ends; before = next-later a b (omega arith); here = b .here }
+
+-- the place for a point's value
+pub next-place :
+    {order : List ℕ} {from until value t place off on off' on' : ℕ} → value < 2 → (value ≡ 0 → place ≡ off') × ((value ≡ 0 → ⊥) → place ≡ on')
+    → from ≤ off
+    → NoOther order from off 0 t
+    → NextOther order off until 0 t off'
+    → from ≤ on
+    → NoOther order from on 1 t
+    → NextOther order on until 1 t on'
+    → NextOther order from until value t place
+next-place {value = value} few is h a b i c d =
+    elim (ℕ-discrete value 0) [
+      | yes e ↦ rw (is .0 e, e) (next-whole h a b)
+      | no e ↦ let one : value ≡ 1 = omega arith in rw (is .1 e, one) (next-whole i c d)
+    ]
+
+module _ {order : List ℕ} {from until : ℕ} (w : Row order from until) {value t place next : ℕ} (n : NextOther order from until value t place)
+    (is : (until ≤ place → next ≡ 0) × (place < until → next ≡ tickAt order place + 1)) where
+  pub next-most : next ≤ mostLimit
+  next-most =
+      elim (decLt place until) [
+        | yes l ↦ omega (arith, is .1 l, w .late place (n .begins) l)
+        | no l ↦ omega (arith, is .0 (omega arith))
+      ]
+
+  -- lowered by the first is lowered by all
+  pub sooner-all :
+      (word at : ℕ) (before after : List ℕ) → t ≡ wordTick word → value ≡ wordValue word
+      → Moved Down (Before next (wordStep word) at) before after
+      → Moved Down
+      (Among from until
+      (λ q k v. (wordValue word ≡ valueAt order q → ⊥) × (wordTick word < tickAt order q) × (wordStep word ≡ k) × (v ≡ startBefore (tickAt order q) at)))
+      before after
+  sooner-all word at before after here same m =
+      record {
+        size = m .size;
+        moves = m .moves;
+        reaches = λ k v u.
+            let q = u .0 in
+            let far : place ≤ q =
+            elim (decLt q place) [
+              | yes l ↦ absurd (n .before q (u .1) l (λ e. u .3 .0 (sym same ∙ e)) (omega (arith, here, u .3 .1)))
+              | no l ↦ omega arith
+            ]
+            in
+            let l : place < until = omega (arith, u .2) in
+            let low : tickAt order place ≤ tickAt order q =
+            elim (decLt place q) [
+              | yes i ↦ w .rises place q (n .begins) i (u .2)
+              | no i ↦ omega (arith, ap (tickAt order) (let e : place ≡ q = omega arith in e))
+            ]
+            in
+            omega (arith, u .3 .3, low, is .1 l, m .reaches k (startBefore (next - 1) at) (λ z. absurd (omega (arith, z, is .1 l)), u .3 .2, refl));
+        least = λ k bound g all.
+            m .least k bound g
+            (λ v u.
+            elim (decLt place until) [
+              | yes l ↦
+                  omega (
+                    arith,
+                    u .2,
+                    is .1 l,
+                    all (startBefore (tickAt order place) at)
+                        (place, n .begins, l, (λ e. n .here l .0 (same ∙ e), omega (arith, here, n .here l .1), u .1, refl)),
+                  )
+              | no l ↦ absurd (u .0 (is .0 (omega arith)))
+            ]);
+      }
 
 -- the orders of each fact are those of each timed fact
 module _ (To : ℕ → ℕ → Type 0) (same : (a : ℕ) → To a a) (on : (a b c : ℕ) → To a b → To b c → To a c) (m : Model) (points begins : List ℕ)

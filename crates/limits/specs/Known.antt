@@ -62,3 +62,14 @@ pub record LastOther (order : List ℕ) (from at value last : ℕ) : Type 0 wher
   pub above : (p : ℕ) → from ≤ p → p < at → (value ≡ valueAt order p → ⊥) → tickAt order p < last
   pub one :
       (last ≡ 0) ⊎ ((p : ℕ) × (from ≤ p) × (p < at) × (value ≡ valueAt order p → ⊥) × (last ≡ tickAt order p + 1))
+
+-- no timed fact from place to place has another value after tick t
+abbrev pub NoOther : List ℕ → ℕ → ℕ → ℕ → ℕ → Type 0
+NoOther order from at value t = (p : ℕ) → from ≤ p → p < at → (value ≡ valueAt order p → ⊥) → t < tickAt order p → ⊥
+
+-- the first that has, or the end
+pub record NextOther (order : List ℕ) (from until value t place : ℕ) : Type 0 where
+  pub begins : from ≤ place
+  pub ends : place ≤ until
+  pub before : NoOther order from place value t
+  pub here : place < until → (value ≡ valueAt order place → ⊥) × (t < tickAt order place)

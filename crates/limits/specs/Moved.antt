@@ -51,16 +51,26 @@ abbrev pub Later : (ℕ → ℕ) → TimedFact → ℕ → ℕ → ℕ → Type 
 Later x timed = LaterThan x (timed .tick) (timed .value)
 
 -- a setter that has another value and lies before it
+abbrev pub SoonerThan : (ℕ → ℕ) → ℕ → ℕ → ℕ → ℕ → ℕ → Type 0
+SoonerThan x tick value word k v =
+    (wordValue word ≡ value → ⊥) × (wordTick word < tick) × (wordStep word ≡ k)
+    × (v ≡ startBefore tick (wordTick word - x (wordStep word)))
+
 abbrev pub Sooner : (ℕ → ℕ) → TimedFact → ℕ → ℕ → ℕ → Type 0
-Sooner x timed word k v =
-    (wordValue word ≡ timed .value → ⊥) × (wordTick word < timed .tick) × (wordStep word ≡ k)
-    × (v ≡ startBefore (timed .tick) (wordTick word - x (wordStep word)))
+Sooner x timed = SoonerThan x (timed .tick) (timed .value)
 
 -- a condition that wants another value and begins before it, so that it ends before it in a valid schedule
+abbrev pub EndedBy : Model → ℕ → ℕ → ℕ → ℕ → ℕ → Type 0
+EndedBy m tick value word k v =
+    (wordValue word ≡ value → ⊥) × (wordTick word < tick) × (wordStep word ≡ k)
+    × (v ≡ startBefore tick (m .conditionTo (wordNumber word)))
+
 abbrev pub Ended : Model → TimedFact → ℕ → ℕ → ℕ → Type 0
-Ended m timed word k v =
-    (wordValue word ≡ timed .value → ⊥) × (wordTick word < timed .tick) × (wordStep word ≡ k)
-    × (v ≡ startBefore (timed .tick) (m .conditionTo (wordNumber word)))
+Ended m timed = EndedBy m (timed .tick) (timed .value)
+
+-- an order of a single step to come before the tick before `next`, where that is not 0
+abbrev pub Before : ℕ → ℕ → ℕ → ℕ → ℕ → Type 0
+Before next step at k v = (next ≡ 0 → ⊥) × (step ≡ k) × (v ≡ startBefore (next - 1) at)
 
 -- points from low to high that have an order, by their words
 abbrev pub OfWords : List ℕ → ℕ → ℕ → (ℕ → ℕ → ℕ → Type 0) → ℕ → ℕ → Type 0
@@ -109,12 +119,13 @@ pub record Begun (n : ℕ) (x : ℕ → ℕ) (points : List ℕ) (low high : ℕ
   pub begun : (p : ℕ) → low ≤ p → p < high → x (wordStep (getD points p 0)) ≤ wordTick (getD points p 0)
   pub rises : (p q : ℕ) → low ≤ p → p < q → q < high → tickAt points p ≤ tickAt points q
 
--- conditions of the first n steps
+-- conditions of the first n steps in the order of their ticks
 pub record Wanted (m : Model) (n : ℕ) (points : List ℕ) (low high : ℕ) : Type 0 where
   pub begins : low ≤ high
   pub ends : high ≤ length points
   pub step : (p : ℕ) → low ≤ p → p < high → wordStep (getD points p 0) < n
   pub known : (p : ℕ) → low ≤ p → p < high → wordNumber (getD points p 0) < m .conditions
+  pub rises : (p q : ℕ) → low ≤ p → p < q → q < high → tickAt points p ≤ tickAt points q
 
 -- links of all conditions, each the initial state, an effect or a timed fact
 pub record LinksNamed (m : Model) (links : List ℕ) : Type 0 where
