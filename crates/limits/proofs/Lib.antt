@@ -2,7 +2,6 @@
 pub mod Moved
 pub mod Tested
 pub mod Grouped
-pub mod Gaps
 pub mod Clock
 pub mod Raised
 pub mod Lowered

@@ -20,7 +20,7 @@ use Rattle.orders.proofs.Orders.{Opposer}
 use Rattle.limits.specs.Timed.{TimedPoints, TimedLinks, AllAre, mostLimit, ClockLimits}
 use Rattle.limits.specs.Moved.{Up, Moved, Among, startAfter, Later, OfSetters, OfWanted, LimitBy, LimitByLink, LinksNamed}
 use Rattle.limits.proofs.Moved.{up-same, up-on, moved-either}
-use Rattle.limits.proofs.Gaps.{support-le, support-ge, opposing-le, opposing-ge, condition-le, before-ge, clock-ge, clock-le}
+use Rattle.orders.proofs.Bounds.{support-le, support-ge, opposing-le, opposing-ge, condition-le, before-ge, clock-ge, clock-le}
 use Rattle.limits.proofs.Grouped.{later-found, later-known}
 use Rattle.limits.proofs.Clock.{timed-step, timed-offset, timed-tick, timed-opposes, of-clock, clock-opposes, of-step}
 use Rattle.limits.proofs.Clock.{own-step, own-fact, own-offset, own-value, own-tick}
