@@ -20,7 +20,9 @@ use Rattle.limits.specs.Known.{TimedKnown, Row, Passed, LastOther, NoOth
 use Rattle.limits.proofs.Moved.{moved-is, moved-either}
 
 -- a cursor before all timed facts, one that has come to a tick, and one that goes on to a later one
-pub walking-first : {order : List ℕ} {from until : ℕ} (t : ℕ) → Row order from until → Walking order from until t (record { place = from; run = from })
+pub walking-first :
+    {order : List ℕ} {from until : ℕ} (t : ℕ) → Row order from until
+    → Walking order from until t (record { place = from; run = from })
 walking-first t w =
     record {
       ends = w .ends;
@@ -143,7 +145,8 @@ next-whole h a b =
 
 -- the place for a point's value
 pub next-place :
-    {order : List ℕ} {from until value t place off on off' on' : ℕ} → value < 2 → (value ≡ 0 → place ≡ off') × ((value ≡ 0 → ⊥) → place ≡ on')
+    {order : List ℕ} {from until value t place off on off' on' : ℕ} → value < 2
+    → (value ≡ 0 → place ≡ off') × ((value ≡ 0 → ⊥) → place ≡ on')
     → from ≤ off
     → NoOther order from off 0 t
     → NextOther order off until 0 t off'
@@ -172,7 +175,9 @@ module _ {order : List ℕ} {from until : ℕ} (w : Row order from until) {value
       → Moved Down (Before next (wordStep word) at) before after
       → Moved Down
       (Among from until
-      (λ q k v. (wordValue word ≡ valueAt order q → ⊥) × (wordTick word < tickAt order q) × (wordStep word ≡ k) × (v ≡ startBefore (tickAt order q) at)))
+      (λ q k v.
+      (wordValue word ≡ valueAt order q → ⊥) × (wordTick word < tickAt order q) × (wordStep word ≡ k)
+      × (v ≡ startBefore (tickAt order q) at)))
       before after
   sooner-all word at before after here same m =
       record {
@@ -211,8 +216,8 @@ module _ {order : List ℕ} {from until : ℕ} (w : Row order from until) {value
       }
 
 -- the orders of each fact are those of each timed fact
-module _ (To : ℕ → ℕ → Type 0) (same : (a : ℕ) → To a a) (on : (a b c : ℕ) → To a b → To b c → To a c) (m : Model) (points begins : List ℕ)
-    (order marks : List ℕ) (By With : ℕ → ℕ → ℕ → ℕ → ℕ → Type 0) where
+module _ (To : ℕ → ℕ → Type 0) (same : (a : ℕ) → To a a) (on : (a b c : ℕ) → To a b → To b c → To a c) (m : Model)
+    (points begins order marks : List ℕ) (By With : ℕ → ℕ → ℕ → ℕ → ℕ → Type 0) where
   abbrev ByTimed : ℕ → ℕ → ℕ → Type 0
   ByTimed j k v =
       OfSetters points begins (m .timedFact j) (By (m .timedTick j) (m .timedValue j)) k v
@@ -240,7 +245,8 @@ module _ (To : ℕ → ℕ → Type 0) (same : (a : ℕ) → To a a) (on : (a b 
 
     -- a timed fact has a place
     to-place :
-        (Order : ℕ → ℕ → ℕ → ℕ → ℕ → Type 0) (j : ℕ) → j < m .timed → (word k v : ℕ) → Order (m .timedTick j) (m .timedValue j) word k v
+        (Order : ℕ → ℕ → ℕ → ℕ → ℕ → Type 0) (j : ℕ) → j < m .timed → (word k v : ℕ)
+        → Order (m .timedTick j) (m .timedValue j) word k v
         → OfTimed order (getD marks (m .timedFact j) 0) (getD marks (m .timedFact j + 1) 0) Order word k v
     to-place Order j h word k v o =
         let g = known .placed (m .timedFact j) (w .timedFact j h) in
@@ -316,4 +322,5 @@ module _ (To : ℕ → ℕ → Type 0) (same : (a : ℕ) → To a a) (on : (a b 
         (before after : List ℕ) → Moved To (Among 0 (m .facts) (OfFact (m .facts) points begins order marks By With)) before after
         → Moved To (Among 0 (m .timed) ByTimed) before after
     moved-timed before after d =
-        moved-is To same on (Among 0 (m .facts) (OfFact (m .facts) points begins order marks By With)) (Among 0 (m .timed) ByTimed) before after d to-timed to-fact
+        moved-is To same on (Among 0 (m .facts) (OfFact (m .facts) points begins order marks By With)) (Among 0 (m .timed) ByTimed)
+        before after d to-timed to-fact

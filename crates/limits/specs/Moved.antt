@@ -89,7 +89,13 @@ OfTimed order from until By word = Among from until (λ q. By (tickAt order q) (
 
 -- those of the setters and of the conditions of fact f with its timed facts, by how many facts there are
 abbrev pub OfFact :
-    ℕ → List ℕ → List ℕ → List ℕ → List ℕ → (ℕ → ℕ → ℕ → ℕ → ℕ → Type 0) → (ℕ → ℕ → ℕ → ℕ → ℕ → Type 0) → ℕ → ℕ → ℕ → Type 0
+    ℕ → List ℕ → List ℕ → List ℕ → List ℕ
+    → (ℕ → ℕ → ℕ → ℕ → ℕ → Type 0)
+    → (ℕ → ℕ → ℕ → ℕ → ℕ → Type 0)
+    → ℕ
+    → ℕ
+    → ℕ
+    → Type 0
 OfFact facts points begins order marks By With f k v =
     OfSetters points begins f (OfTimed order (getD marks f 0) (getD marks (f + 1) 0) By) k v
     ⊎ OfSetters points begins (facts + f) (OfTimed order (getD marks f 0) (getD marks (f + 1) 0) With) k v

@@ -45,7 +45,10 @@ raise-linked-spec =
     let t = is-timed (getD (now (a .links)) (a .c) 0) (a .job .count .effects) initialState (c .before .before .before .before .before .if1 .left) in
     rw (c .before .before .timed-of .ensures, c .before .before .before .before .condition-of .ensures) (
       omega (arith, d .pre .4, d .pre .0 .stepCount, d .pre .0 .conditionStep _ (d .pre .2)),
-      omega (arith, d .pre .0 .timedTick (getD (now (a .links)) (a .c) 0 - a .job .count .effects) (omega (arith, t .0, d .pre .1 .named _ (d .pre .2) (t .1)))),
+      omega (
+        arith,
+        d .pre .0 .timedTick (getD (now (a .links)) (a .c) 0 - a .job .count .effects) (omega (arith, t .0, d .pre .1 .named _ (d .pre .2) (t .1))),
+      ),
     ))
     (λ c. search needs)
     (λ c.

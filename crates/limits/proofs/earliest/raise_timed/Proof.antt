@@ -23,7 +23,9 @@ raise-timed-spec =
     (λ s starts points begins limits₀ order marks facts f₀ limits f. facts - f)
     (λ c. moved-none Up up-same up-on _ _ (λ k v o. absurd (omega (arith, o .2, c .if1 .taken))))
     (λ c. search needs) (λ c. search needs)
-    (λ c κs. let d = c .before .before .before .before .before .before .before .before .before in (d .pre .0 .form, d .pre .1, d .pre .0 .clock, search needs, search needs))
+    (λ c κs.
+    let d = c .before .before .before .before .before .before .before .before .before in
+    (d .pre .0 .form, d .pre .1, d .pre .0 .clock, search needs, search needs))
     (λ c. search needs)
     (λ c. (omega arith, moved-empty Up up-same up-on _ _ _))
     (λ c. search needs)

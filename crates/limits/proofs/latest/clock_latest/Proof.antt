@@ -10,4 +10,6 @@ clock-latest-spec =
     (tie.spec
     (λ c κs. let p = c .before .before .before .before .before .before .pre in (p .0, p .1, p .2 .size))
     (λ c. search needs)
-    (λ c. let p = c .before .before .before .before .before .before .before .before .before .pre in latest-are (p .0) (p .2) (c .before .before .lower-timed .ensures)))
+    (λ c.
+    let p = c .before .before .before .before .before .before .before .before .before .pre in
+    latest-are (p .0) (p .2) (c .before .before .lower-timed .ensures)))

@@ -16,7 +16,7 @@ lower-condition-spec =
     let read = c .before .before in
     let d = read .before .before .before .before in (
       omega (arith, c .before .step-of .ensures .0, d .pre .0),
-      omega (arith, condition-near (d .pre .2) (omega (arith, read .before .number-of .ensures .0, d .pre .4)) (read .condition-of .ensures) .1),
+      omega (arith, condition-near (d .pre .2) (omega (arith, read .before .number-of .ensures .0, d .pre .4)) (read .condition-of .ensures)),
       d .pre .1,
     ))
     (λ c. search needs)

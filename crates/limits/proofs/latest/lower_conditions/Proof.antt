@@ -41,7 +41,9 @@ lower-conditions-spec =
     (λ c κs. search needs)
     (λ c κs. let loop = c .before .before .before .before in (loop .loop .inv .3, loop .before .before .before .before .before .before .before .pre .1 .ends))
     (λ c κs. search needs)
-    (λ c κs. let loop = c .before .before .before .before .before .before in (loop .loop .inv .5, loop .before .before .before .before .before .before .before .pre .1 .ends))
+    (λ c κs.
+    let loop = c .before .before .before .before .before .before in
+    (loop .loop .inv .5, loop .before .before .before .before .before .before .before .pre .1 .ends))
     (λ c κs. search needs) (λ c κs. search needs)
     (λ c κs. c .before .before .before .before .before .before .before .before .before .before .before .before .before .before .before .before .pre .1 .ends)
     (λ c κs.

@@ -22,7 +22,9 @@ lower-start-spec =
     (λ c. search needs)
     (λ c.
     let e = c .before .before .since .ensures in
-    before-one (c .before .before .before .before .before .args .at) _ _ (c .before .before .before .if1 .left) (moved-put Down down-same down-on _ _ _ e (c .before .before .before .before .before .pre .0) (omega (arith, e, c .if2 .taken))))
+    let d = c .before .before .before .before .before in
+    before-one (d .args .at) _ _ (c .before .before .before .if1 .left)
+    (moved-put Down down-same down-on _ _ _ e (d .pre .0) (omega (arith, e, c .if2 .taken))))
     (λ c.
     before-one (c .before .before .before .before .before .args .at) _ _ (c .before .before .before .if1 .left)
     (moved-kept Down down-same down-on _ _ _ (omega (arith, c .before .before .since .ensures, c .if2 .left)))))

@@ -23,7 +23,9 @@ lower-timed-spec =
     (λ s job starts points begins latest₀ order marks facts f₀ latest f. facts - f)
     (λ c. moved-none Down down-same down-on _ _ (λ k v o. absurd (omega (arith, o .2, c .if1 .taken))))
     (λ c. search needs) (λ c. search needs)
-    (λ c κs. let d = c .before .before .before .before .before .before .before .before .before in (d .pre .0 .form, d .pre .1, d .pre .0 .clock, search needs, search needs))
+    (λ c κs.
+    let d = c .before .before .before .before .before .before .before .before .before in
+    (d .pre .0 .form, d .pre .1, d .pre .0 .clock, search needs, search needs))
     (λ c. search needs)
     (λ c. (omega arith, moved-empty Down down-same down-on _ _ _))
     (λ c. search needs)

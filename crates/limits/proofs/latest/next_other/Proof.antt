@@ -29,7 +29,9 @@ next-other-spec =
     let i = value .before .before .before .loop .inv in
     let t = both-pass (value .value-of .ensures .0) refl (tick .tick-of .ensures .0) (c .if1 .taken) in
     record { begins = i .0; ends = i .1; before = i .2; here = λ _. (λ e. t .0 (sym e), t .1) })
-    (λ c. omega (arith, c .before .before .before .before .before .loop-test .taken, c .before .before .before .before .before .before .before .before .pre .1))
+    (λ c.
+    let test = c .before .before .before .before .before in
+    omega (arith, test .loop-test .taken, test .before .before .before .pre .1))
     (λ c. omega (arith, c .before .before .before .before .before .loop-test .taken))
     (λ c.
     let tick = c .before in
@@ -39,7 +41,8 @@ next-other-spec =
     let a = loop .before .before .args in (
       omega (arith, i .0),
       omega (arith, c .before .before .before .before .before .loop-test .taken),
-      no-more (now (a .order)) (a .from) (loop .loop .place) (a .value) (a .t) (i .2) (one-fails (value .value-of .ensures .0) refl (tick .tick-of .ensures .0) (c .if1 .left)),
+      no-more (now (a .order)) (a .from) (loop .loop .place) (a .value) (a .t) (i .2)
+          (one-fails (value .value-of .ensures .0) refl (tick .tick-of .ensures .0) (c .if1 .left)),
     ))
     (λ c.
     let i = c .before .loop .inv in
