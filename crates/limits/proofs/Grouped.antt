@@ -6,14 +6,13 @@ use native.Mathlib.Omega.{arith}
 use lib.ListN.{getD}
 use Rattle.timeline.specs.Words.{stepAt, tickAt, valueAt, numberAt}
 use Rattle.timeline.specs.Placed.{Placed}
-use Rattle.job.specs.declared.records.Condition.{Condition}
 use Rattle.job.specs.declared.records.TimedFact.{TimedFact}
-use Rattle.job.specs.Model.{Model, conditionOf, longest}
-use Rattle.job.specs.WellFormed.{WellFormed}
+use Rattle.job.specs.Model.{Model}
 use Rattle.validity.specs.Ticks.{scheduleOf}
 use Rattle.points.specs.Points.{Setter, Wanting}
 use Rattle.limits.specs.Timed.{TimedPoints}
-use Rattle.limits.specs.Moved.{startAfter, startBefore, Later, Sooner, Ended, OfWords, Begun, Wanted}
+use Rattle.moves.specs.Moved.{startAfter, startBefore}
+use Rattle.limits.specs.Beside.{Later, Sooner, Ended, OfWords, Begun, Wanted}
 
 -- points of steps, each so far into its step
 module _ (x at value step : ℕ → ℕ) (P : ℕ → Type 0) (points : List ℕ) (low high : ℕ)
@@ -116,15 +115,6 @@ module _ (x at value step : ℕ → ℕ) (P : ℕ → Type 0) (points : List ℕ
             sym (g .steps p (o .1) (o .2)) ∙ w .2,
             w .3,
           )
-
--- how far a condition reaches into its step
-pub condition-near :
-    {m : Model} {n : ℕ} {condition : Condition} → WellFormed m → n < m .conditions → condition ≡ conditionOf m n
-    → (condition .from ≤ longest) × (condition .to ≤ longest)
-condition-near {n = n} w l e =
-    let to = w .conditionEnd n l in
-    let most = w .lengthRange _ (w .conditionStep n l) in
-    rw e (omega (arith, to, most, w .conditionSpan n l), omega (arith, to, most))
 
 -- those of fact f
 module _ {m : Model} {starts points begins : List ℕ} (w : TimedPoints m starts points begins) {f : ℕ} (h : f < m .facts) {many low high : ℕ}

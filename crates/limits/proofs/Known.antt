@@ -1,14 +1,11 @@
--- The timed facts of a fact in the order of their ticks, and the last of them that has another value.
-use Prim.Native.Nat.{ℕ, _+_, _-_, _≤_, _<_}
+-- The timed facts of a fact in the order of their ticks.
+use Prim.Native.Nat.{ℕ, _+_, _-_, _<_}
 use mathlib.Core.Path.{_≡_, refl, sym, ap, _∙_}
 use mathlib.Core.List.{List}
-use mathlib.Core.Logic.{inl, inr}
-use native.Mathlib.Decide.{decLt}
 use native.Mathlib.Omega.{arith}
 use lib.ListN.{length, getD}
-use Rattle.timeline.specs.Words.{tickAt, valueAt, numberAt}
+use Rattle.timeline.specs.Words.{numberAt}
 use Rattle.timeline.specs.Placed.{Placed}
-use Rattle.timeline.specs.declared.walk.Cursor.{Cursor}
 use Rattle.job.specs.declared.layout.Job.{Job}
 use Rattle.job.specs.Layout.{mostTimed}
 use Rattle.job.specs.Model.{Model, view}
@@ -19,7 +16,8 @@ use Rattle.job_reader.specs.Laid.{Laid}
 use Rattle.validity.specs.Ticks.{effectTick}
 use Rattle.points.specs.Points.{Setter, PointsKnown}
 use Rattle.points.specs.Words.{PointRoom}
-use Rattle.limits.specs.Known.{onlyTimed, markCount, TimedOf, TimedKnown, Row, Passed, LastOther}
+use Rattle.moves.specs.Others.{Row}
+use Rattle.limits.specs.Known.{onlyTimed, markCount, TimedOf, TimedKnown}
 
 -- a job without effects
 module _ (m : Model) (none : m .effects ≡ 0) (x : ℕ → ℕ) (clock : x (m .steps) ≡ 0) where
@@ -146,56 +144,3 @@ timed-row {order = order} w k f h a b =
       rises = g .rises;
       late = λ p c d. omega (arith, g .ticks p c d, w .timedTick (numberAt order p) (g .holds p c d .0));
     })
-
--- the last of those before a cursor that has another value
-module _ {order : List ℕ} {from : ℕ} {cursor : Cursor} (w : Passed order from cursor) {value : ℕ} where
-  pub other-none : cursor .place ≤ from → LastOther order from (cursor .place) value 0
-  other-none h = record { above = λ p a b d. absurd (omega arith); one = inl refl }
-
-  pub other-last :
-      {v t : ℕ} → from < cursor .place → v ≡ valueAt order (cursor .place - 1) → (v ≡ value → ⊥) → t ≡ tickAt order (cursor .place - 1)
-      → LastOther order from (cursor .place) value (t + 1)
-  other-last h e d q =
-      record {
-        above = λ p a b _.
-            elim (decLt p (cursor .place - 1)) [
-              | yes l ↦ omega (arith, q, w .row .rises p (cursor .place - 1) a l (omega arith))
-              | no l ↦ omega (arith, q, ap (tickAt order) (let i : p ≡ cursor .place - 1 = omega arith in i))
-            ];
-        one = inr (cursor .place - 1, omega arith, omega arith, λ i. d (e ∙ sym i), omega (arith, q));
-      }
-
-  -- those of the run before it have one value
-  before-run :
-      {v : ℕ} → v ≡ valueAt order (cursor .place - 1) → v ≡ value → (p : ℕ) → p < cursor .place → (value ≡ valueAt order p → ⊥)
-      → p < cursor .run
-  before-run e i p b d =
-      elim (decLt p (cursor .run)) [
-        | yes l ↦ l
-        | no l ↦ absurd (d (sym i ∙ e ∙ sym (w .run .alike p (omega arith) b)))
-      ]
-
-  pub other-same :
-      {v : ℕ} → v ≡ valueAt order (cursor .place - 1) → v ≡ value → cursor .run ≤ from → LastOther order from (cursor .place) value 0
-  other-same e i h =
-      record { above = λ p a b d. absurd (omega (arith, before-run e i p b d)); one = inl refl }
-
-  pub other-turned :
-      {v t : ℕ} → v ≡ valueAt order (cursor .place - 1) → v ≡ value → from < cursor .run → t ≡ tickAt order (cursor .run - 1)
-      → LastOther order from (cursor .place) value (t + 1)
-  other-turned e i h q =
-      record {
-        above = λ p a b d.
-            let near = before-run e i p b d in
-            elim (decLt p (cursor .run - 1)) [
-              | yes l ↦ omega (arith, q, w .row .rises p (cursor .run - 1) a l (omega (arith, w .run .to)))
-              | no l ↦ omega (arith, q, ap (tickAt order) (let i : p ≡ cursor .run - 1 = omega (arith, near) in i))
-            ];
-        one = inr (
-          cursor .run - 1,
-          omega arith,
-          omega (arith, w .run .to),
-          λ z. w .run .turned h (sym z ∙ sym i ∙ e),
-          omega (arith, q),
-        );
-      }

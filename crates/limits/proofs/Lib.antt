@@ -1,5 +1,5 @@
 -- What the code moves the lists of starts to is what the definitions say of the clock.
-pub mod Moved
+pub mod AllAre
 pub mod Tested
 pub mod Grouped
 pub mod Clock

@@ -16,7 +16,8 @@ use Rattle.orders.specs.Windows.{clockGap}
 use Rattle.orders.proofs.Limits.{clock-unbound, clock-bound}
 use Rattle.orders.proofs.Orders.{Opposer}
 use Rattle.limits.specs.Timed.{TimedPoints, AllAre, ClockLatest}
-use Rattle.limits.specs.Moved.{Down, Moved, Among, Sooner, Ended, OfSetters, OfWanted, LatestBy}
+use Rattle.moves.specs.Moved.{Down, Moved, Among}
+use Rattle.limits.specs.Beside.{Sooner, Ended, OfSetters, OfWanted, LatestBy}
 use Rattle.orders.proofs.Bounds.{support-le, opposing-le, opposing-ge, condition-le, after-ge, clock-ge, clock-le}
 use Rattle.limits.proofs.Grouped.{sooner-found, sooner-known, ended-found, ended-known}
 use Rattle.limits.proofs.Clock.{timed-known, timed-step, timed-offset, timed-fact, timed-value, timed-tick, timed-opposes, of-clock}

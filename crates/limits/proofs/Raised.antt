@@ -18,8 +18,9 @@ use Rattle.orders.specs.Gaps.{supportGap, opposingGap, conditionGap}
 use Rattle.orders.specs.Windows.{clockGap, clockLimit}
 use Rattle.orders.proofs.Orders.{Opposer}
 use Rattle.limits.specs.Timed.{TimedPoints, TimedLinks, AllAre, mostLimit, ClockLimits}
-use Rattle.limits.specs.Moved.{Up, Moved, Among, startAfter, Later, OfSetters, OfWanted, LimitBy, LimitByLink, LinksNamed}
-use Rattle.limits.proofs.Moved.{up-same, up-on, moved-either}
+use Rattle.moves.specs.Moved.{Up, Moved, Among, startAfter}
+use Rattle.limits.specs.Beside.{Later, OfSetters, OfWanted, LimitBy, LimitByLink, LinksNamed}
+use Rattle.moves.proofs.Moved.{up-same, up-on, moved-either}
 use Rattle.orders.proofs.Bounds.{support-le, support-ge, opposing-le, opposing-ge, condition-le, before-ge, clock-ge, clock-le}
 use Rattle.limits.proofs.Grouped.{later-found, later-known}
 use Rattle.limits.proofs.Clock.{timed-step, timed-offset, timed-tick, timed-opposes, of-clock, clock-opposes, of-step}

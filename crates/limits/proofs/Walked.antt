@@ -14,10 +14,11 @@ use Rattle.job.specs.Model.{Model}
 use Rattle.job.specs.WellFormed.{WellFormed}
 use Rattle.points.specs.Points.{wantedGroup}
 use Rattle.limits.specs.Timed.{mostLimit}
-use Rattle.limits.specs.Moved.{Up, Down, Moved, Single, Among, startAfter, startBefore, LaterThan, Before}
-use Rattle.limits.specs.Moved.{OfWords, OfSetters, OfWanted, OfTimed, OfFact}
-use Rattle.limits.specs.Known.{TimedKnown, Row, Passed, LastOther, NoOther, NextOther}
-use Rattle.limits.proofs.Moved.{moved-is, moved-either}
+use Rattle.moves.specs.Moved.{Up, Down, Moved, Single, Among, startAfter, startBefore, Before}
+use Rattle.moves.specs.Others.{Row, Passed, LastOther, NoOther, NextOther}
+use Rattle.moves.proofs.Moved.{moved-is, moved-either}
+use Rattle.limits.specs.Beside.{LaterThan, OfWords, OfSetters, OfWanted, OfTimed, OfFact}
+use Rattle.limits.specs.Known.{TimedKnown}
 
 -- a cursor before all timed facts, one that has come to a tick, and one that goes on to a later one
 pub walking-first :
@@ -123,18 +124,6 @@ next-later {old = old} a b l p c d e g =
     elim (decLt p old) [
       | yes h ↦ a p c h e (omega arith)
       | no h ↦ b .before p (omega arith) d e (omega arith)
-    ]
-
-pub no-more :
-    (order : List ℕ) (from place value t : ℕ) → NoOther order from place value t
-    → ((valueAt order place ≡ value → ⊥) → t < tickAt order place → ⊥)
-    → NoOther order from (place + 1) value t
-no-more order from place value t a d p b c e g =
-    elim (decLt p place) [
-      | yes h ↦ a p b h e g
-      | no h ↦
-          let q : p ≡ place = omega arith in
-          d (λ z. e (sym z ∙ ap (valueAt order) (sym q))) (subst (λ p. t < tickAt order p) q g)
     ]
 
 next-whole :

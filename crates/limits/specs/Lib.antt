@@ -1,4 +1,4 @@
--- What the limits of timed facts are found from and what they are (Timed), and lists moved by orders with the clock (Moved).
+-- What the limits of timed facts are found from and what they are (Timed), and the orders beside them (Beside, Known).
 pub mod Timed
-pub mod Moved
+pub mod Beside
 pub mod Known

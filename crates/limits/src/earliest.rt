@@ -1,17 +1,16 @@
 // Earliest limits: a point strictly after the tick T of a timed fact gives start ≥ T + 1 − point.
 ghost use mathlib.Core.Path.{_≡_};
-ghost use Prim.Native.Nat.{_-_, _≤_, _<_};
+ghost use Prim.Native.Nat.{_-_, _<_};
 ghost use lib.ListN.{length};
-ghost use Rattle.timeline.specs.Words.{wordStep, wordTick};
 ghost use Rattle.job.specs.Model.{view};
 ghost use Rattle.job.specs.WellFormed.{WellFormed};
 ghost use Rattle.job_reader.specs.Laid.{Laid};
 ghost use Rattle.validity.specs.Ticks.{scheduleOf};
 ghost use Rattle.order_file.specs.Table.{rowWidth};
-ghost use Rattle.limits.specs.Timed.{TimedPoints, TimedLinks, AllAre, mostLimit, ClockLimits};
-ghost use Rattle.limits.specs.Moved.{Up, Moved, Single, Among, LaterThan, OfWords, OfTimed, LimitBy, LimitByLink, Begun, LinksNamed};
-ghost use Rattle.limits.specs.Known.{Row, Passed, LastOther};
-use crate::since;
+ghost use Rattle.limits.specs.Timed.{TimedPoints, TimedLinks, AllAre, ClockLimits};
+ghost use Rattle.moves.specs.Moved.{Up, Moved, Among};
+ghost use Rattle.limits.specs.Beside.{LaterThan, OfWords, OfTimed, LimitBy, LimitByLink, Begun, LinksNamed};
+ghost use Rattle.moves.specs.Others.{Row};
 use crate::timed::MARKS;
 use crate::timed::MOST_TIMED;
 use crate::timed::Span;
@@ -20,56 +19,16 @@ use crate::timed::span_of;
 use job::layout::Job;
 use job_reader::laid::condition_of;
 use job_reader::laid::timed_of;
+use moves::others::last_other;
+use moves::raise_limit;
+use moves::raise_point;
 use order_file::layout::INITIAL_STATE;
-use points::ticks::start_of;
 use timeline::walk::Cursor;
 use timeline::walk::advance;
-use timeline::word::step_of;
 use timeline::word::tick_of;
 use timeline::word::value_of;
 
-// Raises the limit of a step so that what lies `at` into it does not come before tick `first`.
-fn raise_limit(step: u16, at: usize, first: usize, limits: &mut [u32])
-    requires { ⌜ (step < length (now limits)) × (first ≤ mostLimit) ⌝ }
-    ensures { λ _. ⌜ Moved Up (Single step (first - at)) (now (limits .entry)) (now (limits .exit)) ⌝ }
-{
-    let k = step as usize;
-    let limit = since(first, at) as u32;
-    if limits[k] < limit {
-        limits[k] = limit;
-    }
-}
-
-// One more than the tick of the last timed fact before a cursor that has another value, or 0 where there is none.
-fn last_other(order: &[u64], from: usize, cursor: Cursor, value: u16) -> usize
-    requires { ⌜ Passed (now order) from cursor ⌝ }
-    ensures { λ r. ⌜ LastOther (now (order .entry)) from (cursor .place) value r ⌝ }
-{
-    if cursor.place <= from {
-        return 0;
-    }
-    let last = order[cursor.place - 1];
-    if value_of(last) != value {
-        return tick_of(last) + 1;
-    }
-    if cursor.run <= from {
-        return 0;
-    }
-    tick_of(order[cursor.run - 1]) + 1
-}
-
-// Rules 2 and 3: a point, an effect or where a condition begins, comes after the last timed fact of another value that it lies after.
-fn raise_point(starts: &[u32], word: u64, first: usize, limits: &mut [u32])
-    requires { ⌜ (wordStep word < length (now limits)) × (scheduleOf (now starts) (wordStep word) ≤ wordTick word) × (first ≤ mostLimit) ⌝ }
-    ensures { λ _. ⌜ Moved Up (Single (wordStep word) (first - (wordTick word - scheduleOf (now (starts .entry)) (wordStep word))))
-        (now (limits .entry)) (now (limits .exit)) ⌝ }
-{
-    let step = step_of(word);
-    let at = tick_of(word) - start_of(starts, step);
-    raise_limit(step, at, first, limits);
-}
-
-// The same for the points of a span: along them and, beside them, its timed facts.
+// Rules 2 and 3 for the points of a span: along them and, beside them, its timed facts.
 fn raise_points(starts: &[u32], points: &[u64], order: &[u64], span: Span, limits: &mut [u32])
     requires { ⌜ Begun (length (now limits)) (scheduleOf (now starts)) (now points) (span .low) (span .high)
         × Row (now order) (span .from) (span .until) ⌝ }

@@ -1,7 +1,7 @@
 -- What timed facts leave, then written starts and deadlines.
 use borrow.Author.Needs.{needs}
 use Rattle.order_file.specs.Contents.{noLatest}
-use Rattle.limits.proofs.Moved.{all-are}
+use Rattle.limits.proofs.AllAre.{all-are}
 use Rattle.partialize.proofs.find_windows.Statement.{statement}
 use Rattle.partialize.proofs.find_windows.Tie as tie
 

@@ -8,8 +8,8 @@ use lib.ListN.{getD}
 use Rattle.job.specs.declared.records.Condition.{Condition}
 use Rattle.job.specs.declared.records.TimedFact.{TimedFact}
 use Rattle.order_file.specs.Contents.{initialState}
-use Rattle.limits.specs.Moved.{Up, startAfter}
-use Rattle.limits.proofs.Moved.{up-same, up-on, allowed-one, allowed-none}
+use Rattle.moves.specs.Moved.{Up, startAfter}
+use Rattle.moves.proofs.Moved.{up-same, up-on, allowed-one, allowed-none}
 use Rattle.limits.proofs.Tested.{is-timed, no-timed}
 use Rattle.limits.proofs.earliest.raise_linked.Statement.{statement}
 use Rattle.limits.proofs.earliest.raise_linked.Tie as tie

@@ -7,8 +7,9 @@ use lib.ListN.{getD}
 use Rattle.timeline.specs.Words.{tickAt}
 use Rattle.timeline.specs.Walking.{Walking}
 use Rattle.validity.specs.Ticks.{scheduleOf}
-use Rattle.limits.specs.Moved.{Up, Moved, LaterThan, OfWords, OfTimed}
-use Rattle.limits.proofs.Moved.{up-same, up-on, moved-none, moved-empty, moved-more, moved-all}
+use Rattle.moves.specs.Moved.{Up, Moved}
+use Rattle.limits.specs.Beside.{LaterThan, OfWords, OfTimed}
+use Rattle.moves.proofs.Moved.{up-same, up-on, moved-none, moved-empty, moved-more, moved-all}
 use Rattle.limits.proofs.Walked.{walking-first, walking-later, walking-passed, other-most, later-all}
 use Rattle.limits.proofs.earliest.raise_points.Statement.{statement}
 use Rattle.limits.proofs.earliest.raise_points.Tie as tie

@@ -2,8 +2,9 @@
 use Prim.Native.Nat.{_-_, _≤_}
 use native.Mathlib.Omega.{arith}
 use Rattle.job.specs.Model.{view}
-use Rattle.limits.specs.Moved.{Up, Moved, Among, LimitByLink}
-use Rattle.limits.proofs.Moved.{up-same, up-on, moved-none, moved-empty, moved-more, moved-all}
+use Rattle.moves.specs.Moved.{Up, Moved, Among}
+use Rattle.limits.specs.Beside.{LimitByLink}
+use Rattle.moves.proofs.Moved.{up-same, up-on, moved-none, moved-empty, moved-more, moved-all}
 use Rattle.limits.proofs.earliest.raise_supported.Statement.{statement}
 use Rattle.limits.proofs.earliest.raise_supported.Tie as tie
 

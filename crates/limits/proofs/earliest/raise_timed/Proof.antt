@@ -5,8 +5,9 @@ use borrow.Author.Needs.{needs}
 use denote.Ref.{now}
 use Rattle.job.specs.Model.{view}
 use Rattle.validity.specs.Ticks.{scheduleOf}
-use Rattle.limits.specs.Moved.{Up, Moved, Among, LaterThan, OfFact}
-use Rattle.limits.proofs.Moved.{up-same, up-on, moved-none, moved-empty, moved-more, moved-all}
+use Rattle.moves.specs.Moved.{Up, Moved, Among}
+use Rattle.limits.specs.Beside.{LaterThan, OfFact}
+use Rattle.moves.proofs.Moved.{up-same, up-on, moved-none, moved-empty, moved-more, moved-all}
 use Rattle.limits.proofs.Grouped.{fact-setters, fact-wanted}
 use Rattle.limits.proofs.Known.{timed-row}
 use Rattle.limits.proofs.Walked.{moved-points, moved-timed}

@@ -7,9 +7,10 @@ use denote.Ref.{now}
 use lib.ListN.{getD}
 use Rattle.timeline.specs.Words.{wordNumber, tickAt}
 use Rattle.job.specs.Model.{view}
-use Rattle.limits.specs.Moved.{Down, Moved, EndedBy, OfWords, OfTimed}
-use Rattle.limits.specs.Known.{NoOther}
-use Rattle.limits.proofs.Moved.{down-same, down-on, moved-none, moved-empty, moved-more, moved-all}
+use Rattle.moves.specs.Moved.{Down, Moved}
+use Rattle.limits.specs.Beside.{EndedBy, OfWords, OfTimed}
+use Rattle.moves.specs.Others.{NoOther}
+use Rattle.moves.proofs.Moved.{down-same, down-on, moved-none, moved-empty, moved-more, moved-all}
 use Rattle.limits.proofs.Walked.{next-later, next-place, next-most, sooner-all}
 use Rattle.limits.proofs.latest.lower_conditions.Statement.{statement}
 use Rattle.limits.proofs.latest.lower_conditions.Tie as tie

@@ -7,9 +7,10 @@ use denote.Ref.{now}
 use lib.ListN.{getD}
 use Rattle.timeline.specs.Words.{wordStep, wordTick, tickAt}
 use Rattle.validity.specs.Ticks.{scheduleOf}
-use Rattle.limits.specs.Moved.{Down, Moved, SoonerThan, OfWords, OfTimed}
-use Rattle.limits.specs.Known.{NoOther}
-use Rattle.limits.proofs.Moved.{down-same, down-on, moved-none, moved-empty, moved-more, moved-all}
+use Rattle.moves.specs.Moved.{Down, Moved}
+use Rattle.limits.specs.Beside.{SoonerThan, OfWords, OfTimed}
+use Rattle.moves.specs.Others.{NoOther}
+use Rattle.moves.proofs.Moved.{down-same, down-on, moved-none, moved-empty, moved-more, moved-all}
 use Rattle.limits.proofs.Walked.{next-later, next-place, next-most, sooner-all}
 use Rattle.limits.proofs.latest.lower_setters.Statement.{statement}
 use Rattle.limits.proofs.latest.lower_setters.Tie as tie

@@ -5,8 +5,9 @@ use borrow.Author.Needs.{needs}
 use denote.Ref.{now}
 use Rattle.job.specs.Model.{view}
 use Rattle.validity.specs.Ticks.{scheduleOf}
-use Rattle.limits.specs.Moved.{Down, Moved, Among, SoonerThan, EndedBy, OfFact}
-use Rattle.limits.proofs.Moved.{down-same, down-on, moved-none, moved-empty, moved-more, moved-all}
+use Rattle.moves.specs.Moved.{Down, Moved, Among}
+use Rattle.limits.specs.Beside.{SoonerThan, EndedBy, OfFact}
+use Rattle.moves.proofs.Moved.{down-same, down-on, moved-none, moved-empty, moved-more, moved-all}
 use Rattle.limits.proofs.Grouped.{fact-setters, fact-known}
 use Rattle.limits.proofs.Known.{timed-row}
 use Rattle.limits.proofs.Walked.{moved-points, moved-timed}

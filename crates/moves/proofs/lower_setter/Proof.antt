@@ -4,8 +4,8 @@ use native.Mathlib.Omega.{arith}
 use borrow.Author.Needs.{needs}
 use denote.Ref.{now}
 use Rattle.validity.specs.Ticks.{scheduleOf}
-use Rattle.limits.proofs.latest.lower_setter.Statement.{statement}
-use Rattle.limits.proofs.latest.lower_setter.Tie as tie
+use Rattle.moves.proofs.lower_setter.Statement.{statement}
+use Rattle.moves.proofs.lower_setter.Tie as tie
 
 pub lower-setter-spec : {M : Type 1} → statement M
 lower-setter-spec =

@@ -4,11 +4,11 @@ use mathlib.Core.Path.{refl, sym}
 use native.Mathlib.Omega.{arith}
 use borrow.Author.Needs.{needs}
 use denote.Ref.{now}
-use Rattle.limits.specs.Known.{NoOther}
-use Rattle.limits.proofs.Tested.{both-pass, one-fails}
-use Rattle.limits.proofs.Walked.{no-more}
-use Rattle.limits.proofs.latest.next_other.Statement.{statement}
-use Rattle.limits.proofs.latest.next_other.Tie as tie
+use Rattle.moves.specs.Others.{NoOther}
+use Rattle.moves.proofs.Tested.{both-pass, one-fails}
+use Rattle.moves.proofs.NextOthers.{no-more}
+use Rattle.moves.proofs.others.next_other.Statement.{statement}
+use Rattle.moves.proofs.others.next_other.Tie as tie
 
 pub next-other-spec : {M : Type 1} → statement M
 next-other-spec =

@@ -1,10 +1,10 @@
 -- The limit is the larger of two.
 use native.Mathlib.Omega.{arith}
 use borrow.Author.Needs.{needs}
-use Rattle.limits.specs.Moved.{Up}
-use Rattle.limits.proofs.Moved.{up-same, up-on, moved-kept, moved-put}
-use Rattle.limits.proofs.earliest.raise_limit.Statement.{statement}
-use Rattle.limits.proofs.earliest.raise_limit.Tie as tie
+use Rattle.moves.specs.Moved.{Up}
+use Rattle.moves.proofs.Moved.{up-same, up-on, moved-kept, moved-put}
+use Rattle.moves.proofs.raise_limit.Statement.{statement}
+use Rattle.moves.proofs.raise_limit.Tie as tie
 
 pub raise-limit-spec : {M : Type 1} → statement M
 raise-limit-spec =

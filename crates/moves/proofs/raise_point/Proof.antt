@@ -4,8 +4,8 @@ use native.Mathlib.Omega.{arith}
 use borrow.Author.Needs.{needs}
 use denote.Ref.{now}
 use Rattle.validity.specs.Ticks.{scheduleOf}
-use Rattle.limits.proofs.earliest.raise_point.Statement.{statement}
-use Rattle.limits.proofs.earliest.raise_point.Tie as tie
+use Rattle.moves.proofs.raise_point.Statement.{statement}
+use Rattle.moves.proofs.raise_point.Tie as tie
 
 pub raise-point-spec : {M : Type 1} → statement M
 raise-point-spec =

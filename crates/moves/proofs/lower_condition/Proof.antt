@@ -1,9 +1,9 @@
 -- The condition is the one that the word names.
 use native.Mathlib.Omega.{arith}
 use borrow.Author.Needs.{needs}
-use Rattle.limits.proofs.Grouped.{condition-near}
-use Rattle.limits.proofs.latest.lower_condition.Statement.{statement}
-use Rattle.limits.proofs.latest.lower_condition.Tie as tie
+use Rattle.moves.proofs.Near.{condition-near}
+use Rattle.moves.proofs.lower_condition.Statement.{statement}
+use Rattle.moves.proofs.lower_condition.Tie as tie
 
 pub lower-condition-spec : {M : Type 1} → statement M
 lower-condition-spec =

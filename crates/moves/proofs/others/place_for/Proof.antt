@@ -1,7 +1,7 @@
 -- One of two.
 use mathlib.Core.Path.{refl}
-use Rattle.limits.proofs.latest.place_for.Statement.{statement}
-use Rattle.limits.proofs.latest.place_for.Tie as tie
+use Rattle.moves.proofs.others.place_for.Statement.{statement}
+use Rattle.moves.proofs.others.place_for.Tie as tie
 
 pub place-for-spec : {M : Type 1} → statement M
 place-for-spec =

@@ -1,9 +1,9 @@
 -- The last before the cursor, or the one before its run.
 use native.Mathlib.Omega.{arith}
 use borrow.Author.Needs.{needs}
-use Rattle.limits.proofs.Known.{other-none, other-last, other-same, other-turned}
-use Rattle.limits.proofs.earliest.last_other.Statement.{statement}
-use Rattle.limits.proofs.earliest.last_other.Tie as tie
+use Rattle.moves.proofs.NextOthers.{other-none, other-last, other-same, other-turned}
+use Rattle.moves.proofs.others.last_other.Statement.{statement}
+use Rattle.moves.proofs.others.last_other.Tie as tie
 
 pub last-other-spec : {M : Type 1} → statement M
 last-other-spec =

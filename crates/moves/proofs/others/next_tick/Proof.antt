@@ -2,8 +2,8 @@
 use mathlib.Core.Path.{refl}
 use native.Mathlib.Omega.{arith}
 use borrow.Author.Needs.{needs}
-use Rattle.limits.proofs.latest.next_tick.Statement.{statement}
-use Rattle.limits.proofs.latest.next_tick.Tie as tie
+use Rattle.moves.proofs.others.next_tick.Statement.{statement}
+use Rattle.moves.proofs.others.next_tick.Tie as tie
 
 pub next-tick-spec : {M : Type 1} → statement M
 next-tick-spec =

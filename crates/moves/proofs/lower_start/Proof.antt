@@ -1,10 +1,10 @@
 -- The latest start is the lower of two.
 use native.Mathlib.Omega.{arith}
 use borrow.Author.Needs.{needs}
-use Rattle.limits.specs.Moved.{Down}
-use Rattle.limits.proofs.Moved.{down-same, down-on, moved-none, moved-kept, moved-put, before-one}
-use Rattle.limits.proofs.latest.lower_start.Statement.{statement}
-use Rattle.limits.proofs.latest.lower_start.Tie as tie
+use Rattle.moves.specs.Moved.{Down}
+use Rattle.moves.proofs.Moved.{down-same, down-on, moved-none, moved-kept, moved-put, before-one}
+use Rattle.moves.proofs.lower_start.Statement.{statement}
+use Rattle.moves.proofs.lower_start.Tie as tie
 
 pub lower-start-spec : {M : Type 1} → statement M
 lower-start-spec =

@@ -5,16 +5,10 @@ use mathlib.Core.List.{List}
 use mathlib.Core.Logic.{_⊎_, inl, inr, ⊎-elim}
 use native.Mathlib.Decide.{ℕ-discrete}
 use native.Mathlib.Omega.{arith}
-use lib.ListN.{length, set, replicate, length-set, length-replicate, getD-replicate}
+use lib.ListN.{length, set, length-set}
 use lib.Seq.{getD-set-same, getD-set-other}
-use Rattle.order_file.specs.Table.{rowWidth, startIn}
-use Rattle.limits.specs.Timed.{AllAre}
-use Rattle.limits.specs.Moved.{Up, Down, Moved, Single, Among, Before, startBefore}
-
--- a new list
-pub all-are : (start : ℕ) → AllAre start (replicate rowWidth start)
-all-are start =
-    record { size = length-replicate {A = ℕ} rowWidth start; each = λ k h. getD-replicate {A = ℕ} rowWidth k start 0 h }
+use Rattle.order_file.specs.Table.{startIn}
+use Rattle.moves.specs.Moved.{Up, Down, Moved, Single, Among, Before, startBefore}
 
 pub up-same : (a : ℕ) → Up a a
 up-same a = omega arith
