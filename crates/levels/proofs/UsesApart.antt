@@ -10,7 +10,7 @@ use Rattle.job.specs.Model.{Model}
 use Rattle.timeline.specs.Words.{stepAt, numberAt, tickAt}
 use Rattle.validity.specs.Ticks.{useTick}
 use Rattle.points.specs.Points.{PointsKnown}
-use Rattle.values.specs.Against.{Rising}
+use Rattle.opposing.specs.Against.{Rising}
 use Rattle.levels.specs.UsesApart.{Single, StepsApart, LevelsListed, LevelsApart}
 
 -- the points from place p up to place q are of other steps than the one at q, whose tick and step were read

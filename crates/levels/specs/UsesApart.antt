@@ -4,7 +4,7 @@ use mathlib.Core.Path.{_≡_}
 use mathlib.Core.List.{List}
 use lib.ListN.{length, getD}
 use Rattle.timeline.specs.Words.{stepAt, tickAt}
-use Rattle.values.specs.Against.{Rising}
+use Rattle.opposing.specs.Against.{Rising}
 
 -- no point from place low on, before place q, has the tick and the step of the point at q
 abbrev pub Single : List ℕ → ℕ → ℕ → Type 0

@@ -3,7 +3,7 @@ ghost use mathlib.Core.Path.{_≡_};
 ghost use mathlib.Core.Bool.{false};
 ghost use Prim.Native.Nat.{_+_, _≤_, _<_};
 ghost use lib.ListN.{length};
-ghost use Rattle.values.specs.Against.{Rising};
+ghost use Rattle.opposing.specs.Against.{Rising};
 ghost use Rattle.levels.specs.UsesApart.{Single, StepsApart, LevelsListed, LevelsApart};
 use timeline::word::begin_at;
 use timeline::word::step_of;

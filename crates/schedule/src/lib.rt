@@ -21,6 +21,7 @@ ghost use Rattle.schedule.specs.Opened.{Read, Opened, Planned};
 use job::layout::Job;
 use levels::bounds;
 use levels::uses;
+use opposing::neighbours::any_mixed;
 use points::ticks;
 use points::words::FEW_GROUPS;
 use points::words::FEW_POINTS;
@@ -31,7 +32,6 @@ use points::words::list_points;
 use record_check::Form;
 use values::conditions;
 use values::effects;
-use values::goals;
 use verdict::Verdict;
 use verdict::number;
 use verdict::refuse_if;
@@ -113,7 +113,7 @@ fn is_clear(s: &[u8], job: Job, starts: &[u32], points: &[u64], begins: &[u16]) 
     requires { ⌜ Ranged (view job (now s)) × PointsKnown (clocked (view job (now s))) (scheduleOf (now starts)) (now points) (now begins) ⌝ }
     ensures { λ r. ⌜ (r ≡ true → Clear (clocked (view job (now (s .entry)))) (scheduleOf (now (starts .entry)))) ⌝ }
 {
-    if effects::any_mixed(job.count.facts, points, begins) {
+    if any_mixed(job.count.facts, points, begins) {
         return false;
     }
     if uses::any_twice(job.count.facts, job.count.levels, points, begins) {

@@ -20,17 +20,10 @@ use Rattle.validity.specs.Checks.{breaks, conditionFails}
 use Rattle.points.proofs.Placed.{seen-first, seen-before}
 use Rattle.values.specs.declared.conditions.Setters.{Setters}
 use Rattle.values.specs.declared.conditions.Walk.{Walk}
-use Rattle.values.specs.Against.{Rising, OfValue, Scanned}
+use Rattle.opposing.specs.Against.{Rising, OfValue, Scanned}
 use Rattle.values.specs.Conditions.{ConditionAt}
 use Rattle.values.specs.Contested.{opposesEarly, contested, noStep, ScannedBefore, Opposed}
 use Rattle.values.proofs.Against.{Opposing, scan-any}
-
--- one more point of the value
-pub of-value-more :
-    (points : List ℕ) {from place value : ℕ} → OfValue points from place value → valueAt points place ≡ value
-    → OfValue points from (place + 1) value
-of-value-more points {from} {place} so e p l g =
-    elim (decLt p place) [ yes i ↦ so p l i | no i ↦ ap (valueAt points) (let q : p ≡ place = omega arith in q) ∙ e ]
 
 -- A condition, at whose first tick a walk along its fact's setters stands.
 module _ {m : Model} {x : ℕ → ℕ} {points : List ℕ} {setters : Setters} {walk : Walk} {word : ℕ}

@@ -10,7 +10,7 @@ use lib.Dec.{eqb, leb, ltb}
 use Rattle.laws.specs.Search.{any, lowest}
 use Rattle.laws.proofs.Search.{either, contrary, and-both, or-both, any-intro, any-none, any-false, lowest-cong, lowest-facts}
 use Rattle.job.specs.Model.{Model}
-use Rattle.validity.specs.Ticks.{effectTick, firstTick, lastTick, opposes, ofAnother}
+use Rattle.validity.specs.Ticks.{effectTick, firstTick, lastTick, opposes}
 use Rattle.validity.specs.Seen.{seen}
 use Rattle.validity.specs.Checks.{breaks, conditionFails}
 use Rattle.values.specs.Contested.{opposesEarly, contested}

@@ -1,5 +1,4 @@
--- What a walk along the setters of a fact finds of its effects, conditions and goals is what all effects say of them.
-mod GoalRuns
+-- What a walk along the setters of a fact finds of its effects and conditions is what all effects say of them.
 mod Against
 mod Breaks
 pub mod Contested

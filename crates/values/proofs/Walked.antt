@@ -17,7 +17,7 @@ use Rattle.values.specs.declared.conditions.Setters.{Setters}
 use Rattle.values.specs.declared.conditions.Walk.{Walk}
 use Rattle.values.specs.Contested.{contested}
 use Rattle.values.specs.Noted.{Noted}
-use Rattle.values.specs.Against.{OfValue}
+use Rattle.opposing.specs.Against.{OfValue}
 use Rattle.values.specs.Conditions.{ConditionsKnown, SettersOf, Stands, NotPast, Come, ConditionAt}
 use Rattle.values.proofs.Noted.{noted-start, noted-more, noted-when, noted-both}
 

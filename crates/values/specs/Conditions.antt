@@ -10,7 +10,7 @@ use Rattle.validity.specs.Ticks.{firstTick}
 use Rattle.points.specs.Points.{ClockedRange, PointsKnown, OneValue}
 use Rattle.values.specs.declared.conditions.Setters.{Setters}
 use Rattle.values.specs.declared.conditions.Walk.{Walk}
-use Rattle.values.specs.Against.{Rising, OfValue}
+use Rattle.opposing.specs.Against.{Rising, OfValue}
 
 -- what the search for a contested condition knows of a job and its points
 pub record ConditionsKnown (m : Model) (x : ℕ → ℕ) (points begins : List ℕ) : Type 0 where

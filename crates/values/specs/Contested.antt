@@ -1,15 +1,15 @@
 -- Between crates: conditions that look wrong along a walk: they fail, or something opposes them before their last tick, their own step perhaps.
-use Prim.Native.Nat.{ℕ, _-_, _≤_, _<_}
+use Prim.Native.Nat.{ℕ, _-_, _<_}
 use mathlib.Core.Path.{_≡_}
 use mathlib.Core.Bool.{Bool, false, _&&_, _||_}
 use mathlib.Core.List.{List}
 use lib.Dec.{leb, ltb}
 use Rattle.laws.specs.Search.{any}
 use Rattle.job.specs.Model.{Model}
-use Rattle.timeline.specs.Words.{stepSpan, tickAt}
+use Rattle.timeline.specs.Words.{stepSpan}
 use Rattle.validity.specs.Ticks.{effectTick, firstTick, lastTick, opposes}
 use Rattle.validity.specs.Checks.{conditionFails}
-use Rattle.values.specs.Against.{Scanned}
+use Rattle.opposing.specs.Against.{Scanned}
 
 -- effect e opposes condition c from its first tick to before its last
 unfoldable pub opposesEarly : Model → (ℕ → ℕ) → ℕ → ℕ → Bool
@@ -29,10 +29,6 @@ noStep = stepSpan - 1
 pub record ScannedBefore (points : List ℕ) (from high last value : ℕ) (r : Bool) : Type 0 where
   pub never : last ≡ 0 → r ≡ false
   pub scan : 0 < last → Scanned points from high (last - 1) value noStep r
-
--- every point from place `from` on lies after tick `last`
-abbrev pub Past : List ℕ → ℕ → ℕ → ℕ → Type 0
-Past points from high last = (p : ℕ) → from ≤ p → p < high → last < tickAt points p
 
 -- whether a point from place `from` on has another value: of another step up to tick `last`, or of any step before it
 pub record Opposed (points : List ℕ) (from high last value step : ℕ) (r : Bool) : Type 0 where

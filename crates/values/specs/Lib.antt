@@ -1,6 +1,4 @@
--- What the setters of a fact say of its effects, conditions and goals.
-pub mod GoalRuns
-pub mod Against
+-- What the setters of a fact say of its effects and conditions.
 pub mod Conditions
 pub mod Contested
 pub mod Noted

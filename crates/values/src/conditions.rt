@@ -1,6 +1,6 @@
 // Refusal 11: conditions that fail, found along the setters of each fact, with those that their own step opposes (7).
 ghost use mathlib.Core.Path.{_≡_};
-ghost use mathlib.Core.Bool.{cond, true};
+ghost use mathlib.Core.Bool.{cond};
 ghost use Prim.Native.Nat.{max, min, _-_, _≤_, _<_};
 ghost use lib.Dec.{eqb, ltb};
 ghost use lib.ListN.{length};
@@ -10,13 +10,15 @@ ghost use Rattle.job.specs.Model.{view};
 ghost use Rattle.timeline.specs.Words.{wordTick, wordNumber, valueAt};
 ghost use Rattle.validity.specs.Ticks.{scheduleOf};
 ghost use Rattle.points.specs.Points.{Wanting};
-ghost use Rattle.values.specs.Contested.{Past, Opposed, contested, ScannedBefore};
+ghost use Rattle.values.specs.Contested.{Opposed, contested, ScannedBefore};
 ghost use Rattle.values.specs.Noted.{Noted};
-ghost use Rattle.values.specs.Against.{OfValue, Rising};
+ghost use Rattle.opposing.specs.Against.{Rising};
 ghost use Rattle.values.specs.Conditions.{ConditionsKnown, ConditionAt, NotPast, Come};
-use crate::effects::opposed_from;
 use job::layout::Job;
 use job_reader::reader::fact_at;
+use opposing::scan::is_past;
+use opposing::scan::opposed_from;
+use opposing::scan::opposing_from;
 use points::ticks::last_tick;
 use timeline::walk::Cursor;
 use timeline::walk::advance;
@@ -66,21 +68,6 @@ fn opposing(walk: Walk, value: u16) -> usize
     ensures { λ r. ⌜ r ≡ cond (eqb value 0) (walk .off) (walk .on) ⌝ }
 {
     if value == 0 { walk.off } else { walk.on }
-}
-
-// The first place from `from` on where the value is another.
-fn opposing_from(points: &[u64], from: usize, high: usize, value: u16) -> usize
-    requires { ⌜ high ≤ length (now points) ⌝ }
-    ensures { λ r. ⌜ (from ≤ r) × OfValue (now (points .entry)) from r value ⌝ }
-{
-    let mut p = from;
-    while p < high {
-        if value_of(points[p]) != value {
-            return p;
-        }
-        p += 1;
-    }
-    p
 }
 
 // Goes on to the first tick of a condition, and to the first point from there on that opposes it.
@@ -136,17 +123,6 @@ fn opposed_before(points: &[u64], from: usize, high: usize, last: usize, value: 
         return false;
     }
     opposed_from(points, from, high, last - 1, value, NO_STEP)
-}
-
-// Whether no point from a place on lies up to tick `last`.
-fn is_past(points: &[u64], from: usize, high: usize, last: usize) -> bool
-    requires { ⌜ (high ≤ length (now points)) × Rising (now points) from high ⌝ }
-    ensures { λ r. ⌜ (r ≡ true → Past (now (points .entry)) from high last) ⌝ }
-{
-    if high <= from {
-        return true;
-    }
-    last < tick_of(points[from])
 }
 
 // Whether a point from a place on has another value: one of another step up to tick `last`, or one of any step before it. In a sound

@@ -1,0 +1,2 @@
+-- What the last points of a fact say of its goals is what all effects say of them.
+mod GoalRuns

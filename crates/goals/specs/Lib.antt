@@ -1,0 +1,2 @@
+-- What the points that end a fact say of its goals.
+pub mod GoalRuns

@@ -1,0 +1,2 @@
+-- What stands against a value among the points of a group.
+pub mod Against

@@ -1,0 +1,3 @@
+// What stands against a value among the points of a group.
+pub mod neighbours;
+pub mod scan;

@@ -1,8 +1,0 @@
--- Both parts, as they stand.
-use borrow.Author.Needs.{needs}
-use Rattle.values.proofs.effects.differ.Statement.{statement}
-use Rattle.values.proofs.effects.differ.Tie as tie
-
-pub differ-spec : {M : Type 1} → statement M
-differ-spec =
-    tie.close (tie.spec (λ c κs. search needs) (λ c κs. search needs) (λ c κs. search needs) (λ c κs. search needs) (λ c. cc))
