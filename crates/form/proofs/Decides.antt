@@ -8,7 +8,7 @@ use Rattle.verdict.proofs.Chain.{then-accepted, first-refused}
 use Rattle.job.specs.declared.layout.Job.{Job}
 use Rattle.job.specs.Model.{view, modelOf}
 use Rattle.record_check.specs.declared.Form.{Form}
-use Rattle.record_check.specs.Header.{headerCheck}
+use Rattle.header_check.specs.Header.{headerCheck}
 use Rattle.record_check.specs.Records.{recordCheck, RecordsPromise}
 use Rattle.self_check.specs.Against.{stepCheck}
 use Rattle.self_check.specs.Clock.{timedCheck}

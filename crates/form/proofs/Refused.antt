@@ -23,8 +23,8 @@ use Rattle.job.specs.declared.layout.Table.the-variants.{Facts, Levels, Steps, 
 use Rattle.job.specs.declared.layout.Counts.{Counts}
 use Rattle.job.specs.Layout.{timedEdition, shortestHeader, headerWidth, highest, countsOf, countList, jobOf, countTooHigh}
 use Rattle.job.specs.Model.{Model, modelOf}
-use Rattle.record_check.specs.Header.{editionKnown, marksWrong, layoutAgrees, headerCheck}
-use Rattle.record_check.specs.Ranges.{countIn, recordBroken}
+use Rattle.header_check.specs.Header.{editionKnown, marksWrong, layoutAgrees, headerCheck}
+use Rattle.ranges.specs.Ranges.{countIn, recordBroken}
 use Rattle.record_check.specs.Records.{tableCheck, recordCheck}
 use Rattle.record_check.proofs.Ranged.{table-zero, tables, counts}
 use Rattle.self_check.specs.Against.{bothWays, usesTwice, opposesOwn, setBefore, usedBefore, opposesAny, bothWaysStep, usesTwiceStep, opposesOwnStep}

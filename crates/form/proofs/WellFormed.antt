@@ -16,7 +16,7 @@ use Rattle.job.specs.declared.layout.Table.the-variants.{Levels, Steps, Effects
 use Rattle.job.specs.Layout.{mostGoals, jobOf}
 use Rattle.job.specs.Model.{Model, modelOf}
 use Rattle.job.specs.WellFormed.{WellFormed, Ranged}
-use Rattle.record_check.specs.Ranges.{recordOk, countIn}
+use Rattle.ranges.specs.Ranges.{recordOk, countIn}
 use Rattle.record_check.proofs.Ranged.{tables, counts, header, ranged, level-in, step-in, effect-in, use-in, goal-in}
 use Rattle.self_check.specs.Against.{bothWays, usesTwice, opposesOwn, setBefore, usedBefore, opposesAny, bothWaysStep, usesTwiceStep, opposesOwnStep}
 use Rattle.self_check.specs.Against.{againstStep, stepCheck}

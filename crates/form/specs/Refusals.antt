@@ -8,7 +8,7 @@ use Rattle.job.specs.Layout.{jobOf}
 use Rattle.job.specs.Model.{modelOf}
 use Rattle.job.specs.WellFormed.{WellFormed}
 use Rattle.record_check.specs.declared.Form.{Form}
-use Rattle.record_check.specs.Header.{headerCheck}
+use Rattle.header_check.specs.Header.{headerCheck}
 use Rattle.record_check.specs.Records.{recordCheck}
 use Rattle.self_check.specs.Against.{stepCheck}
 use Rattle.self_check.specs.Clock.{timedCheck}

@@ -12,8 +12,8 @@ use Rattle.job.specs.declared.layout.Table.{Table}
 use Rattle.job.specs.declared.layout.Table.the-variants.{Facts, Levels, Steps, Conditions, Effects, Uses, Goals, TimedFacts}
 use Rattle.job.specs.Layout.{latestEdition, timedEdition, shortestHeader, headerWidth, highest, countsOf, countList, jobOf}
 use Rattle.job.specs.Model.{Model, modelOf}
-use Rattle.record_check.specs.Header.{layoutAgrees}
-use Rattle.record_check.specs.Ranges.{countIn, recordOk}
+use Rattle.header_check.specs.Header.{layoutAgrees}
+use Rattle.ranges.specs.Ranges.{countIn, recordOk}
 
 -- the tables in their order
 abbrev pub tableNumber : Table → ℕ

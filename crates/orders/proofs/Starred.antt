@@ -20,11 +20,11 @@ use Rattle.laws.proofs.Search.{either, last-or-below}
 use Rattle.laws.proofs.Nth.{nth-facts, nth-is}
 use Rattle.verdict.specs.declared.Verdict.the-variants.{Accepted}
 use Rattle.job.specs.Layout.{headerWidth, countsOf, tableAt, positionsOf, jobOf, countTooHigh}
-use Rattle.record_check.specs.Header.{editionKnown, marksWrong, layoutAgrees, headerCheck}
+use Rattle.header_check.specs.Header.{editionKnown, marksWrong, layoutAgrees, headerCheck}
 use Rattle.job.specs.Model.{Model, modelOf}
 use Rattle.job.specs.Clocked.{clocked}
 use Rattle.verdict.specs.Verdict.{_then_, refuseIf, refuseLowest}
-use Rattle.record_check.specs.Ranges.{factOk, levelOk, stepOk, conditionOk, effectOk, useOk, goalOk, timedOk}
+use Rattle.ranges.specs.Ranges.{factOk, levelOk, stepOk, conditionOk, effectOk, useOk, goalOk, timedOk}
 use Rattle.record_check.specs.Records.{tableCheck, recordCheck}
 use Rattle.self_check.specs.Against.{bothWays, usesTwice, opposesOwn, setBefore, usedBefore, opposesAny, bothWaysStep, usesTwiceStep, opposesOwnStep}
 use Rattle.self_check.specs.Against.{againstStep, stepCheck}

@@ -20,7 +20,7 @@ use Rattle.verdict.proofs.Chain.{then-refused, first-refused, then-zero, refuse
 use Rattle.job.specs.declared.layout.Counts.{Counts}
 use Rattle.job.specs.Layout.{timedEdition, shortestHeader, longestHeader, headerWidth, countsOf, countList, highest, tableAt, positionsOf, jobOf}
 use Rattle.job.specs.Layout.{countTooHigh}
-use Rattle.record_check.specs.Header.{editionKnown, marksWrong, layoutAgrees, headerCheck}
+use Rattle.header_check.specs.Header.{editionKnown, marksWrong, layoutAgrees, headerCheck}
 use Rattle.form.specs.Refusals.{formCheck}
 use Rattle.validity.specs.Checks.{jobCheck}
 use Rattle.partialize.specs.Partialization.{accepts}

@@ -16,7 +16,7 @@ use Rattle.job.specs.Layout.{timedEdition, tableAt, positionsOf, jobOf}
 use Rattle.job_reader.specs.Laid.{Laid}
 use Rattle.job.specs.Model.{modelOf}
 use Rattle.record_check.specs.declared.Form.{Form}
-use Rattle.record_check.specs.Header.{headerCheck, layoutAgrees}
+use Rattle.header_check.specs.Header.{headerCheck, layoutAgrees}
 use Rattle.record_check.specs.Records.{recordCheck, RecordsPromise}
 
 -- the file ends where its last table does

@@ -22,9 +22,9 @@ use Rattle.job.specs.Model.{Model, view, modelOf, lastStart, longest, lastDeadl
 use Rattle.job.specs.Model.{lowestLevel, highestLevel, lowestAmount, highestAmount}
 use Rattle.job.specs.WellFormed.{Ranged}
 use Rattle.record_check.specs.declared.Form.{Form}
-use Rattle.record_check.specs.Header.{headerCheck, marksWrong}
-use Rattle.record_check.specs.Ranges.{levelInRange, factOk, levelOk, stepOk, conditionOk, effectOk, useOk, goalOk, timedOk}
-use Rattle.record_check.specs.Ranges.{recordOk, recordBroken, countIn}
+use Rattle.header_check.specs.Header.{headerCheck, marksWrong}
+use Rattle.ranges.specs.Ranges.{levelInRange, factOk, levelOk, stepOk, conditionOk, effectOk, useOk, goalOk, timedOk}
+use Rattle.ranges.specs.Ranges.{recordOk, recordBroken, countIn}
 use Rattle.record_check.specs.Records.{tableCheck, recordCheck, RecordsPromise}
 
 -- once refusal 6 passes, every record of every table is in order

@@ -11,8 +11,8 @@ use Rattle.job.specs.Layout.{jobOf}
 use Rattle.job.specs.Model.{Model, modelOf}
 use Rattle.job.specs.WellFormed.{Ranged}
 use Rattle.record_check.specs.declared.Form.{Form}
-use Rattle.record_check.specs.Header.{headerCheck}
-use Rattle.record_check.specs.Ranges.{countIn, recordBroken}
+use Rattle.header_check.specs.Header.{headerCheck}
+use Rattle.ranges.specs.Ranges.{countIn, recordBroken}
 
 -- refusal 6 in one table
 unfoldable pub tableCheck : Model → Table → Verdict

@@ -1,10 +1,9 @@
 // The header and the records of a job file: refusals 1 to 6.
 ghost use Rattle.record_check.specs.Records.{RecordsPromise};
 
-mod header;
-mod ranges;
 mod tables;
 
+use header_check::check_header;
 use job::layout::Job;
 use verdict::Verdict;
 use verdict::number;
@@ -20,7 +19,7 @@ pub fn read_records(s: &[u8]) -> Form
     ensures { λ r. ⌜ RecordsPromise (now (s .entry)) r ⌝ }
 {
     let job = Job::read(s);
-    let verdict = header::check_header(s, job);
+    let verdict = check_header(s, job);
     if number(verdict) != 0 {
         return Form { verdict, job };
     }

@@ -10,7 +10,7 @@ use Rattle.job.specs.Model.{view, modelOf}
 use Rattle.job.specs.WellFormed.{Ranged}
 use Rattle.job.specs.Clocked.{clocked}
 use Rattle.record_check.specs.declared.Form.{Form}
-use Rattle.record_check.specs.Header.{headerCheck}
+use Rattle.header_check.specs.Header.{headerCheck}
 use Rattle.record_check.specs.Records.{recordCheck}
 use Rattle.validity.specs.Ticks.{scheduleOf, plannedStarts}
 use Rattle.validity.specs.Promise.{JobPromise}

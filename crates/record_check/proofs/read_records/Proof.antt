@@ -8,7 +8,7 @@ use Rattle.job_reader.specs.Laid.{Laid}
 use Rattle.job.specs.Layout.{jobOf}
 use Rattle.job.specs.Model.{view, modelOf}
 use Rattle.record_check.specs.declared.Form.{Form}
-use Rattle.record_check.specs.Header.{headerCheck}
+use Rattle.header_check.specs.Header.{headerCheck}
 use Rattle.record_check.specs.Records.{recordCheck, RecordsPromise}
 use Rattle.verdict.specs.Verdict.{number, _then_}
 use Rattle.verdict.proofs.Chain.{stands, decides}

@@ -46,10 +46,10 @@ use Rattle.job.proofs.layout.Job.Laws as J′
 use Rattle.job_reader.proofs.reader.JobReader.Laws as T′
 use Rattle.verdict.proofs.Verdict as S
 use Rattle.verdict.proofs.Verdict.Laws as S′
-use Rattle.record_check.proofs.ranges.check_records as work
-use Rattle.record_check.proofs.ranges.check_records.Symbol as work-def
-use Rattle.record_check.proofs.ranges.check_records.Symbol.{name as #records·ranges·check-records}
-use Rattle.record_check.proofs.ranges.check_records.Met as work-thm
+use Rattle.record_check.proofs.tables.check_records as work
+use Rattle.record_check.proofs.tables.check_records.Symbol as work-def
+use Rattle.record_check.proofs.tables.check_records.Symbol.{name as #check-records}
+use Rattle.record_check.proofs.tables.check_records.Met as work-thm
 use Rattle.record_check.proofs.tables.check_tables.Key.{name as #records·tables·check-tables}
 use Rattle.record_check.proofs.tables.check_tables as check-tables
 use Rattle.record_check.proofs.tables.check_tables.Statement as stated
@@ -116,7 +116,7 @@ module _ {M : Type 1} (𝓤 : URA M) (H : Heap 𝓤) (A : Atoms 𝓤) (W : Given
       move ! (1 ∷ []) $ frame ! $ nothing ! $ move ! (2 ∷ 0 ∷ []) $ fjoin ! $ frame ! $ done !
 
   module _ (C : Calls 𝓤 H) (Λ : Loops 𝓤 H) (fm : FmC 𝓤 H (W .laws) C)
-      (known : Triple 𝓤 (C #records·ranges·check-records) (Body 𝓤 H A mem run)) where
+      (known : Triple 𝓤 (C #check-records) (Body 𝓤 H A mem run)) where
     walk :
         Holds (hasTy (T′.mir (named 0)) mach) × WT mach → ent 𝓤 (onEntry 𝓤 H A check-tables.signature (κ, tt) (q, tt) (d, tt) (mach ∷ [], tt))
         (WpFn 𝓤 H C Λ code.function (mach ∷ []) Post)
@@ -143,7 +143,7 @@ module _ {M : Type 1} (𝓤 : URA M) (H : Heap 𝓤) (A : Atoms 𝓤) (W : Given
 meets :
     {M : Type 1} (𝓤 : URA M) (H : Heap 𝓤) (A : Atoms 𝓤) (W : Given 𝓤 H A) (mem : Memory → SProp 𝓤) (run : Routine → Fun 𝓤)
     (𝓣 : Tables 𝓤 H)
-    → Triple 𝓤 (𝓣 .C #records·ranges·check-records) (Body 𝓤 H A mem run)
+    → Triple 𝓤 (𝓣 .C #check-records) (Body 𝓤 H A mem run)
     → Meets 𝓤 H A check-tables.signature (WpFn 𝓤 H (𝓣 .C) (𝓣 .Λ) code.function) (check-tables.spec 𝓤 H A mem run)
 meets 𝓤 H A W mem run 𝓣 known =
     walk-meets 𝓤 H A check-tables.ended stayed W (goes-none 𝓤 H A W 1 Row yes (λ κs x f. refl), tt) (check-tables.clauses 𝓤 H A mem run)
@@ -160,6 +160,6 @@ check-tables-spec 𝓤 H 𝓜 𝓖 𝓡 =
     entered 𝓤 H (tripleOf 𝓤 H (𝓖 .A) check-tables.signature (check-tables.spec 𝓤 H (𝓖 .A) (𝓜 .mem) (𝓡 .run)))
     (tables 𝓤 H 𝓜 𝓡 code.env .C) (tables 𝓤 H 𝓜 𝓡 code.env .Λ) #records·tables·check-tables code.function (code.unfolded 𝓤 H 𝓜 𝓡)
     (meets 𝓤 H (𝓖 .A) (givenOf 𝓤 H 𝓜 𝓖) (𝓜 .mem) (𝓡 .run) (tablesOf 𝓤 H 𝓜 (tables 𝓤 H 𝓜 𝓡 code.env))
-    (cited 𝓤 H (Body 𝓤 H (𝓖 .A) (𝓜 .mem) (𝓡 .run)) 𝓜 𝓡 code.env #records·ranges·check-records work-def.routine
-    code.calls-record-check·ranges·check-records
+    (cited 𝓤 H (Body 𝓤 H (𝓖 .A) (𝓜 .mem) (𝓡 .run)) 𝓜 𝓡 code.env #check-records work-def.routine
+    code.calls-record-check·tables·check-records
     (work-thm.met 𝓤 H 𝓜 𝓖 𝓡)))

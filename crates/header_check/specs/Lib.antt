@@ -1,0 +1,2 @@
+-- When the header of a job file is in order: refusals 1 to 5.
+pub mod Header

@@ -1,0 +1,2 @@
+-- When a record of a job file is in range.
+pub mod Ranges

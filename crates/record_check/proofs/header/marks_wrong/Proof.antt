@@ -1,9 +1,0 @@
--- The tests are those of `marksWrong`.
-use mathlib.Core.Path.{refl}
-use Rattle.record_check.specs.Header.{marksWrong}
-use Rattle.record_check.proofs.header.marks_wrong.Statement.{statement}
-use Rattle.record_check.proofs.header.marks_wrong.Tie as tie
-
-pub marks-wrong-spec : {M : Type 1} → statement M
-unfolding marksWrong
-marks-wrong-spec = tie.close (tie.spec (λ c. refl))
