@@ -23,14 +23,14 @@ use order_file::table::ENTRY_BIAS;
 use order_file::table::NO_ORDER;
 use order_file::table::WIDTH;
 use order_file::table::higher;
-use points::ticks::finish;
-use points::ticks::start_of;
 use rows::origin::Fact;
 use rows::origin::raise;
 use rows::origin::strictly;
 use rows::raise_among;
 use rows::raise_conditions;
 use rows::raise_setters;
+use ticks::finish;
+use ticks::start_of;
 use timeline::word::begin_at;
 
 // Rule 1 for condition c, by its link. One to the initial state or to a timed fact, which are numbered behind the effects, orders no two steps.

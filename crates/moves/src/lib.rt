@@ -14,7 +14,7 @@ pub mod others;
 
 use job::layout::Job;
 use job_reader::laid::condition_of;
-use points::ticks::start_of;
+use ticks::start_of;
 use timeline::word::number_of;
 use timeline::word::step_of;
 use timeline::word::tick_of;

@@ -12,7 +12,8 @@ use Rattle.job_reader.specs.Laid.{Laid}
 use Rattle.timeline.specs.Placed.{Placed}
 use Rattle.validity.specs.Ticks.{effectTick}
 use Rattle.points.specs.Points.{Setter, PointsKnown}
-use Rattle.points.specs.Words.{PointRoom, untimed}
+use Rattle.point_words.specs.Own.{untimed}
+use Rattle.points.specs.Words.{PointRoom}
 
 -- the tick of a step's effect
 pub own-tick : (m : Model) (x : ℕ → ℕ) (e : ℕ) → e < m .effects → effectTick (clocked m) x e ≡ effectTick m x e

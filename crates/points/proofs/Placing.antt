@@ -1,21 +1,19 @@
--- Words of a job's points: their parts are within their spans, no two are the same, and once sorted they stand as searches want them.
+-- Words of a job's points: no two are the same, and once sorted they stand as searches want them.
 use Prim.Native.Nat.{ℕ, _+_, _-_, _≤_, _<_}
 use mathlib.Core.Path.{_≡_, refl, sym, ap, subst, _∙_}
 use mathlib.Core.List.{List}
 use native.Mathlib.Decide.{decLt}
 use native.Mathlib.Omega.{arith}
 use lib.ListN.{length, getD}
-use borrow.Author.Tests.{le-ltb}
-use Rattle.job.specs.Clocked.{clocked}
-use Rattle.job.specs.Model.{Model, lastTimed}
-use Rattle.job.specs.WellFormed.{Ranged}
+use Rattle.job.specs.Model.{Model}
 use Rattle.points.specs.Points.{ClockedRange, Setter, Wanting, Using, wantedGroup, usedGroup, groupCount, PointsKnown}
-use Rattle.points.specs.Words.{pointCount, conditionWord, effectWord, useWord, WordsListed}
+use Rattle.point_words.specs.Words.{conditionWord, effectWord, useWord}
+use Rattle.points.specs.Words.{pointCount, WordsListed}
 use Rattle.timeline.proofs.Words.{step-back, value-back, number-back, tick-back, group-back}
 use Rattle.timeline.specs.Placed.{Placed}
 use Rattle.sort.specs.Sorted.{Distinct, Rearranged, Grouped}
 use Rattle.timeline.specs.Words.{wordOf, wordStep, wordValue, wordNumber, wordTick, wordGroup, numberAt, tickAt, groupAt}
-use Rattle.timeline.specs.Words.{stepSpan, valueSpan, numberSpan, tickSpan, groupSpan}
+use Rattle.timeline.specs.Words.{stepSpan, valueSpan, numberSpan, tickSpan}
 use Rattle.validity.specs.Ticks.{effectTick, firstTick, useTick}
 
 -- A word and what it is made of, within the spans.
@@ -155,73 +153,6 @@ module _ {P : ℕ → Type 0} {g : ℕ} {tick value step : ℕ → ℕ} {n group
         rises = ticks-order;
         ordered = numbers-order;
       }
-
--- What the words of a job are made of, but for a start: no offset lies after the last tick of a timed fact.
-pub record Parts (g first last k v s : ℕ) : Type 0 where
-  pub group : g < groupSpan
-  pub rises : first ≤ last
-  pub within : last ≤ lastTimed
-  pub number : k < numberSpan
-  pub value : v < valueSpan
-  pub step : s < stepSpan
-
-module _ {m : Model} (form : Ranged m) where
-  pub condition-parts : (c : ℕ) → c < m .conditions
-      → Parts (wantedGroup m (m .conditionFact c)) (m .conditionFrom c) (m .conditionTo c) c (m .conditionValue c) (m .conditionStep c)
-  condition-parts c h =
-      let step = form .conditionStep c h in
-      record {
-        group = omega (arith, form .conditionFact c h);
-        rises = form .conditionSpan c h;
-        within = omega (arith, form .conditionEnd c h, form .lengthRange (m .conditionStep c) step);
-        number = omega arith;
-        value = omega (arith, form .conditionValue c h);
-        step = omega arith;
-      }
-
-  pub effect-parts : (e : ℕ) → e < m .effects → Parts (m .effectFact e) (m .effectAt e) (m .effectAt e) e (m .effectValue e) (m .effectStep e)
-  effect-parts e h =
-      let step = form .effectStep e h in
-      record {
-        group = omega (arith, form .effectFact e h);
-        rises = omega arith;
-        within = omega (arith, form .effectEnd e h, form .lengthRange (m .effectStep e) step);
-        number = omega arith;
-        value = omega (arith, form .effectValue e h);
-        step = omega arith;
-      }
-
-  pub timed-parts : (j : ℕ) → j < m .timed → Parts (m .timedFact j) (m .timedTick j) (m .timedTick j) (m .effects + j) (m .timedValue j) (m .steps)
-  timed-parts j h =
-      record {
-        group = omega (arith, form .timedFact j h);
-        rises = omega arith;
-        within = form .timedTick j h;
-        number = omega (arith, form .effectCount, form .timedCount);
-        value = omega (arith, form .timedValue j h);
-        step = omega (arith, form .stepCount);
-      }
-
-  pub use-parts : (u : ℕ) → u < m .uses → Parts (usedGroup m (m .useLevel u)) (m .useAt u) (m .useAt u) u 0 (m .useStep u)
-  use-parts u h =
-      let step = form .useStep u h in
-      record {
-        group = omega (arith, form .useLevel u h);
-        rises = omega arith;
-        within = omega (arith, form .useEnd u h, form .lengthRange (m .useStep u) step);
-        number = omega arith;
-        value = omega arith;
-        step = omega arith;
-      }
-
--- The word and the tick of a timed fact, as an effect of the clock.
-pub clock-word :
-    (m : Model) (x : ℕ → ℕ) (j : ℕ)
-    → (wordOf (m .timedFact j) (x (m .steps) + m .timedTick j) (m .effects + j) (m .timedValue j) (m .steps) ≡ effectWord (clocked m) x (m .effects + j))
-    × (x (m .steps) + m .timedTick j ≡ effectTick (clocked m) x (m .effects + j))
-clock-word m x j =
-    let back : m .effects + j - m .effects ≡ j = omega arith in
-    rw (le-ltb (m .effects + j) (m .effects) (omega arith), back) (refl, refl)
 
 -- The words of a job, its timed facts among its effects.
 module _ {m : Model} {x : ℕ → ℕ} {list : List ℕ} (form : ClockedRange m) (known : WordsListed m x list) where

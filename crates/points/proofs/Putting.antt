@@ -10,7 +10,8 @@ use lib.Seq.{getD-set-same, getD-set-other}
 use borrow.Author.Tests.{lt-ltb}
 use Rattle.job.specs.Model.{Model}
 use Rattle.job.specs.Clocked.{clocked}
-use Rattle.points.specs.Words.{effectWord, WordsPut, ConditionsPut, EffectsPut, TimedPut, UsesPut, WordsListed}
+use Rattle.point_words.specs.Words.{effectWord}
+use Rattle.points.specs.Words.{WordsPut, ConditionsPut, EffectsPut, TimedPut, UsesPut, WordsListed}
 use Rattle.timeline.specs.Words.{tickSpan}
 use Rattle.validity.specs.Ticks.{effectTick}
 

@@ -5,26 +5,16 @@ use mathlib.Core.Path.{_≡_}
 use mathlib.Core.List.{List}
 use lib.ListN.{length, getD}
 use Rattle.job.specs.declared.layout.Counts.{Counts}
-use Rattle.job.specs.declared.layout.Job.{Job}
 use Rattle.job.specs.Model.{Model}
 use Rattle.job.specs.Clocked.{clocked}
-use Rattle.points.specs.Points.{wantedGroup, usedGroup, groupCount}
-use Rattle.timeline.specs.Words.{tickSpan, wordOf}
+use Rattle.point_words.specs.Words.{conditionWord, effectWord, useWord}
+use Rattle.points.specs.Points.{groupCount}
+use Rattle.timeline.specs.Words.{tickSpan}
 use Rattle.validity.specs.Ticks.{effectTick, firstTick, useTick}
 
 -- how many points a job has
 abbrev pub pointCount : Model → ℕ
 pointCount m = m .conditions + m .effects + m .uses
-
--- the words of a condition, an effect and a use; a use has no value, so its word has 0
-abbrev pub conditionWord : Model → (ℕ → ℕ) → ℕ → ℕ
-conditionWord m x c = wordOf (wantedGroup m (m .conditionFact c)) (firstTick m x c) c (m .conditionValue c) (m .conditionStep c)
-
-abbrev pub effectWord : Model → (ℕ → ℕ) → ℕ → ℕ
-effectWord m x e = wordOf (m .effectFact e) (effectTick m x e) e (m .effectValue e) (m .effectStep e)
-
-abbrev pub useWord : Model → (ℕ → ℕ) → ℕ → ℕ
-useWord m x u = wordOf (usedGroup m (m .useLevel u)) (useTick m x u) u 0 (m .useStep u)
 
 -- a list with the words of n points from place `from` on, whose ticks are within the span; before that place nothing is changed
 pub record WordsPut (from n : ℕ) (word tick : ℕ → ℕ) (before list : List ℕ) : Type 0 where
@@ -70,22 +60,3 @@ fewGroups = 80
 pub record Small (n : Counts) : Type 0 where
   pub points : n .conditions + n .effects + n .timed + n .uses ≤ fewPoints
   pub groups : n .facts + n .facts + n .levels ≤ fewGroups
-
--- a job without its timed facts
-unfoldable pub untimed : Job → Job
-untimed j =
-    record {
-      edition = j .edition;
-      serial = j .serial;
-      count = record {
-        facts = j .count .facts;
-        levels = j .count .levels;
-        steps = j .count .steps;
-        conditions = j .count .conditions;
-        effects = j .count .effects;
-        uses = j .count .uses;
-        goals = j .count .goals;
-        timed = 0;
-      };
-      at = j .at;
-    }

@@ -1,3 +1,2 @@
-// The points of a job: their ticks, and their words in order.
-pub mod ticks;
+// The points of a job: their words in order.
 pub mod words;

@@ -8,20 +8,17 @@ ghost use Rattle.job.specs.Clocked.{clocked};
 ghost use Rattle.job.specs.Model.{view};
 ghost use Rattle.job.specs.WellFormed.{Ranged};
 ghost use Rattle.points.specs.Points.{PointsKnown};
-ghost use Rattle.points.specs.Words as spec;
-ghost use Rattle.points.specs.Words.{pointCount, conditionWord, effectWord, useWord};
+ghost use Rattle.points.specs.Words.{pointCount};
 ghost use Rattle.points.specs.Words.{ConditionsPut, EffectsPut, TimedPut, UsesPut, WordsListed, PointRoom, Small};
-ghost use Rattle.timeline.specs.Words.{tickSpan};
-ghost use Rattle.validity.specs.Ticks.{scheduleOf, effectTick, firstTick, useTick};
-use crate::ticks::start_of;
+ghost use Rattle.validity.specs.Ticks.{scheduleOf};
 use job::layout::Counts;
 use job::layout::Job;
-use job_reader::laid::condition_of;
-use job_reader::laid::effect_of;
-use job_reader::laid::timed_of;
-use job_reader::laid::use_of;
+use point_words::condition_word;
+use point_words::effect_word;
+use point_words::own::untimed;
+use point_words::timed_word;
+use point_words::use_word;
 use sort::sort_points;
-use timeline::word::word_of;
 
 // How many points and groups a job has at most.
 pub const MOST_POINTS: usize = Job::CONDITIONS as usize
@@ -56,59 +53,6 @@ pub fn is_small(job: Job) -> bool
     ensures { λ r. ⌜ (r ≡ true → Small (job .count)) ⌝ }
 {
     (points_counted(job.count) <= FEW_POINTS) & (groups_counted(job.count) <= FEW_GROUPS)
-}
-
-fn condition_word(s: &[u8], job: Job, starts: &[u32], c: u16) -> u64
-    requires { ⌜ Ranged (view job (now s)) × (c < job .count .conditions) × Laid job (now s) ⌝ }
-    ensures { λ r. ⌜ (r ≡ conditionWord (view job (now (s .entry))) (scheduleOf (now (starts .entry))) c)
-        × (firstTick (view job (now (s .entry))) (scheduleOf (now (starts .entry))) c < tickSpan) ⌝ }
-{
-    let p = condition_of(s, job, c);
-    let group = job.count.facts as usize + p.fact as usize;
-    word_of(group, start_of(starts, p.step) + p.from, c, p.value, p.step)
-}
-
-fn effect_word(s: &[u8], job: Job, starts: &[u32], e: u16) -> u64
-    requires { ⌜ Ranged (view job (now s)) × (e < job .count .effects) × Laid job (now s) ⌝ }
-    ensures { λ r. ⌜ (r ≡ effectWord (view job (now (s .entry))) (scheduleOf (now (starts .entry))) e)
-        × (effectTick (view job (now (s .entry))) (scheduleOf (now (starts .entry))) e < tickSpan) ⌝ }
-{
-    let p = effect_of(s, job, e);
-    word_of(
-        p.fact as usize,
-        start_of(starts, p.step) + p.at,
-        e,
-        p.value,
-        p.step,
-    )
-}
-
-// A timed fact is the clock's effect: its number comes after those of all effects, its step's after those of all steps.
-fn timed_word(s: &[u8], job: Job, starts: &[u32], j: u16) -> u64
-    requires { ⌜ Ranged (view job (now s)) × (j < job .count .timed) × Laid job (now s) ⌝ }
-    ensures { λ r. ⌜ (r ≡ effectWord (clocked (view job (now (s .entry)))) (scheduleOf (now (starts .entry))) (job .count .effects + j))
-        × (effectTick (clocked (view job (now (s .entry)))) (scheduleOf (now (starts .entry))) (job .count .effects + j) < tickSpan) ⌝ }
-{
-    let p = timed_of(s, job, j);
-    let clock = job.count.steps;
-    let tick = start_of(starts, clock) + p.tick;
-    word_of(p.fact as usize, tick, job.count.effects + j, p.value, clock)
-}
-
-fn use_word(s: &[u8], job: Job, starts: &[u32], u: u16) -> u64
-    requires { ⌜ Ranged (view job (now s)) × (u < job .count .uses) × Laid job (now s) ⌝ }
-    ensures { λ r. ⌜ (r ≡ useWord (view job (now (s .entry))) (scheduleOf (now (starts .entry))) u)
-        × (useTick (view job (now (s .entry))) (scheduleOf (now (starts .entry))) u < tickSpan) ⌝ }
-{
-    let p = use_of(s, job, u);
-    let facts = job.count.facts as usize;
-    word_of(
-        facts + facts + p.level as usize,
-        start_of(starts, p.step) + p.at,
-        u,
-        0,
-        p.step,
-    )
 }
 
 // Puts the words of all conditions into the first places of a list.
@@ -200,29 +144,6 @@ pub fn list_points(
         points,
         begins,
     );
-}
-
-// A job without its timed facts.
-fn untimed(job: Job) -> Job
-    ensures { λ r. ⌜ r ≡ spec.untimed job ⌝ }
-{
-    let count = Counts {
-        facts: job.count.facts,
-        levels: job.count.levels,
-        steps: job.count.steps,
-        conditions: job.count.conditions,
-        effects: job.count.effects,
-        uses: job.count.uses,
-        goals: job.count.goals,
-        timed: 0,
-    };
-    let at = job.at;
-    Job {
-        edition: job.edition,
-        serial: job.serial,
-        count,
-        at,
-    }
 }
 
 // The same without timed facts.

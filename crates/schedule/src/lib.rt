@@ -22,7 +22,6 @@ use job::layout::Job;
 use levels::bounds;
 use levels::uses;
 use opposing::neighbours::any_mixed;
-use points::ticks;
 use points::words::FEW_GROUPS;
 use points::words::FEW_POINTS;
 use points::words::MOST_GROUPS;

@@ -14,8 +14,8 @@ ghost use Rattle.steps.specs.Overlap.{overlapLater, overlapped};
 use job::layout::Job;
 use job::records::step_fixed;
 use job::records::step_start;
-use points::ticks::finish;
-use points::ticks::start_of;
+use ticks::finish;
+use ticks::start_of;
 
 fn moved(s: &[u8], job: Job, starts: &[u32], k: u16) -> bool
     ensures { λ r. ⌜ r ≡ spec.moved (clocked (view job (now (s .entry)))) (scheduleOf (now (starts .entry))) k ⌝ }

@@ -19,7 +19,7 @@ use job_reader::reader::fact_at;
 use opposing::scan::is_past;
 use opposing::scan::opposed_from;
 use opposing::scan::opposing_from;
-use points::ticks::last_tick;
+use ticks::last_tick;
 use timeline::walk::Cursor;
 use timeline::walk::advance;
 use timeline::word::STEP_SPAN;

@@ -14,7 +14,7 @@ use job::records::effect_step;
 use job::records::effect_value;
 use opposing::neighbours::any_mixed;
 use opposing::scan::opposed_from;
-use points::ticks::effect_tick;
+use ticks::effect_tick;
 use timeline::walk::Cursor;
 use timeline::walk::advance;
 use timeline::word::begin_at;

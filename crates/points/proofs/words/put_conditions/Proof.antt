@@ -4,7 +4,7 @@ use native.Mathlib.Nat.{zero-add}
 use native.Mathlib.Omega.{arith}
 use borrow.Author.Needs.{needs}
 use Rattle.job.specs.Model.{view}
-use Rattle.points.specs.Words.{conditionWord}
+use Rattle.point_words.specs.Words.{conditionWord}
 use Rattle.validity.specs.Ticks.{scheduleOf, firstTick}
 use Rattle.points.proofs.Putting.{Putting, putting-start, putting-room, putting-more, putting-end}
 use Rattle.points.proofs.words.put_conditions.Statement.{statement}

@@ -4,7 +4,7 @@ use native.Mathlib.Omega.{arith}
 use borrow.Author.Needs.{needs}
 use Rattle.job.specs.Clocked.{clocked}
 use Rattle.job.specs.Model.{view}
-use Rattle.points.specs.Words.{effectWord}
+use Rattle.point_words.specs.Words.{effectWord}
 use Rattle.validity.specs.Ticks.{scheduleOf, effectTick}
 use Rattle.points.proofs.Putting.{Putting, putting-start, putting-room, putting-more, putting-end}
 use Rattle.points.proofs.words.put_timed.Statement.{statement}

@@ -3,7 +3,7 @@ use Prim.Native.Nat.{_-_}
 use native.Mathlib.Omega.{arith}
 use borrow.Author.Needs.{needs}
 use Rattle.job.specs.Model.{view}
-use Rattle.points.specs.Words.{useWord}
+use Rattle.point_words.specs.Words.{useWord}
 use Rattle.validity.specs.Ticks.{scheduleOf, useTick}
 use Rattle.points.proofs.Putting.{Putting, putting-start, putting-room, putting-more, putting-end}
 use Rattle.points.proofs.words.put_uses.Statement.{statement}

@@ -2,9 +2,9 @@
 use mathlib.Core.Path.{_∙_}
 use native.Mathlib.Omega.{arith}
 use borrow.Author.Needs.{needs}
-use Rattle.points.proofs.Placing.{condition-parts}
-use Rattle.points.proofs.words.condition_word.Statement.{statement}
-use Rattle.points.proofs.words.condition_word.Tie as tie
+use Rattle.point_words.proofs.Parts.{condition-parts}
+use Rattle.point_words.proofs.condition_word.Statement.{statement}
+use Rattle.point_words.proofs.condition_word.Tie as tie
 
 pub condition-word-spec : {M : Type 1} → statement M
 condition-word-spec =

@@ -2,9 +2,9 @@
 use mathlib.Core.Path.{_∙_}
 use native.Mathlib.Omega.{arith}
 use borrow.Author.Needs.{needs}
-use Rattle.points.proofs.Placing.{effect-parts}
-use Rattle.points.proofs.words.effect_word.Statement.{statement}
-use Rattle.points.proofs.words.effect_word.Tie as tie
+use Rattle.point_words.proofs.Parts.{effect-parts}
+use Rattle.point_words.proofs.effect_word.Statement.{statement}
+use Rattle.point_words.proofs.effect_word.Tie as tie
 
 pub effect-word-spec : {M : Type 1} → statement M
 effect-word-spec =

@@ -4,8 +4,8 @@ use denote.Ref.{now}
 use lib.ListN.{List·getD-eq-default}
 use borrow.Author.Needs.{needs}
 use native.Mathlib.Omega.{arith}
-use Rattle.points.proofs.ticks.start_of.Statement.{statement}
-use Rattle.points.proofs.ticks.start_of.Tie as tie
+use Rattle.ticks.proofs.start_of.Statement.{statement}
+use Rattle.ticks.proofs.start_of.Tie as tie
 
 pub start-of-spec : {M : Type 1} → statement M
 start-of-spec =

@@ -9,8 +9,8 @@ use Rattle.laws.specs.Listed.{tabulate}
 use Rattle.job.specs.Model.{view}
 use borrow.Author.Needs.{needs}
 use native.Mathlib.Omega.{arith}
-use Rattle.points.proofs.ticks.planned_starts.Statement.{statement}
-use Rattle.points.proofs.ticks.planned_starts.Tie as tie
+use Rattle.ticks.proofs.planned_starts.Statement.{statement}
+use Rattle.ticks.proofs.planned_starts.Tie as tie
 
 pub planned-starts-spec : {M : Type 1} → statement M
 unfolding tabulate

@@ -2,9 +2,9 @@
 use mathlib.Core.Path.{_∙_}
 use native.Mathlib.Omega.{arith}
 use borrow.Author.Needs.{needs}
-use Rattle.points.proofs.Placing.{use-parts}
-use Rattle.points.proofs.words.use_word.Statement.{statement}
-use Rattle.points.proofs.words.use_word.Tie as tie
+use Rattle.point_words.proofs.Parts.{use-parts}
+use Rattle.point_words.proofs.use_word.Statement.{statement}
+use Rattle.point_words.proofs.use_word.Tie as tie
 
 pub use-word-spec : {M : Type 1} → statement M
 use-word-spec =

@@ -4,9 +4,9 @@ use native.Mathlib.Omega.{arith}
 use borrow.Author.Needs.{needs}
 use Rattle.job.specs.Model.{view}
 use Rattle.validity.specs.Ticks.{scheduleOf}
-use Rattle.points.proofs.Placing.{timed-parts, clock-word}
-use Rattle.points.proofs.words.timed_word.Statement.{statement}
-use Rattle.points.proofs.words.timed_word.Tie as tie
+use Rattle.point_words.proofs.Parts.{timed-parts, clock-word}
+use Rattle.point_words.proofs.timed_word.Statement.{statement}
+use Rattle.point_words.proofs.timed_word.Tie as tie
 
 pub timed-word-spec : {M : Type 1} → statement M
 timed-word-spec =

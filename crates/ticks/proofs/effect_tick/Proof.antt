@@ -1,8 +1,8 @@
 -- The start of the point's step, and the point.
 use borrow.Author.Needs.{needs}
 use native.Mathlib.Omega.{arith}
-use Rattle.points.proofs.ticks.effect_tick.Statement.{statement}
-use Rattle.points.proofs.ticks.effect_tick.Tie as tie
+use Rattle.ticks.proofs.effect_tick.Statement.{statement}
+use Rattle.ticks.proofs.effect_tick.Tie as tie
 
 pub effect-tick-spec : {M : Type 1} → statement M
 effect-tick-spec =

@@ -1,0 +1,2 @@
+-- What the words are made of.
+mod Parts
