@@ -11,7 +11,8 @@ use Rattle.point_words.specs.Words.{conditionWord, effectWord, useWord}
 use Rattle.points.specs.Words.{pointCount, WordsListed}
 use Rattle.timeline.proofs.Words.{step-back, value-back, number-back, tick-back, group-back}
 use Rattle.timeline.specs.Placed.{Placed}
-use Rattle.sort.specs.Sorted.{Distinct, Rearranged, Grouped}
+use Rattle.insertion.specs.Arranged.{Distinct, Rearranged}
+use Rattle.sort.specs.Sorted.{Grouped}
 use Rattle.timeline.specs.Words.{wordOf, wordStep, wordValue, wordNumber, wordTick, wordGroup, numberAt, tickAt, groupAt}
 use Rattle.timeline.specs.Words.{stepSpan, valueSpan, numberSpan, tickSpan}
 use Rattle.validity.specs.Ticks.{effectTick, firstTick, useTick}
