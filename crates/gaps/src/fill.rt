@@ -16,7 +16,7 @@ ghost use Rattle.rows.specs.Raised.{single, EntryKnown, Raised};
 ghost use Rattle.gaps.specs.Rules.{Cleared, SupportKnown, RaisedByLinks, ValidPoints, tieGap, tieRow, serialRow, entryFrom, laterGap};
 ghost use Rattle.gaps.specs.Rules.{factAt};
 use job::layout::Job;
-use job::records::step_length;
+use job_fields::step_length;
 use job_reader::laid::condition_of;
 use job_reader::laid::effect_of;
 use order_file::table::ENTRY_BIAS;

@@ -7,16 +7,16 @@ use job::layout::Job;
 use job::records::Goal;
 use job::records::Level;
 use job::records::Step;
-use job::records::fact_initial;
-use job::records::goal_deadline;
-use job::records::goal_fact;
-use job::records::goal_value;
-use job::records::level_initial;
-use job::records::level_least;
-use job::records::level_most;
-use job::records::step_fixed;
-use job::records::step_length;
-use job::records::step_start;
+use job_fields::fact_initial;
+use job_fields::goal_deadline;
+use job_fields::goal_fact;
+use job_fields::goal_value;
+use job_fields::level_initial;
+use job_fields::level_least;
+use job_fields::level_most;
+use job_fields::step_fixed;
+use job_fields::step_length;
+use job_fields::step_start;
 
 pub struct JobReader<'a> {
     pub bytes: &'a [u8],

@@ -9,7 +9,7 @@ ghost use Rattle.points.specs.Points.{PointsKnown};
 ghost use Rattle.timeline.specs.Placed.{placeLimit};
 ghost use Rattle.levels.specs.LevelSums.{sumLimit, inBounds, UsesPlaced, Stretch, Summed, Added, SummedTick};
 use job::layout::Job;
-use job::records::use_amount;
+use job_fields::use_amount;
 use job_reader::reader::level_at;
 use little_endian::SIGN_BIAS;
 use timeline::word::begin_at;

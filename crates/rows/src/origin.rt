@@ -8,7 +8,7 @@ ghost use Rattle.order_file.specs.Table.{gapOfEntry, Gaps, rowWidth};
 ghost use Rattle.rows.specs.Raised.{single, EntryKnown, Raised};
 ghost use Rattle.rows.specs.Points.{offsetOf, pointOrigin, lastOrigin, Notable};
 use job::layout::Job;
-use job::records::condition_to;
+use job_fields::condition_to;
 use order_file::table::ENTRY_BIAS;
 use order_file::table::WIDTH;
 use order_file::table::higher;

@@ -16,7 +16,8 @@ ghost use Rattle.self_check.specs.Against.{opposesOwnStep, stepCheck};
 pub mod clock;
 
 use job::layout::Job;
-use job::records::*;
+use job::records::Effect;
+use job_fields::*;
 use job_reader::laid::effect_of;
 use timeline::index::INDEX_SIZE;
 use timeline::index::KEYS;

@@ -12,8 +12,8 @@ ghost use Rattle.validity.specs.Checks as spec;
 ghost use Rattle.validity.specs.Ticks.{finish as finishOf};
 ghost use Rattle.steps.specs.Overlap.{overlapLater, overlapped};
 use job::layout::Job;
-use job::records::step_fixed;
-use job::records::step_start;
+use job_fields::step_fixed;
+use job_fields::step_start;
 use ticks::finish;
 use ticks::start_of;
 

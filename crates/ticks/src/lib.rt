@@ -10,7 +10,7 @@ ghost use Rattle.validity.specs.Ticks.{scheduleOf, effectTick, lastTick};
 ghost use Rattle.validity.specs.Ticks as spec;
 ghost use Rattle.timeline.specs.Words.{tickSpan};
 use job::layout::Job;
-use job::records::*;
+use job_fields::*;
 
 fn wide(start: u32) -> usize
     ensures { λ r. ⌜ (r ≡ start) × (r < 4294967296) ⌝ }

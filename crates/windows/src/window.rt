@@ -11,10 +11,10 @@ ghost use Rattle.windows.specs.Loops.{fixedStart, FixedStarts, Lowering,
 use crate::starts::Starts;
 use job::layout::Job;
 use job::records::NO_DEADLINE;
-use job::records::effect_at;
-use job::records::effect_step;
-use job::records::step_fixed;
-use job::records::step_start;
+use job_fields::effect_at;
+use job_fields::effect_step;
+use job_fields::step_fixed;
+use job_fields::step_start;
 use job_reader::reader::goal_at;
 use order_file::table::WIDTH;
 
