@@ -22,7 +22,7 @@ use Rattle.job.proofs.records.Use as Use
 use Rattle.job.proofs.records.Use.Laws as Use′
 use Rattle.job.proofs.records.TimedFact as TimedFact
 use Rattle.job.proofs.records.TimedFact.Laws as TimedFact′
-use Rattle.job_reader.specs.Laid.{Laid}
+use Rattle.job.specs.Laid.{Laid}
 use Rattle.job_reader.proofs.Contracts.{Reading}
 
 abbrev pub facts : Reading

@@ -4,7 +4,7 @@ ghost use mathlib.Core.Bool.{true};
 ghost use Prim.Native.Nat.{_+_, _*_, _<_};
 ghost use Rattle.job.specs.Layout.{stepWidth, conditionWidth, effectWidth, useWidth, timedWidth};
 ghost use Rattle.job.specs.Model.{view, conditionOf, effectOf, useOf, timedOf};
-ghost use Rattle.job_reader.specs.Laid.{Laid};
+ghost use Rattle.job.specs.Laid.{Laid};
 ghost use Rattle.little_endian.specs.Bytes.{u32Values};
 use crate::reader::JobReader;
 use job::layout::CONDITION;
@@ -18,6 +18,10 @@ use job::records::Condition;
 use job::records::Effect;
 use job::records::TimedFact;
 use job::records::Use;
+use job_records::condition_within;
+use job_records::effect_within;
+use job_records::timed_within;
+use job_records::use_within;
 
 // Where the last record of a table ends.
 fn steps_end(job: Job) -> usize
@@ -68,59 +72,7 @@ pub fn length_within(s: &[u8], job: Job, k: u16) -> usize
     little_endian::u32_within(s, job.at.steps as usize + WIDTHS[STEP] * k as usize + 4)
 }
 
-fn condition_within(s: &[u8], job: Job, k: u16) -> Condition
-    requires { ⌜ Laid job (now s) × (k < job .count .conditions) ⌝ }
-    ensures { λ r. ⌜ r ≡ conditionOf (view job (now (s .entry))) k ⌝ }
-{
-    let at = job.at.conditions as usize + WIDTHS[CONDITION] * k as usize;
-    Condition {
-        step: little_endian::u16_within(s, at) as u16,
-        fact: little_endian::u16_within(s, at + 2) as u16,
-        from: little_endian::u32_within(s, at + 4),
-        to: little_endian::u32_within(s, at + 8),
-        value: little_endian::u16_within(s, at + 12) as u16,
-    }
-}
-
-fn effect_within(s: &[u8], job: Job, k: u16) -> Effect
-    requires { ⌜ Laid job (now s) × (k < job .count .effects) ⌝ }
-    ensures { λ r. ⌜ r ≡ effectOf (view job (now (s .entry))) k ⌝ }
-{
-    let at = job.at.effects as usize + WIDTHS[EFFECT] * k as usize;
-    Effect {
-        step: little_endian::u16_within(s, at) as u16,
-        fact: little_endian::u16_within(s, at + 2) as u16,
-        at: little_endian::u32_within(s, at + 4),
-        value: little_endian::u16_within(s, at + 8) as u16,
-    }
-}
-
-fn use_within(s: &[u8], job: Job, k: u16) -> Use
-    requires { ⌜ Laid job (now s) × (k < job .count .uses) ⌝ }
-    ensures { λ r. ⌜ r ≡ useOf (view job (now (s .entry))) k ⌝ }
-{
-    let at = job.at.uses as usize + WIDTHS[USE] * k as usize;
-    Use {
-        step: little_endian::u16_within(s, at) as u16,
-        level: little_endian::u16_within(s, at + 2) as u16,
-        at: little_endian::u32_within(s, at + 4),
-        amount: little_endian::biased_within(s, at + 8),
-    }
-}
-
-fn timed_within(s: &[u8], job: Job, k: u16) -> TimedFact
-    requires { ⌜ Laid job (now s) × (k < job .count .timed) ⌝ }
-    ensures { λ r. ⌜ r ≡ timedOf (view job (now (s .entry))) k ⌝ }
-{
-    let at = job.at.timed as usize + WIDTHS[TIMED] * k as usize;
-    TimedFact {
-        fact: little_endian::u16_within(s, at) as u16,
-        tick: little_endian::u32_within(s, at + 2),
-        value: little_endian::u16_within(s, at + 6) as u16,
-    }
-}
-
-// The same through the reader, and of a slice of which it is made.
+// A record through the reader, and of a slice of which it is made.
 pub fn condition<'a>(r: JobReader<'a>, k: u16) -> Condition
     requires { ⌜ Laid (r .job) (now (r .bytes)) × (k < r .job .count .conditions) ⌝ }
     ensures { λ x. ⌜ x ≡ conditionOf (view (r .entry .job) (now (r .entry .bytes))) k ⌝ }

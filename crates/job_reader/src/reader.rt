@@ -8,15 +8,9 @@ use job::records::Goal;
 use job::records::Level;
 use job::records::Step;
 use job_fields::fact_initial;
-use job_fields::goal_deadline;
-use job_fields::goal_fact;
-use job_fields::goal_value;
-use job_fields::level_initial;
-use job_fields::level_least;
-use job_fields::level_most;
-use job_fields::step_fixed;
-use job_fields::step_length;
-use job_fields::step_start;
+use job_records::goal_record;
+use job_records::level_record;
+use job_records::step_record;
 
 pub struct JobReader<'a> {
     pub bytes: &'a [u8],
@@ -36,19 +30,6 @@ pub fn fact_at(s: &[u8], job: Job, k: u16) -> u16
     fact(JobReader { bytes: s, job }, k)
 }
 
-fn level_record(s: &[u8], job: Job, k: u16) -> Level
-    ensures { λ r. ⌜ r ≡ levelOf (view job (now (s .entry))) k ⌝ }
-{
-    let initial = level_initial(s, job, k);
-    let least = level_least(s, job, k);
-    let most = level_most(s, job, k);
-    Level {
-        initial,
-        least,
-        most,
-    }
-}
-
 pub fn level<'a>(r: JobReader<'a>, k: u16) -> Level
     ensures { λ l. ⌜ l ≡ levelOf (view (r .entry .job) (now (r .entry .bytes))) k ⌝ }
 {
@@ -61,19 +42,6 @@ pub fn level_at(s: &[u8], job: Job, k: u16) -> Level
     level(JobReader { bytes: s, job }, k)
 }
 
-fn step_record(s: &[u8], job: Job, k: u16) -> Step
-    ensures { λ r. ⌜ r ≡ stepOf (view job (now (s .entry))) k ⌝ }
-{
-    let start = step_start(s, job, k);
-    let length = step_length(s, job, k);
-    let fixed = step_fixed(s, job, k);
-    Step {
-        start,
-        length,
-        fixed,
-    }
-}
-
 pub fn step<'a>(r: JobReader<'a>, k: u16) -> Step
     ensures { λ x. ⌜ x ≡ stepOf (view (r .entry .job) (now (r .entry .bytes))) k ⌝ }
 {
@@ -84,19 +52,6 @@ pub fn step_at(s: &[u8], job: Job, k: u16) -> Step
     ensures { λ r. ⌜ r ≡ stepOf (view job (now (s .entry))) k ⌝ }
 {
     step(JobReader { bytes: s, job }, k)
-}
-
-fn goal_record(s: &[u8], job: Job, k: u16) -> Goal
-    ensures { λ r. ⌜ r ≡ goalOf (view job (now (s .entry))) k ⌝ }
-{
-    let deadline = goal_deadline(s, job, k);
-    let fact = goal_fact(s, job, k);
-    let value = goal_value(s, job, k);
-    Goal {
-        fact,
-        value,
-        deadline,
-    }
 }
 
 pub fn goal<'a>(r: JobReader<'a>, k: u16) -> Goal

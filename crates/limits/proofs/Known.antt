@@ -12,7 +12,7 @@ use Rattle.job.specs.Model.{Model, view}
 use Rattle.job.specs.WellFormed.{WellFormed, Ranged}
 use Rattle.job.specs.Clocked.{behind, clocked}
 use Rattle.job.proofs.Clocked.{of-timed}
-use Rattle.job_reader.specs.Laid.{Laid}
+use Rattle.job.specs.Laid.{Laid}
 use Rattle.validity.specs.Ticks.{effectTick}
 use Rattle.points.specs.Points.{Setter, PointsKnown}
 use Rattle.points.specs.Words.{PointRoom}

@@ -6,7 +6,7 @@ ghost use Rattle.little_endian.specs.Bytes.{u32Values};
 ghost use Rattle.timeline.specs.Words.{wordStep, wordNumber, wordTick};
 ghost use Rattle.job.specs.Model.{view, lastTimed};
 ghost use Rattle.job.specs.WellFormed.{WellFormed};
-ghost use Rattle.job_reader.specs.Laid.{Laid};
+ghost use Rattle.job.specs.Laid.{Laid};
 ghost use Rattle.validity.specs.Ticks.{scheduleOf};
 ghost use Rattle.moves.specs.Moved.{Up, Down, Moved, Single, Before};
 

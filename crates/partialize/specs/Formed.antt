@@ -3,7 +3,7 @@ use Prim.Native.Nat.{ℕ}
 use mathlib.Core.Path.{_≡_}
 use mathlib.Core.List.{List}
 use Rattle.job.specs.declared.layout.Job.{Job}
-use Rattle.job_reader.specs.Laid.{Laid}
+use Rattle.job.specs.Laid.{Laid}
 use Rattle.job.specs.Model.{view}
 use Rattle.job.specs.WellFormed.{Ranged}
 use Rattle.validity.specs.Ticks.{plannedStarts}

@@ -1,6 +1,6 @@
 // Loosening: an order file from a sound job.
 ghost use Rattle.job.specs.Model.{view};
-ghost use Rattle.job_reader.specs.Laid.{Laid};
+ghost use Rattle.job.specs.Laid.{Laid};
 ghost use Rattle.validity.specs.Ticks.{scheduleOf};
 ghost use Rattle.orders.specs.File.{fileOf};
 ghost use Rattle.schedule.specs.Opened.{Planned};

@@ -5,7 +5,7 @@ ghost use Rattle.timeline.specs.Words.{tickSpan};
 ghost use Rattle.job.specs.Model.{view};
 ghost use Rattle.job.specs.WellFormed.{Ranged};
 ghost use Rattle.job.specs.Clocked.{clocked};
-ghost use Rattle.job_reader.specs.Laid.{Laid};
+ghost use Rattle.job.specs.Laid.{Laid};
 ghost use Rattle.validity.specs.Ticks.{scheduleOf, effectTick, firstTick, useTick};
 ghost use Rattle.point_words.specs.Words.{conditionWord, effectWord, useWord};
 

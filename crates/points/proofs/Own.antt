@@ -8,7 +8,7 @@ use Rattle.job.specs.Model.{Model, view}
 use Rattle.job.specs.WellFormed.{Ranged}
 use Rattle.job.specs.Clocked.{clocked}
 use Rattle.job.proofs.Clocked.{of-effect}
-use Rattle.job_reader.specs.Laid.{Laid}
+use Rattle.job.specs.Laid.{Laid}
 use Rattle.timeline.specs.Placed.{Placed}
 use Rattle.validity.specs.Ticks.{effectTick}
 use Rattle.points.specs.Points.{Setter, PointsKnown}

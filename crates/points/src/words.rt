@@ -3,7 +3,7 @@ ghost use mathlib.Core.Path.{_≡_};
 ghost use mathlib.Core.Bool.{true};
 ghost use Prim.Native.Nat.{_+_, _≤_, _<_};
 ghost use lib.ListN.{length};
-ghost use Rattle.job_reader.specs.Laid.{Laid};
+ghost use Rattle.job.specs.Laid.{Laid};
 ghost use Rattle.job.specs.Clocked.{clocked};
 ghost use Rattle.job.specs.Model.{view};
 ghost use Rattle.job.specs.WellFormed.{Ranged};

@@ -3,7 +3,7 @@ ghost use mathlib.Core.Path.{_≡_};
 ghost use mathlib.Core.List.{List};
 ghost use Prim.Native.Nat.{ℕ, _≤_, _<_};
 ghost use Rattle.laws.specs.Search.{lowest};
-ghost use Rattle.job_reader.specs.Laid.{Laid};
+ghost use Rattle.job.specs.Laid.{Laid};
 ghost use Rattle.job.specs.Model.{view};
 ghost use Rattle.ranges.specs.Ranges.{factOk, levelInRange, levelOk, stepOk, conditionOk, effectOk, useOk, goalOk, timedOk};
 ghost use Rattle.ranges.specs.Ranges.{recordOk, recordBroken, countIn};

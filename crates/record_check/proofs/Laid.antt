@@ -13,7 +13,7 @@ use Rattle.verdict.specs.Verdict.{number, _then_}
 use Rattle.verdict.proofs.Chain.{then-zero, refuse-zero}
 use Rattle.job.specs.declared.layout.Job.{Job}
 use Rattle.job.specs.Layout.{timedEdition, tableAt, positionsOf, jobOf}
-use Rattle.job_reader.specs.Laid.{Laid}
+use Rattle.job.specs.Laid.{Laid}
 use Rattle.job.specs.Model.{modelOf}
 use Rattle.record_check.specs.declared.Form.{Form}
 use Rattle.header_check.specs.Header.{headerCheck, layoutAgrees}

@@ -1,7 +1,7 @@
 // Refusal 6, table by table, through one reader of the caller's bytes.
 ghost use mathlib.Core.Path.{_≡_};
 ghost use Rattle.verdict.specs.Verdict.{_then_};
-ghost use Rattle.job_reader.specs.Laid.{Laid};
+ghost use Rattle.job.specs.Laid.{Laid};
 ghost use Rattle.job.specs.Model.{view};
 ghost use Rattle.record_check.specs.Records.{tableCheck, recordCheck};
 use job::layout::Job;

@@ -5,7 +5,7 @@ use mathlib.Core.List.{List}
 use Rattle.verdict.specs.Verdict.{number, _then_}
 use Rattle.job.specs.declared.layout.Job.{Job}
 use Rattle.job.specs.Layout.{jobOf}
-use Rattle.job_reader.specs.Laid.{Laid}
+use Rattle.job.specs.Laid.{Laid}
 use Rattle.job.specs.Model.{view, modelOf}
 use Rattle.job.specs.WellFormed.{Ranged}
 use Rattle.job.specs.Clocked.{clocked}

@@ -5,7 +5,7 @@ ghost use Prim.Native.Nat.{_<_};
 ghost use lib.Dec.{eqb};
 ghost use Rattle.job.specs.Model.{view};
 ghost use Rattle.job.specs.WellFormed.{Ranged};
-ghost use Rattle.job_reader.specs.Laid.{Laid};
+ghost use Rattle.job.specs.Laid.{Laid};
 ghost use Rattle.self_check.specs.Clock.{timedConflicts, timedCheck};
 use job::layout::Job;
 use job::records::TimedFact;

@@ -6,7 +6,7 @@ ghost use mathlib.Core.Bool.{_&&_, cond};
 ghost use Prim.Native.Nat.{ℕ, min, _≤_, _<_};
 ghost use lib.Dec.{ltb};
 ghost use Rattle.job.specs.Model.{view, effectOf};
-ghost use Rattle.job_reader.specs.Laid.{Laid};
+ghost use Rattle.job.specs.Laid.{Laid};
 ghost use Rattle.job.specs.WellFormed.{Ranged};
 ghost use Rattle.self_check.specs.Keys.{stepKey, effectKey, conditionKey, useKey, SearchBack};
 ghost use Rattle.timeline.specs.Indexed.{keyCount, capacity, Growing};

@@ -4,7 +4,7 @@ use mathlib.Core.List.{List}
 use Prim.Native.Nat.{ℕ}
 use denote.Ref.{now}
 use Rattle.job.specs.declared.layout.Job.{Job}
-use Rattle.job_reader.specs.Laid.{Laid}
+use Rattle.job.specs.Laid.{Laid}
 use Rattle.job.specs.Layout.{jobOf}
 use Rattle.job.specs.Model.{view, modelOf}
 use Rattle.record_check.specs.declared.Form.{Form}

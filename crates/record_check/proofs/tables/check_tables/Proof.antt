@@ -35,7 +35,7 @@ use denote.Triple.Table.{entered, cited}
 use denote.Triple.Walked.{says, Stays, stay-none, walkOf, goes-none, ends-at, walked, walk-meets}
 use denote.Exit.{yes}
 use denote.Triple.Clauses.{ensured, lasts}
-use Rattle.job_reader.specs.Laid.{Laid}
+use Rattle.job.specs.Laid.{Laid}
 use Rattle.job.specs.Model.{view}
 use Rattle.record_check.specs.Records.{recordCheck}
 use Rattle.job_reader.specs.declared.reader.JobReader.{JobReader}

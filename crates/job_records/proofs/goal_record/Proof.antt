@@ -1,7 +1,7 @@
 -- The three fields are the record's.
 use borrow.Author.Needs.{needs}
-use Rattle.job_reader.proofs.reader.goal_record.Statement.{statement}
-use Rattle.job_reader.proofs.reader.goal_record.Tie as tie
+use Rattle.job_records.proofs.goal_record.Statement.{statement}
+use Rattle.job_records.proofs.goal_record.Tie as tie
 
 pub goal-record-spec : {M : Type 1} → statement M
 goal-record-spec =

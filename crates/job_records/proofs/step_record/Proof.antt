@@ -1,7 +1,7 @@
 -- The three fields are the record's.
 use borrow.Author.Needs.{needs}
-use Rattle.job_reader.proofs.reader.step_record.Statement.{statement}
-use Rattle.job_reader.proofs.reader.step_record.Tie as tie
+use Rattle.job_records.proofs.step_record.Statement.{statement}
+use Rattle.job_records.proofs.step_record.Tie as tie
 
 pub step-record-spec : {M : Type 1} → statement M
 step-record-spec =

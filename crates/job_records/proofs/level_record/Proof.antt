@@ -1,7 +1,7 @@
 -- The three numbers are the record's.
 use borrow.Author.Needs.{needs}
-use Rattle.job_reader.proofs.reader.level_record.Statement.{statement}
-use Rattle.job_reader.proofs.reader.level_record.Tie as tie
+use Rattle.job_records.proofs.level_record.Statement.{statement}
+use Rattle.job_records.proofs.level_record.Tie as tie
 
 pub level-record-spec : {M : Type 1} → statement M
 level-record-spec =

@@ -1,7 +1,7 @@
 -- The fields are the record's, which lies within the bytes.
 use borrow.Author.Needs.{needs}
-use Rattle.job_reader.proofs.laid.use_within.Statement.{statement}
-use Rattle.job_reader.proofs.laid.use_within.Tie as tie
+use Rattle.job_records.proofs.use_within.Statement.{statement}
+use Rattle.job_records.proofs.use_within.Tie as tie
 
 pub use-within-spec : {M : Type 1} → statement M
 use-within-spec =

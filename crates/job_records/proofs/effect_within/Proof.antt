@@ -1,7 +1,7 @@
 -- The fields are the record's, which lies within the bytes.
 use borrow.Author.Needs.{needs}
-use Rattle.job_reader.proofs.laid.effect_within.Statement.{statement}
-use Rattle.job_reader.proofs.laid.effect_within.Tie as tie
+use Rattle.job_records.proofs.effect_within.Statement.{statement}
+use Rattle.job_records.proofs.effect_within.Tie as tie
 
 pub effect-within-spec : {M : Type 1} → statement M
 effect-within-spec =

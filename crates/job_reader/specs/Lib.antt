@@ -1,2 +1,0 @@
--- Which records lie within the bytes.
-pub mod Laid
