@@ -1,4 +1,5 @@
 -- The fields are the record's, which lies within the bytes.
+use native.Mathlib.Omega.{arith}
 use borrow.Author.Needs.{needs}
 use Rattle.job_records.proofs.effect_within.Statement.{statement}
 use Rattle.job_records.proofs.effect_within.Tie as tie
@@ -7,7 +8,15 @@ pub effect-within-spec : {M : Type 1} → statement M
 effect-within-spec =
     tie.close
     (tie.spec
-    (λ c. search needs) (λ c. search needs) (λ c. search needs) (λ c. search needs) (λ c. search needs) (λ c. search needs)
-    (λ c. search needs) (λ c. search needs) (λ c. search needs) (λ c. search needs) (λ c. search needs) (λ c. search needs)
-    (λ c. search needs) (λ c. search needs)
+    (λ c. search needs) (λ c. search needs) (λ c. search needs) (λ c. search needs)
+    (λ c κs. let p = c .before .before .pre in omega (arith, p .0 .effects, p .1))
+    (λ c. search needs)
+    (λ c. search needs)
+    (λ c κs. let p = c .before .before .before .pre in omega (arith, p .0 .effects, p .1))
+    (λ c. search needs)
+    (λ c. search needs)
+    (λ c κs. let p = c .before .before .before .before .pre in omega (arith, p .0 .effects, p .1))
+    (λ c. search needs)
+    (λ c κs. let p = c .before .before .before .before .before .pre in omega (arith, p .0 .effects, p .1))
+    (λ c. search needs)
     (λ c. cc))
