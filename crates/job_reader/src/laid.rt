@@ -18,10 +18,10 @@ use job::records::Condition;
 use job::records::Effect;
 use job::records::TimedFact;
 use job::records::Use;
-use job_records::condition_within;
-use job_records::effect_within;
-use job_records::timed_within;
-use job_records::use_within;
+use laid_records::condition_within;
+use laid_records::effect_within;
+use laid_records::timed_within;
+use laid_records::use_within;
 
 // Where the last record of a table ends.
 fn steps_end(job: Job) -> usize

@@ -1,22 +1,10 @@
-// Whole records of plain bytes: levels, steps and goals of any bytes; conditions, effects, uses and timed facts of tables that lie within
-// the bytes, where no field is tested for room.
+// Whole records of any bytes: levels, steps and goals.
 ghost use mathlib.Core.Path.{_≡_};
-ghost use Prim.Native.Nat.{_<_};
-ghost use Rattle.job.specs.Laid.{Laid};
-ghost use Rattle.job.specs.Model.{view, levelOf, stepOf, goalOf, conditionOf, effectOf, useOf, timedOf};
-use job::layout::CONDITION;
-use job::layout::EFFECT;
+ghost use Rattle.job.specs.Model.{view, levelOf, stepOf, goalOf};
 use job::layout::Job;
-use job::layout::TIMED;
-use job::layout::USE;
-use job::layout::WIDTHS;
-use job::records::Condition;
-use job::records::Effect;
 use job::records::Goal;
 use job::records::Level;
 use job::records::Step;
-use job::records::TimedFact;
-use job::records::Use;
 use job_fields::goal_deadline;
 use job_fields::goal_fact;
 use job_fields::goal_value;
@@ -63,57 +51,5 @@ pub fn goal_record(s: &[u8], job: Job, k: u16) -> Goal
         fact,
         value,
         deadline,
-    }
-}
-
-pub fn condition_within(s: &[u8], job: Job, k: u16) -> Condition
-    requires { ⌜ Laid job (now s) × (k < job .count .conditions) ⌝ }
-    ensures { λ r. ⌜ r ≡ conditionOf (view job (now (s .entry))) k ⌝ }
-{
-    let at = job.at.conditions as usize + WIDTHS[CONDITION] * k as usize;
-    Condition {
-        step: little_endian::u16_within(s, at) as u16,
-        fact: little_endian::u16_within(s, at + 2) as u16,
-        from: little_endian::u32_within(s, at + 4),
-        to: little_endian::u32_within(s, at + 8),
-        value: little_endian::u16_within(s, at + 12) as u16,
-    }
-}
-
-pub fn effect_within(s: &[u8], job: Job, k: u16) -> Effect
-    requires { ⌜ Laid job (now s) × (k < job .count .effects) ⌝ }
-    ensures { λ r. ⌜ r ≡ effectOf (view job (now (s .entry))) k ⌝ }
-{
-    let at = job.at.effects as usize + WIDTHS[EFFECT] * k as usize;
-    Effect {
-        step: little_endian::u16_within(s, at) as u16,
-        fact: little_endian::u16_within(s, at + 2) as u16,
-        at: little_endian::u32_within(s, at + 4),
-        value: little_endian::u16_within(s, at + 8) as u16,
-    }
-}
-
-pub fn use_within(s: &[u8], job: Job, k: u16) -> Use
-    requires { ⌜ Laid job (now s) × (k < job .count .uses) ⌝ }
-    ensures { λ r. ⌜ r ≡ useOf (view job (now (s .entry))) k ⌝ }
-{
-    let at = job.at.uses as usize + WIDTHS[USE] * k as usize;
-    Use {
-        step: little_endian::u16_within(s, at) as u16,
-        level: little_endian::u16_within(s, at + 2) as u16,
-        at: little_endian::u32_within(s, at + 4),
-        amount: little_endian::biased_within(s, at + 8),
-    }
-}
-
-pub fn timed_within(s: &[u8], job: Job, k: u16) -> TimedFact
-    requires { ⌜ Laid job (now s) × (k < job .count .timed) ⌝ }
-    ensures { λ r. ⌜ r ≡ timedOf (view job (now (s .entry))) k ⌝ }
-{
-    let at = job.at.timed as usize + WIDTHS[TIMED] * k as usize;
-    TimedFact {
-        fact: little_endian::u16_within(s, at) as u16,
-        tick: little_endian::u32_within(s, at + 2),
-        value: little_endian::u16_within(s, at + 6) as u16,
     }
 }

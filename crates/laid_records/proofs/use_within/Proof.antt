@@ -1,8 +1,8 @@
 -- The fields are the record's, which lies within the bytes.
 use native.Mathlib.Omega.{arith}
 use borrow.Author.Needs.{needs}
-use Rattle.job_records.proofs.use_within.Statement.{statement}
-use Rattle.job_records.proofs.use_within.Tie as tie
+use Rattle.laid_records.proofs.use_within.Statement.{statement}
+use Rattle.laid_records.proofs.use_within.Tie as tie
 
 pub use-within-spec : {M : Type 1} → statement M
 use-within-spec =

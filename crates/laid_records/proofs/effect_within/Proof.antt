@@ -1,8 +1,8 @@
 -- The fields are the record's, which lies within the bytes.
 use native.Mathlib.Omega.{arith}
 use borrow.Author.Needs.{needs}
-use Rattle.job_records.proofs.effect_within.Statement.{statement}
-use Rattle.job_records.proofs.effect_within.Tie as tie
+use Rattle.laid_records.proofs.effect_within.Statement.{statement}
+use Rattle.laid_records.proofs.effect_within.Tie as tie
 
 pub effect-within-spec : {M : Type 1} → statement M
 effect-within-spec =
