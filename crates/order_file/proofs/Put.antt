@@ -19,7 +19,7 @@ use Rattle.order_file.specs.Encode.{headerWith, windowWith, gapBits}
 use Rattle.order_file.specs.Layout.{fileEdition, windowsAt, ordersAt, linksAt}
 use Rattle.order_file.proofs.Stands.{length-parts}
 use Rattle.order_file.specs.Table.{rowWidth, tableSize, entryBias, tableBias, noOrder, gapOfEntry, gapAt, startIn}
-use Rattle.order_file.specs.Held.{entered, windowIn, entryBytes, orderIn, linkIn, NoneFrom}
+use Rattle.order_file.specs.Held.{entered, windowIn, entryBytes, orderIn, linkIn, NoneBeyond, OrdersPut}
 
 -- three parts, each where the one before it ends
 pub put-three :
@@ -126,27 +126,34 @@ pub entered-below : (gaps : List ℕ) (q : ℕ) → getD gaps q 0 ≤ tableBias 
 entered-below gaps q h = ap not (eq-eqb (gapAt gaps q) noOrder (omega arith))
 
 -- indexes that do not pass at the end of a count add nothing
-count-rest : (p : ℕ → Bool) (m n : ℕ) → m ≤ n → ((q : ℕ) → m ≤ q → p q ≡ false) → count m p ≡ count n p
+count-rest : (p : ℕ → Bool) (m n : ℕ) → m ≤ n → ((q : ℕ) → m ≤ q → q < n → p q ≡ false) → count m p ≡ count n p
 unfolding count
 count-rest p m zero h e = let q : m ≡ 0 = omega arith in ap (λ k. count k p) q
 count-rest p m (suc n) h e =
     elim (decLe m n) [
       | yes l ↦
-          let z : count n p + cond (p n) 1 0 ≡ count n p + 0 = ap (λ b. count n p + cond b 1 0) (e n l) in
-          omega (arith, count-rest p m n l e)
+          let z : count n p + cond (p n) 1 0 ≡ count n p + 0 = ap (λ b. count n p + cond b 1 0) (e n l (omega arith)) in
+          omega (arith, count-rest p m n l (λ q a b. e q a (omega arith)))
       | no l ↦ let q : m ≡ suc n = omega arith in ap (λ k. count k p) q
     ]
 
--- all orders of a table without one from step n on are among its first rows
-pub entered-rest :
-    (gaps : List ℕ) (n q : ℕ) → NoneFrom n gaps → rowWidth * n ≤ q → q ≤ tableSize → count q (entered gaps) ≡ count tableSize (entered gaps)
-entered-rest gaps n q z h m = count-rest (entered gaps) q tableSize m (λ j l. ap not (eq-eqb _ _ (z j (omega arith))))
+-- an entry from or to a step that is not counted is no order
+none-entered :
+    (gaps : List ℕ) (n q : ℕ) → NoneBeyond n gaps → (q / rowWidth < n → q % rowWidth < n → ⊥) → entered gaps q ≡ false
+none-entered gaps n q z h =
+    let e : q ≡ rowWidth * (q / rowWidth) + q % rowWidth = omega arith in
+    ap not (eq-eqb _ _ (ap (gapAt gaps) e ∙ z (q / rowWidth) (q % rowWidth) (omega arith) h))
 
--- A loop over the table of gaps has put the orders among the first q entries, and puts the next one at a place.
-pub record OrdersPut (gaps before : List ℕ) (from q at : ℕ) (bytes : List ℕ) : Type 0 where
-  pub entries : q ≤ tableSize
-  pub place : at ≡ from + 8 * count q (entered gaps)
-  pub put : bytes ≡ sets before from (concatenate (count q (entered gaps)) (orderIn gaps))
+-- all orders of a table of n steps are among its first rows
+pub entered-rest :
+    (gaps : List ℕ) (n q : ℕ) → NoneBeyond n gaps → rowWidth * n ≤ q → q ≤ tableSize → count q (entered gaps) ≡ count tableSize (entered gaps)
+entered-rest gaps n q z h m = count-rest (entered gaps) q tableSize m (λ j l _. none-entered gaps n j z (λ a _. omega arith))
+
+-- so are those of row i
+entered-row :
+    (gaps : List ℕ) (n i q : ℕ) → NoneBeyond n gaps → rowWidth * i + n ≤ q → q ≤ rowWidth * (i + 1)
+    → count q (entered gaps) ≡ count (rowWidth * (i + 1)) (entered gaps)
+entered-row gaps n i q z h m = count-rest (entered gaps) q (rowWidth * (i + 1)) m (λ j l u. none-entered gaps n j z (λ _ a. omega arith))
 
 module _ (gaps before : List ℕ) (from : ℕ) where
   pub orders-start : OrdersPut gaps before from 0 from before
@@ -189,8 +196,21 @@ module _ (gaps before : List ℕ) (from : ℕ) where
           put = e ∙ w .put ∙ ap (λ o. sets before from (concatenate o (orderIn gaps))) m;
         }
 
+  -- a row is done where its counted steps are
+  pub orders-row :
+      (n i q at : ℕ) (bytes : List ℕ) → OrdersPut gaps before from q at bytes → NoneBeyond n gaps → i < rowWidth → rowWidth * i + n ≤ q
+      → q ≤ rowWidth * (i + 1)
+      → OrdersPut gaps before from (rowWidth * (i + 1)) at bytes
+  orders-row n i q at bytes w z l h u =
+      let m = entered-row gaps n i q z h u in
+      record {
+        entries = omega arith;
+        place = omega (arith, w .place);
+        put = w .put ∙ ap (λ o. sets before from (concatenate o (orderIn gaps))) m;
+      }
+
   pub orders-end :
-      (n q at : ℕ) (bytes : List ℕ) → OrdersPut gaps before from q at bytes → NoneFrom n gaps → rowWidth * n ≤ q
+      (n q at : ℕ) (bytes : List ℕ) → OrdersPut gaps before from q at bytes → NoneBeyond n gaps → rowWidth * n ≤ q
       → bytes ≡ sets before from (concatenate (count tableSize (entered gaps)) (orderIn gaps))
   orders-end n q at bytes w z h =
       w .put ∙ ap (λ o. sets before from (concatenate o (orderIn gaps))) (entered-rest gaps n q z h (w .entries))

@@ -1,6 +1,7 @@
 // Writing an order file into a caller's bytes: header, windows, orders, links.
 ghost use mathlib.Core.Path.{_≡_};
-ghost use Prim.Native.Nat.{_+_, _*_, _≤_, _<_};
+ghost use Prim.Native.Nat.{ℕ, _+_, _*_, _≤_, _<_};
+ghost use mathlib.Core.List.{List};
 ghost use lib.ListN.{length};
 ghost use lib.Seq.{sets};
 ghost use Rattle.laws.specs.Listed.{concatenate};
@@ -8,9 +9,9 @@ ghost use Rattle.laws.specs.Nth.{count};
 ghost use Rattle.little_endian.specs.Bytes.{u32Values};
 ghost use Rattle.order_file.specs.Contents.{stepLimit};
 ghost use Rattle.order_file.specs.Layout.{windowsAt, windowAt};
-ghost use Rattle.order_file.specs.Table.{tableSize, tableBias};
+ghost use Rattle.order_file.specs.Table.{rowWidth, tableSize, tableBias};
 ghost use Rattle.order_file.specs.Encode.{headerWith, windowWith, encode};
-ghost use Rattle.order_file.specs.Held.{entered, heldIn, windowIn, entryBytes, orderIn, linkIn, over, NoneFrom, Roomy};
+ghost use Rattle.order_file.specs.Held.{entered, heldIn, windowIn, entryBytes, orderIn, linkIn, over, NoneBeyond, OrdersPut, OrdersFit, Roomy};
 use crate::layout;
 use crate::layout::FILE_WIDTHS;
 use crate::layout::LINK;
@@ -37,7 +38,7 @@ pub struct Header {
 
 // How many orders the table of the first steps holds, counted in as many bits as an entry has: the compiler takes several at a time.
 pub fn count_orders(gaps: &[u32], steps: usize) -> usize
-    requires { ⌜ (length (now gaps) ≡ tableSize) × (steps ≤ stepLimit) × NoneFrom steps (now gaps) ⌝ }
+    requires { ⌜ (length (now gaps) ≡ tableSize) × (steps ≤ stepLimit) × NoneBeyond steps (now gaps) ⌝ }
     ensures { λ r. ⌜ (r ≡ count tableSize (entered (now (gaps .entry)))) × (r ≤ tableSize) ⌝ }
 {
     let end = WIDTH * steps;
@@ -109,22 +110,38 @@ fn write_order(at: usize, q: usize, entry: usize, out: &mut [u8])
     put_u32_within(at + 4, (entry + UNBIASED) % U32_VALUES, out);
 }
 
-// Puts every order that the table of the first steps holds, ascending; there is room for all.
-fn write_orders(from: usize, gaps: &[u32], steps: usize, out: &mut [u8])
-    requires { ⌜ (from + 8 * count tableSize (entered (now gaps)) ≤ length (now out)) × (length (now gaps) ≡ tableSize) × (steps ≤ stepLimit)
-        × NoneFrom steps (now gaps) ⌝ }
-    ensures { λ _. ⌜ now (out .exit)
-        ≡ sets (now (out .entry)) from (concatenate (count tableSize (entered (now (gaps .entry)))) (orderIn (now (gaps .entry)))) ⌝ }
+// Puts the orders from step i to the first steps, behind those from the steps before it, and hands back where the next one comes.
+fn write_row(from: usize, gaps: &[u32], i: usize, steps: usize, out: &mut [u8]) -> usize
+    requires { ⌜ ((before : List ℕ) × (start : ℕ) × OrdersFit (now gaps) before start (rowWidth * i) from (now out))
+        × (length (now gaps) ≡ tableSize) × (i < steps) × (steps ≤ stepLimit) × NoneBeyond steps (now gaps) ⌝ }
+    ensures { λ r. ⌜ ((before : List ℕ) (start : ℕ) → OrdersPut (now (gaps .entry)) before start (rowWidth * i) from (now (out .entry))
+        → OrdersPut (now (gaps .entry)) before start (rowWidth * (i + 1)) r (now (out .exit))) ⌝ }
 {
-    let end = WIDTH * steps;
+    let end = WIDTH * i + steps;
     let mut at = from;
-    let mut q = 0;
+    let mut q = WIDTH * i;
     while q < end {
         if TABLE_BIAS < gaps[q] {
             write_order(at, q, gaps[q] as usize, out);
             at += FILE_WIDTHS[ORDER];
         }
         q += 1;
+    }
+    at
+}
+
+// Puts every order that the table of the first steps holds, ascending; there is room for all.
+fn write_orders(from: usize, gaps: &[u32], steps: usize, out: &mut [u8])
+    requires { ⌜ (from + 8 * count tableSize (entered (now gaps)) ≤ length (now out)) × (length (now gaps) ≡ tableSize) × (steps ≤ stepLimit)
+        × NoneBeyond steps (now gaps) ⌝ }
+    ensures { λ _. ⌜ now (out .exit)
+        ≡ sets (now (out .entry)) from (concatenate (count tableSize (entered (now (gaps .entry)))) (orderIn (now (gaps .entry)))) ⌝ }
+{
+    let mut at = from;
+    let mut i = 0;
+    while i < steps {
+        at = write_row(at, gaps, i, steps, out);
+        i += 1;
     }
 }
 

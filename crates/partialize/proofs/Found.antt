@@ -1,5 +1,5 @@
 -- What the code finds holds what is filed, and what it then does with the buffer is what is to be written.
-use Prim.Native.Nat.{ℕ, _+_, _*_, _/_, _%_, _≤_, _<_}
+use Prim.Native.Nat.{ℕ, _+_, _≤_, _<_}
 use mathlib.Core.Path.{_≡_, sym, ap, _∙_}
 use mathlib.Core.List.{List}
 use native.Mathlib.Omega.{arith}
@@ -17,20 +17,14 @@ use Rattle.orders.specs.Gaps.{gapOf}
 use Rattle.orders.specs.Windows.{limitOf, latestOf}
 use Rattle.rounds.specs.Rounds.{rounds, earliest}
 use Rattle.order_file.specs.Contents.{gapBias}
-use Rattle.order_file.specs.Table.{gapAt, gapIn, startIn, rowWidth, tableSize}
+use Rattle.order_file.specs.Table.{gapIn, startIn, tableSize}
 use Rattle.laws.specs.Listed.{Filled}
 use Rattle.gaps.specs.Table.{TableOf}
 use Rattle.orders.specs.File.{fileWith}
-use Rattle.order_file.specs.Held.{entered, heldIn, over, NoneFrom}
+use Rattle.order_file.specs.Held.{entered, heldIn, over}
 use Rattle.partialize.specs.Holds.{Holds, Filing}
 use Rattle.rounds.proofs.Same.{rounds-same, earliest-same}
 use Rattle.partialize.proofs.Filed.{held-file}
-
--- a table of n steps has no order from a later one
-pub none-from : (n : ℕ) (gap : ℕ → ℕ → ℕ) (gaps : List ℕ) → TableOf n gap gaps → NoneFrom n gaps
-none-from n gap gaps t q h =
-    let e : q ≡ rowWidth * (q / rowWidth) + q % rowWidth = omega arith in
-    ap (gapAt gaps) e ∙ t .rest (q / rowWidth) (q % rowWidth) (omega arith) (λ l _. omega arith)
 
 module _
     (number : ℕ → ℕ) (m : Model) (x : ℕ → ℕ) (found : ℕ) (limits latest early gaps linked : List ℕ)

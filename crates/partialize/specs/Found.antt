@@ -16,7 +16,6 @@ use Rattle.order_file.specs.Contents.{linkLimit}
 use Rattle.order_file.specs.Table.{rowWidth, startIn}
 use Rattle.orders.specs.Windows.{limitOf, latestOf}
 use Rattle.windows.specs.Starts.{Bounded}
-use Rattle.partialize.specs.declared.Windows.{Windows}
 
 -- written starts that make a well-formed job with its timed facts valid; the clock starts at 0
 pub record ValidStarts (m : Model) (starts : List ℕ) : Type 0 where
@@ -41,9 +40,11 @@ pub record Linked (m : Model) (starts points begins links : List ℕ) : Type 0 w
   pub timed : Timed m starts links
   pub known : PointsKnown m (scheduleOf starts) points begins
 
--- the limits and the latest starts of the schedule
-pub record WindowsOf (m : Model) (x : ℕ → ℕ) (w : Windows) : Type 0 where
-  pub limits : Bounded (m .steps) mostLimit (w .limits .at)
-  pub limitAt : (k : ℕ) → k < m .steps → startIn (w .limits .at) k ≡ limitOf (clocked m) x k
-  pub size : length (w .latest .at) ≡ rowWidth
-  pub latestAt : (k : ℕ) → k < m .steps → startIn (w .latest .at) k ≡ latestOf (clocked m) x k
+-- the limits of the schedule, and its latest starts
+pub record LimitsFound (m : Model) (x : ℕ → ℕ) (limits : List ℕ) : Type 0 where
+  pub bounded : Bounded (m .steps) mostLimit limits
+  pub each : (k : ℕ) → k < m .steps → startIn limits k ≡ limitOf (clocked m) x k
+
+pub record LatestFound (m : Model) (x : ℕ → ℕ) (latest : List ℕ) : Type 0 where
+  pub size : length latest ≡ rowWidth
+  pub each : (k : ℕ) → k < m .steps → startIn latest k ≡ latestOf (clocked m) x k

@@ -13,7 +13,7 @@ use Rattle.job.specs.Clocked.{clocked}
 use Rattle.order_file.specs.Contents.{Contents, linkLimit}
 use Rattle.order_file.specs.Encode.{encode}
 use Rattle.order_file.specs.Table.{rowWidth, gapIn, startIn, Gaps}
-use Rattle.order_file.specs.Held.{NoneFrom, over}
+use Rattle.order_file.specs.Held.{NoneBeyond, over}
 use Rattle.orders.specs.Links.{conditionLink, goalLink, nthLink}
 use Rattle.orders.specs.Gaps.{gapOf}
 use Rattle.orders.specs.Windows.{limitOf, latestOf}
@@ -21,8 +21,7 @@ use Rattle.orders.specs.File.{roundsOf, earliestOf, linkNumber, fileOf}
 use Rattle.limits.specs.Timed.{mostLimit}
 use Rattle.windows.specs.Starts.{Bounded}
 use Rattle.gaps.specs.Table.{TableOf}
-use Rattle.partialize.specs.declared.Windows.{Windows}
-use Rattle.partialize.specs.Found.{WindowsOf}
+use Rattle.partialize.specs.Found.{LimitsFound, LatestFound}
 use Rattle.partialize.specs.declared.answer.Answer.{Answer}
 use Rattle.partialize.specs.declared.answer.Answer.the-variants.{Filed, BufferTooShort}
 
@@ -39,14 +38,14 @@ pub record Holds (number : ℕ → ℕ) (m : Model) (x : ℕ → ℕ) (rounds : 
   pub goalAt : (g : ℕ) → g < m .goals → getD linked (m .conditions + g) 0 ≡ number (goalLink m x g)
 
 -- what can be filed, by the counts of a job
-pub record Fileable (n : Counts) (w : Windows) (links gaps : List ℕ) : Type 0 where
+pub record Fileable (n : Counts) (limits latest links gaps : List ℕ) : Type 0 where
   pub stepCount : n .steps ≤ mostSteps
   pub linkCount : n .conditions + n .goals ≤ linkLimit
-  pub limits : Bounded (n .steps) mostLimit (w .limits .at)
-  pub latest : length (w .latest .at) ≡ rowWidth
+  pub bounded : Bounded (n .steps) mostLimit limits
+  pub late : length latest ≡ rowWidth
   pub linked : length links ≡ linkLimit
   pub table : Gaps gaps
-  pub rows : NoneFrom (n .steps) gaps
+  pub rows : NoneBeyond (n .steps) gaps
 
 -- the answer and the buffer where contents c are to be filed: the file's length and the file, or 15 and no change
 pub record Filing (c : Contents) (before after : List ℕ) (r : Answer) : Type 0 where
@@ -54,9 +53,9 @@ pub record Filing (c : Contents) (before after : List ℕ) (r : Answer) : Type 0
   pub buffer : after ≡ cond (leb (length (encode c)) (length before)) (over (encode c) before) before
 
 -- what is filed of windows, links and gaps, whatever job and schedule they belong to
-abbrev pub FiledOf : Job → Windows → List ℕ → List ℕ → List ℕ → List ℕ → Answer → Type 0
-FiledOf job w links gaps before after r =
-    (s : List ℕ) (x : ℕ → ℕ) → WindowsOf (view job s) x w
+abbrev pub FiledOf : Job → List ℕ → List ℕ → List ℕ → List ℕ → List ℕ → List ℕ → Answer → Type 0
+FiledOf job limits latest links gaps before after r =
+    (s : List ℕ) (x : ℕ → ℕ) → LimitsFound (view job s) x limits → LatestFound (view job s) x latest
     → ((k : ℕ) → k < job .count .conditions + job .count .goals → getD links k 0 ≡ linkNumber (view job s) (nthLink (clocked (view job s)) x k))
     → TableOf (job .count .steps) (gapOf (clocked (view job s)) x) gaps
     → Filing (fileOf (view job s) x) before after r

@@ -5,9 +5,10 @@ ghost use Rattle.validity.specs.Ticks.{scheduleOf};
 ghost use Rattle.orders.specs.File.{fileOf};
 ghost use Rattle.schedule.specs.Opened.{Planned};
 ghost use Rattle.points.specs.Words.{Small};
-ghost use Rattle.limits.specs.Timed.{TimedPoints, TimedLinks};
+ghost use Rattle.order_file.specs.Contents.{noLatest};
+ghost use Rattle.limits.specs.Timed.{TimedPoints, TimedLinks, AllAre};
 ghost use Rattle.partialize.specs.Formed.{Formed};
-ghost use Rattle.partialize.specs.Found.{ValidSchedule, Timed, Linked, WindowsOf};
+ghost use Rattle.partialize.specs.Found.{ValidSchedule, Timed, Linked, LimitsFound, LatestFound};
 ghost use Rattle.partialize.specs.Holds.{Fileable, Filing, FiledOf};
 ghost use Rattle.partialize.specs.Demands.{Promise};
 
@@ -39,47 +40,61 @@ use points::words::list_points;
 use ticks::planned_starts;
 use verdict::number;
 use windows::starts;
-use windows::starts::Starts;
 use windows::window;
 
-// The limits and the latest starts of the steps.
-pub struct Windows {
-    pub limits: Starts,
-    pub latest: Starts,
-}
-
-// Finds them for a valid schedule: those that timed facts leave, then written starts and deadlines.
-fn find_windows(
+// Finds the limits of a valid schedule, in a list of zeros: those that timed facts leave, then written starts.
+fn find_limits(
     s: &[u8],
     job: Job,
     starts: &[u32],
     points: &[u64],
     begins: &[u16],
     links: &[u16],
-) -> Windows
+    limits: &mut [u32],
+)
     requires { ⌜ TimedPoints (view job (now s)) (now starts) (now points) (now begins) × TimedLinks (view job (now s)) (now starts) (now links)
-        × Laid job (now s) ⌝ }
-    ensures { λ r. ⌜ WindowsOf (view job (now (s .entry))) (scheduleOf (now (starts .entry))) r ⌝ }
+        × Laid job (now s) × AllAre 0 (now limits) ⌝ }
+    ensures { λ _. ⌜ LimitsFound (view job (now (s .entry))) (scheduleOf (now (starts .entry))) (now (limits .exit)) ⌝ }
 {
-    let mut early = [0u32; WIDTH];
-    earliest::clock_limits(s, job, starts, points, begins, links, &mut early);
-    let mut late = [NO_LATEST; WIDTH];
-    latest::clock_latest(s, job, starts, points, begins, &mut late);
-    let limits = window::limits(s, job, &early);
-    let latest = window::latest_starts(s, job, links, &late);
-    Windows { limits, latest }
+    earliest::clock_limits(s, job, starts, points, begins, links, limits);
+    window::limits(s, job, limits);
+}
+
+// Finds its latest starts, in a list of none: those that timed facts leave, then written starts and deadlines.
+fn find_latest(
+    s: &[u8],
+    job: Job,
+    starts: &[u32],
+    points: &[u64],
+    begins: &[u16],
+    links: &[u16],
+    latest: &mut [u32],
+)
+    requires { ⌜ TimedPoints (view job (now s)) (now starts) (now points) (now begins) × TimedLinks (view job (now s)) (now starts) (now links)
+        × Laid job (now s) × AllAre noLatest (now latest) ⌝ }
+    ensures { λ _. ⌜ LatestFound (view job (now (s .entry))) (scheduleOf (now (starts .entry))) (now (latest .exit)) ⌝ }
+{
+    latest::clock_latest(s, job, starts, points, begins, latest);
+    window::latest_starts(s, job, links, latest);
 }
 
 // Files what windows, links and gaps say, if the buffer is long enough for it.
-fn file_found(job: Job, windows: Windows, links: &[u16], gaps: &[u32], out: &mut [u8]) -> Answer
-    requires { ⌜ Fileable (job .count) windows (now links) (now gaps) ⌝ }
-    ensures { λ r. ⌜ FiledOf job windows (now (links .entry)) (now (gaps .entry)) (now (out .entry)) (now (out .exit)) r ⌝ }
+fn file_found(
+    job: Job,
+    limits: &[u32; WIDTH],
+    latest: &[u32; WIDTH],
+    links: &[u16],
+    gaps: &[u32],
+    out: &mut [u8],
+) -> Answer
+    requires { ⌜ Fileable (job .count) (now limits) (now latest) (now links) (now gaps) ⌝ }
+    ensures { λ r. ⌜ FiledOf job (now (limits .entry)) (now (latest .entry)) (now (links .entry)) (now (gaps .entry)) (now (out .entry))
+        (now (out .exit)) r ⌝ }
 {
     let steps = job.count.steps as usize;
     let count = job.count.conditions as usize + job.count.goals as usize;
-    let limits = windows.limits;
-    let latest = windows.latest;
-    let found = starts::earliest_starts(limits, steps, gaps);
+    let mut earliest = [0; WIDTH];
+    let rounds = starts::earliest_starts(limits, steps, gaps, &mut earliest);
     let orders = count_orders(gaps, steps);
     let length = link_at(steps, orders, count);
     if out.len() < length {
@@ -89,13 +104,9 @@ fn file_found(job: Job, windows: Windows, links: &[u16], gaps: &[u32], out: &mut
         steps,
         orders,
         links: count,
-        rounds: found.rounds,
+        rounds,
     };
-    let from = limits.at;
-    let to = latest.at;
-    let early = found.starts;
-    let at = early.at;
-    write_file(header, &from, &to, &at, gaps, links, out);
+    write_file(header, limits, latest, &earliest, gaps, links, out);
     Answer::Filed(length as u32)
 }
 
@@ -114,9 +125,12 @@ fn file_points(
 {
     let mut gaps = [NO_ORDER; ENTRIES];
     fill::fill_gaps(s, job, starts, points, begins, links, &mut gaps);
-    let windows = find_windows(s, job, starts, points, begins, links);
+    let mut limits = [0u32; WIDTH];
+    find_limits(s, job, starts, points, begins, links, &mut limits);
+    let mut latest = [NO_LATEST; WIDTH];
+    find_latest(s, job, starts, points, begins, links, &mut latest);
     number_links(job, links);
-    file_found(job, windows, links, &gaps, out)
+    file_found(job, &limits, &latest, links, &gaps, out)
 }
 
 // The same where there are timed facts: the rules order the points of steps alone.

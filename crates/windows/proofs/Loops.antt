@@ -31,14 +31,11 @@ demand-entry gaps i k t g h =
       | no l ↦ rw (eq-eqb (gapIn gaps i k) 0 (omega arith)) (omega (arith, g .low (rowWidth * i + k) (omega arith)))
     ]
 
--- the higher of a start and a demand, both with the bias of the entries, and without it
-pub unbiased : (a b d e r : ℕ) → a ≡ b → d - entryBias ≡ e → r ≡ max (a + entryBias) d → r - entryBias ≡ max b e
-unbiased a b d e r p q w = omega arith
-
 -- A loop over the rows of the table has raised the starts by the orders from the first i steps.
 module _ (n : ℕ) (gap : ℕ → ℕ → ℕ) (bias : ℕ) (before : List ℕ) where
-  pub rows-start : Filled n (raised 0 gap bias (startIn before)) before before
-  rows-start = record { size = refl; below = λ k h. sym (raised-zero n gap bias (startIn before) k); rest = λ k h. refl }
+  pub rows-start : (at : List ℕ) → at ≡ before → Filled n (raised 0 gap bias (startIn before)) before at
+  rows-start at e =
+      rw e record { size = refl; below = λ k h. sym (raised-zero n gap bias (startIn before) k); rest = λ k h. refl }
 
   module _ (i : ℕ) (at : List ℕ) (w : Filled n (raised i gap bias (startIn before)) before at) where
     pub rows-more :

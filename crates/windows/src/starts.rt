@@ -5,11 +5,11 @@ ghost use lib.Dec.{eqb};
 use order_file::layout::NO_LATEST;
 use order_file::table::ENTRY_BIAS;
 use order_file::table::WIDTH;
-use order_file::table::higher;
 ghost use Rattle.laws.specs.Search.{all};
 ghost use Rattle.rounds.specs.Rounds.{demand, raised, rounds, earliest};
 ghost use Rattle.windows.specs.Loops.{aboveStarts, Given};
 ghost use Rattle.limits.specs.Timed.{mostLimit};
+ghost use Rattle.little_endian.specs.Bytes.{signBias};
 ghost use Rattle.order_file.specs.Contents.{gapBias};
 ghost use Rattle.order_file.specs.Table.{rowWidth, entryBias, gapIn, startIn, Gaps};
 ghost use Rattle.windows.specs.Starts.{Bounded};
@@ -23,12 +23,6 @@ pub struct Starts {
     pub at: [u32; WIDTH],
 }
 
-// The earliest starts, and the rounds that it took to find them.
-pub struct Earliest {
-    pub starts: Starts,
-    pub rounds: usize,
-}
-
 // What the order from i, which starts at t, demands of k, plus the bias of an entry; less than the bias for no order.
 fn demanded(gaps: &[u32], i: usize, k: usize, t: u32) -> u32
     requires { ⌜ Gaps (now gaps) × (i < rowWidth) × (k < rowWidth) × (t < aboveStarts) ⌝ }
@@ -37,12 +31,25 @@ fn demanded(gaps: &[u32], i: usize, k: usize, t: u32) -> u32
     t + gaps[WIDTH * i + k]
 }
 
+// The higher of a start and of a demand that has the bias of an entry, which is taken off with a sign: a demand of no order is below 0.
+fn raised_over(start: u32, demand: u32) -> u32
+    requires { ⌜ (start < signBias) × (demand < signBias) ⌝ }
+    ensures { λ r. ⌜ r ≡ max start (demand - entryBias) ⌝ }
+{
+    let due = demand as i32 - ENTRY_BIAS as i32;
+    if (start as i32) < due {
+        due as u32
+    } else {
+        start
+    }
+}
+
 // A start of k, raised to what that order demands.
 fn raised_to(start: u32, gaps: &[u32], i: usize, k: usize, t: u32) -> u32
     requires { ⌜ Gaps (now gaps) × (i < rowWidth) × (k < rowWidth) × (t < aboveStarts) × (start ≤ aboveStarts + gapBias) ⌝ }
     ensures { λ r. ⌜ r ≡ max start (demand (gapIn (now (gaps .entry))) gapBias i k t) ⌝ }
 {
-    higher(start + ENTRY_BIAS, demanded(gaps, i, k, t)) - ENTRY_BIAS
+    raised_over(start, demanded(gaps, i, k, t))
 }
 
 // Raises the first n starts to what the orders from i, which starts at t, demand.
@@ -100,47 +107,56 @@ fn same_starts(a: &[u32; WIDTH], b: &[u32; WIDTH], n: usize) -> bool
 }
 
 impl Starts {
-    // The starts of the first n steps after a round. A step that starts as it did before the last round, in last, demanded the same
-    // then, so its row is skipped.
-    pub fn round(self, last: &[u32; WIDTH], n: usize, gaps: &[u32]) -> Starts
-        requires { ⌜ Gaps (now gaps) × Bounded n (aboveStarts - 1) (self .at) × (n ≤ rowWidth)
-            × Given n (gapIn (now gaps)) gapBias (startIn (now last)) (startIn (self .at)) ⌝ }
-        ensures { λ r. ⌜ Filled n (raised n (gapIn (now (gaps .entry))) gapBias (startIn (self .at))) (self .at) (r .at) ⌝ }
+    // The starts of the first n steps after a round, from those before it. A step that starts as it did before the last round, in last,
+    // demanded the same then, so its row is skipped.
+    pub fn round(
+        mut self,
+        before: &[u32; WIDTH],
+        last: &[u32; WIDTH],
+        n: usize,
+        gaps: &[u32],
+    ) -> Starts
+        requires { ⌜ Gaps (now gaps) × Bounded n (aboveStarts - 1) (now before) × (n ≤ rowWidth)
+            × Given n (gapIn (now gaps)) gapBias (startIn (now last)) (startIn (now before)) × (self .at ≡ now before) ⌝ }
+        ensures { λ r. ⌜ Filled n (raised n (gapIn (now (gaps .entry))) gapBias (startIn (now (before .entry)))) (now (before .entry)) (r .at) ⌝ }
     {
-        let before = self.at;
-        let mut at = self.at;
         let mut i = 0;
         while i < n {
             if last[i] != before[i] {
-                raise_starts(n, gaps, i, before[i], &mut at);
+                raise_starts(n, gaps, i, before[i], &mut self.at);
             }
             i += 1;
         }
-        Starts { at }
+        self
     }
 }
 
-// The earliest starts of the first n steps at or after their limits, with the rounds up to the first that changes nothing, at most n.
-pub fn earliest_starts(limits: Starts, n: usize, gaps: &[u32]) -> Earliest
-    requires { ⌜ Gaps (now gaps) × Bounded n mostLimit (limits .at) × (n ≤ rowWidth) ⌝ }
-    ensures { λ r. ⌜ r .rounds ≡ rounds n (gapIn (now (gaps .entry))) gapBias (startIn (limits .at)) ⌝ }
-    ensures { λ r. ⌜ Filled n (earliest n (gapIn (now (gaps .entry))) gapBias (startIn (limits .at))) (limits .at) (r .starts .at) ⌝ }
-    ensures { λ r. ⌜ r .rounds ≤ n ⌝ }
+// Puts the earliest starts of the first n steps at or after their limits, and hands back the rounds up to the first that changes nothing,
+// at most n.
+pub fn earliest_starts(
+    limits: &[u32; WIDTH],
+    n: usize,
+    gaps: &[u32],
+    at: &mut [u32; WIDTH],
+) -> usize
+    requires { ⌜ Gaps (now gaps) × Bounded n mostLimit (now limits) × (n ≤ rowWidth) ⌝ }
+    ensures { λ r. ⌜ r ≡ rounds n (gapIn (now (gaps .entry))) gapBias (startIn (now (limits .entry))) ⌝ }
+    ensures { λ _. ⌜ Filled n (earliest n (gapIn (now (gaps .entry))) gapBias (startIn (now (limits .entry)))) (now (limits .entry)) (now (at .exit)) ⌝ }
+    ensures { λ r. ⌜ r ≤ n ⌝ }
 {
-    let mut starts = limits;
+    let mut starts = Starts { at: *limits };
     let mut last = [NO_START; WIDTH];
     let mut rounds = 0;
     while rounds < n {
-        let next = starts.round(&last, n, gaps);
+        let next = starts.round(&starts.at, &last, n, gaps);
         rounds += 1;
         if same_starts(&next.at, &starts.at, n) {
-            return Earliest {
-                starts: next,
-                rounds,
-            };
+            *at = next.at;
+            return rounds;
         }
         last = starts.at;
         starts = next;
     }
-    Earliest { starts, rounds }
+    *at = starts.at;
+    rounds
 }

@@ -8,7 +8,6 @@ ghost use Rattle.order_file.specs.Table.{rowWidth};
 ghost use Rattle.limits.specs.Timed.{mostLimit, ClockLimits};
 ghost use Rattle.windows.specs.Starts.{Bounded, Limits, LatestStarts};
 ghost use Rattle.windows.specs.Loops.{fixedStart, FixedStarts, Lowering, Lowered};
-use crate::starts::Starts;
 use job::layout::Job;
 use job::records::NO_DEADLINE;
 use job_fields::effect_at;
@@ -16,7 +15,6 @@ use job_fields::effect_step;
 use job_fields::step_fixed;
 use job_fields::step_start;
 use job_reader::reader::goal_at;
-use order_file::table::WIDTH;
 
 // The written start of a fixed step, else `none`.
 fn fixed_start(s: &[u8], job: Job, none: u32, k: u16) -> u32
@@ -29,28 +27,26 @@ fn fixed_start(s: &[u8], job: Job, none: u32, k: u16) -> u32
     }
 }
 
-// The written starts of fixed steps, and those of the clock's list for all others.
-fn fixed_starts(s: &[u8], job: Job, clock: &[u32]) -> Starts
-    requires { ⌜ WellFormed (view job (now s)) × (length (now clock) ≡ rowWidth) ⌝ }
-    ensures { λ r. ⌜ FixedStarts (view job (now (s .entry))) (now (clock .entry)) (r .at) ⌝ }
+// Puts the written starts of fixed steps; all others keep the clock's.
+fn fix_starts(s: &[u8], job: Job, at: &mut [u32])
+    requires { ⌜ WellFormed (view job (now s)) × (length (now at) ≡ rowWidth) ⌝ }
+    ensures { λ _. ⌜ FixedStarts (view job (now (s .entry))) (now (at .entry)) (now (at .exit)) ⌝ }
 {
     let n = job.count.steps;
-    let mut at = [0; WIDTH];
     let mut k = 0;
     while k < n {
-        at[k as usize] = fixed_start(s, job, clock[k as usize], k);
+        at[k as usize] = fixed_start(s, job, at[k as usize], k);
         k += 1;
     }
-    Starts { at }
 }
 
-// The earliest limits of the steps, by those that timed facts leave.
-pub fn limits(s: &[u8], job: Job, clock: &[u32]) -> Starts
-    requires { ⌜ WellFormed (view job (now s)) × ((x : ℕ → ℕ) × ClockLimits (view job (now s)) x (now clock)) ⌝ }
-    ensures { λ r. ⌜ Limits (view job (now (s .entry))) (now (clock .entry)) (r .at) ⌝ }
-    ensures { λ r. ⌜ Bounded (job .count .steps) mostLimit (r .at) ⌝ }
+// Turns those that timed facts leave into the earliest limits of the steps.
+pub fn limits(s: &[u8], job: Job, at: &mut [u32])
+    requires { ⌜ WellFormed (view job (now s)) × ((x : ℕ → ℕ) × ClockLimits (view job (now s)) x (now at)) ⌝ }
+    ensures { λ _. ⌜ Limits (view job (now (s .entry))) (now (at .entry)) (now (at .exit)) ⌝ }
+    ensures { λ _. ⌜ Bounded (job .count .steps) mostLimit (now (at .exit)) ⌝ }
 {
-    fixed_starts(s, job, clock)
+    fix_starts(s, job, at);
 }
 
 // A difference, 0 where it would lie below 0.
@@ -68,7 +64,7 @@ fn lower(a: u32, b: u32) -> u32
 
 // Lowers the latest start of the step whose effect supports goal g to what the deadline allows; a fixed step keeps its own. A goal supported
 // by the initial state or by a timed fact limits nobody: their numbers are above those of all effects.
-fn lower_latest(s: &[u8], job: Job, links: &[u16], g: u16, at: &mut [u32; WIDTH])
+fn lower_latest(s: &[u8], job: Job, links: &[u16], g: u16, at: &mut [u32])
     requires { ⌜ Lowering (view job (now s)) (now links) (now at) × (g < job .count .goals) ⌝ }
     ensures { λ _. ⌜ Lowered (view job (now (s .entry))) (now (links .entry)) g (now (at .entry)) (now (at .exit)) ⌝ }
 {
@@ -86,20 +82,18 @@ fn lower_latest(s: &[u8], job: Job, links: &[u16], g: u16, at: &mut [u32; WIDTH]
     }
 }
 
-// The latest starts of the steps, by the links of a schedule and by those that timed facts leave.
-pub fn latest_starts(s: &[u8], job: Job, links: &[u16], clock: &[u32]) -> Starts
+// Turns those that timed facts leave into the latest starts of the steps, by the links of a schedule.
+pub fn latest_starts(s: &[u8], job: Job, links: &[u16], at: &mut [u32])
     requires { ⌜ WellFormed (view job (now s)) × (job .count .conditions + job .count .goals ≤ length (now links))
-        × (length (now clock) ≡ rowWidth) ⌝ }
-    ensures { λ r. ⌜ LatestStarts (view job (now (s .entry))) (now (links .entry)) (now (clock .entry)) (r .at) ⌝ }
-    ensures { λ r. ⌜ length (r .at) ≡ rowWidth ⌝ }
+        × (length (now at) ≡ rowWidth) ⌝ }
+    ensures { λ _. ⌜ LatestStarts (view job (now (s .entry))) (now (links .entry)) (now (at .entry)) (now (at .exit)) ⌝ }
+    ensures { λ _. ⌜ length (now (at .exit)) ≡ rowWidth ⌝ }
 {
     let n = job.count.goals;
-    let own = fixed_starts(s, job, clock);
-    let mut at = own.at;
+    fix_starts(s, job, at);
     let mut g = 0;
     while g < n {
-        lower_latest(s, job, links, g, &mut at);
+        lower_latest(s, job, links, g, at);
         g += 1;
     }
-    Starts { at }
 }

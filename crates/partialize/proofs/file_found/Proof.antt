@@ -13,7 +13,7 @@ use Rattle.orders.specs.Links.{nthLink}
 use Rattle.orders.specs.Gaps.{gapOf}
 use Rattle.orders.specs.File.{linkNumber, fileWith, fileOf}
 use Rattle.gaps.specs.Table.{TableOf}
-use Rattle.partialize.specs.Found.{WindowsOf}
+use Rattle.partialize.specs.Found.{LimitsFound, LatestFound}
 use Rattle.partialize.specs.Holds.{Holds}
 use Rattle.partialize.proofs.Found.{found-holds, found-length, written-short, written-file}
 use borrow.Author.Needs.{needs}
@@ -22,16 +22,16 @@ use Rattle.partialize.proofs.file_found.Tie as tie
 
 module _ (c : tie.After-link-at) where
   abbrev start : tie.Start
-  start = c .before .before .before .before .before .before .before .before .before .before .before
+  start = c .before .before .before .before .before .before .before .before .before .before
 
   abbrev limits : List ℕ
-  limits = start .args .windows .limits .at
+  limits = now (start .args .limits)
 
   abbrev latest : List ℕ
-  latest = start .args .windows .latest .at
+  latest = now (start .args .latest)
 
   abbrev early : List ℕ
-  early = c .before .before .earliest-starts .result .starts .at
+  early = c .before .before .earliest-starts .last .1 .1 .1 .0
 
   abbrev gaps : List ℕ
   gaps = now (start .args .gaps)
@@ -47,12 +47,12 @@ module _ (c : tie.After-link-at) where
     abbrev model : Model
     model = clocked (view (start .args .job) s)
 
-    module _ (w : WindowsOf (view (start .args .job) s) x (start .args .windows))
+    module _ (f : LimitsFound (view (start .args .job) s) x limits) (w : LatestFound (view (start .args .job) s) x latest)
         (l : (k : ℕ) → k < model .conditions + model .goals → getD links k 0 ≡ number (nthLink model x k))
         (t : TableOf (model .steps) (gapOf model x) gaps) where
-      held : Holds number model x (c .before .before .earliest-starts .result .rounds) limits latest early gaps links
+      held : Holds number model x (c .before .before .earliest-starts .result) limits latest early gaps links
       held =
-          found-holds number model x _ limits latest early gaps links l t (w .limitAt) (w .latestAt)
+          found-holds number model x _ limits latest early gaps links l t (f .each) (w .each)
           (c .before .before .earliest-starts .ensures .0) (c .before .before .earliest-starts .ensures .1 .0)
 
       fits : c .link-at .result ≡ length (encode (fileWith number model x))
@@ -67,18 +67,18 @@ file-found-spec =
     tie.close
     (tie.spec
     (λ c. search needs) (λ c. search needs) (λ c. search needs) (λ c. search needs)
-    (λ c κs. search needs)
-    (λ c κs. let p = c .before .before .before .before .before .before .before .before .before .pre in (p .table .size, p .stepCount, p .rows))
+    (λ c κs. let p = c .before .before .before .before .before .before .before .pre in (p .table, p .bounded, p .stepCount))
+    (λ c κs. let p = c .before .before .before .before .before .before .before .before .pre in (p .table .size, p .stepCount, p .rows))
     (λ c κs.
-    let p = c .before .before .before .before .before .before .before .before .before .before .pre in
+    let p = c .before .before .before .before .before .before .before .before .before .pre in
     (omega (arith, p .stepCount), omega (arith, c .count-orders .ensures .1), omega (arith, p .linkCount)))
-    (λ c. λ s x w l t.
+    (λ c. λ s x f w l t.
     let d = c .before in
-    written-short (number d s x) (model d s x) x _ (limits d) (latest d) (early d) (gaps d) (links d) (held d s x w l t) _ _ (fits d s x w l t)
+    written-short (number d s x) (model d s x) x _ (limits d) (latest d) (early d) (gaps d) (links d) (held d s x f w l t) _ _ (fits d s x f w l t)
     (c .if1 .taken))
-    (λ c. search needs) (λ c. search needs) (λ c. search needs)
+    (λ c. search needs)
     (λ c κs.
-    let d = c .before .before .before .before .before .before .before .before .before in
+    let d = c .before .before .before .before .before in
     let p = start d .pre in
     let o = d .before .count-orders .ensures in
     let e = d .before .before .earliest-starts .ensures .1 .0 .size in
@@ -86,17 +86,17 @@ file-found-spec =
       stepCount = p .stepCount;
       linkCount = p .linkCount;
       orderCount = o .0;
-      limitCount = omega (arith, p .limits .size, p .stepCount);
-      latestCount = omega (arith, p .latest, p .stepCount);
-      earliestCount = omega (arith, e, p .limits .size, p .stepCount);
+      limitCount = omega (arith, p .bounded .size, p .stepCount);
+      latestCount = omega (arith, p .late, p .stepCount);
+      earliestCount = omega (arith, e, p .bounded .size, p .stepCount);
       gapCount = p .table .size;
       gapRows = p .rows;
       linkedCount = omega (arith, p .linked, p .linkCount);
-      fileFits = omega (arith, d .link-at .ensures .0, c .before .before .before .before .before .before .before .before .if1 .left);
+      fileFits = omega (arith, d .link-at .ensures .0, c .before .before .before .before .if1 .left);
     })
-    (λ c. omega (arith, c .before .before .before .before .before .before .before .before .before .before .before .before .link-at .ensures .1))
+    (λ c. omega (arith, c .before .before .before .before .before .before .before .before .link-at .ensures .1))
     (λ c. search needs)
-    (λ c. λ s x w l t.
-    let d = c .before .before .before .before .before .before .before .before .before .before .before .before in
-    written-file (number d s x) (model d s x) x _ (limits d) (latest d) (early d) (gaps d) (links d) (held d s x w l t) _ _ _ (fits d s x w l t)
-    (c .before .before .before .before .before .before .before .before .before .before .before .if1 .left) (c .before .before .write-file .ensures)))
+    (λ c. λ s x f w l t.
+    let d = c .before .before .before .before .before .before .before .before in
+    written-file (number d s x) (model d s x) x _ (limits d) (latest d) (early d) (gaps d) (links d) (held d s x f w l t) _ _ _ (fits d s x f w l t)
+    (c .before .before .before .before .before .before .before .if1 .left) (c .before .before .write-file .ensures)))

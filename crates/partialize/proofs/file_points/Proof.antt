@@ -10,14 +10,14 @@ use Rattle.job.specs.Model.{Model, view}
 use Rattle.job.specs.Clocked.{clocked}
 use Rattle.job.proofs.Clocked.{clocked-form}
 use Rattle.validity.specs.Ticks.{scheduleOf}
-use Rattle.order_file.specs.Contents.{linkLimit}
+use Rattle.order_file.specs.Contents.{noLatest}
+use Rattle.limits.proofs.AllAre.{all-are}
 use Rattle.order_file.specs.Table.{tableSize}
 use Rattle.orders.specs.Links.{nthLink}
 use Rattle.orders.specs.File.{linkNumber}
 use Rattle.orders.proofs.Within.{nth-known}
 use Rattle.links.specs.Numbered.{Numbered}
 use Rattle.partialize.specs.Found.{Timed}
-use Rattle.partialize.proofs.Found.{none-from}
 use borrow.Author.Needs.{needs}
 use Rattle.partialize.proofs.file_points.Statement.{statement}
 use Rattle.partialize.proofs.file_points.Tie as tie
@@ -58,17 +58,30 @@ file-points-spec =
       start .pre .1,
       v .written,
     ))
+    (λ c. search needs)
     (λ c κs.
-    let start = c .before .before .before .before .before .before .before .before .before .before .before in
+    let start = c .before .before .before .before .before .before .before .before .before .before .before .before in
     let p = start .pre .0 in
     let v = p .timed .valid in
     let w = v .form in (
       record { form = w; known = p .known; valid = v .valid; clock = v .clock },
       record { linked = p .timed .linked; room = omega (arith, p .timed .size, w .conditionCount, w .goalCount) },
       start .pre .1,
+      all-are 0,
+    ))
+    (λ c. search needs)
+    (λ c κs.
+    let start = c .before .before .before .before .before .before .before .before .before .before .before .before .before .before .before .before in
+    let p = start .pre .0 in
+    let v = p .timed .valid in
+    let w = v .form in (
+      record { form = w; known = p .known; valid = v .valid; clock = v .clock },
+      record { linked = p .timed .linked; room = omega (arith, p .timed .size, w .conditionCount, w .goalCount) },
+      start .pre .1,
+      all-are noLatest,
     ))
     (λ c κs.
-    let start = c .before .before .before .before .before .before .before .before .before .before .before .before .before in
+    let start = c .before .before .before .before .before .before .before .before .before .before .before .before .before .before .before .before .before .before .before in
     let p = start .pre .0 .timed in
     let w = p .valid .form in
     record {
@@ -78,30 +91,31 @@ file-points-spec =
     })
     (λ c. search needs)
     (λ c κs.
-    let numbered = c .before .before .before .before .before in
-    let found = numbered .before .before in
-    let filled = found .before .before .before in
-    let start = filled .before .before .before .before .before .before .before .before .before in
-    let p = start .pre .0 .timed in
+    let numbered = c .before .before .before .before .before .before .before in
+    let late = numbered .before .before .before in
+    let limited = late .before .before .before .before in
+    let filled = limited .before .before .before .before in
+    let p = filled .before .before .before .before .before .before .before .before .before .pre .0 .timed in
     let w = p .valid .form in
     record {
       stepCount = w .stepCount;
       linkCount = omega (arith, w .conditionCount, w .goalCount);
-      limits = found .find-windows .ensures .limits;
-      latest = found .find-windows .ensures .size;
+      bounded = limited .find-limits .ensures .bounded;
+      late = late .find-latest .ensures .size;
       linked = numbered .number-links .ensures [] .size ∙ p .size;
       table = filled .fill-gaps .ensures .whole;
-      rows = none-from _ _ _ (filled .fill-gaps .ensures);
+      rows = filled .fill-gaps .ensures .rest;
     })
     (λ c. search needs)
     (λ c. search needs)
     (λ c.
     let filed = c .before .before in
-    let numbered = filed .before .before .before .before .before .before in
-    let found = numbered .before .before in
-    let filled = found .before .before .before in
+    let numbered = filed .before .before .before .before .before .before .before .before in
+    let late = numbered .before .before .before in
+    let limited = late .before .before .before .before in
+    let filled = limited .before .before .before .before in
     let start = filled .before .before .before .before .before .before .before .before .before in
     let s = now (start .args .s) in
-    filed .file-found .ensures s _ (found .find-windows .ensures)
+    filed .file-found .ensures s _ (limited .find-limits .ensures) (late .find-latest .ensures)
     (file-numbers (view (start .args .job) s) (now (start .args .starts)) _ _ (start .pre .0 .timed) (numbered .number-links .ensures s))
     (filled .fill-gaps .ensures)))

@@ -1,12 +1,11 @@
--- Compared with the bias, and put without it.
-use Prim.Native.Nat.{_+_, _*_, _-_}
-use mathlib.Core.Path.{refl}
+-- Compared without the bias.
+use Prim.Native.Nat.{_+_, _*_, _-_, max}
+use mathlib.Core.Path.{ap, _∙_}
 use native.Mathlib.Omega.{arith}
 use denote.Ref.{now}
 use Rattle.rounds.proofs.Rounds.{demand-most}
 use Rattle.order_file.specs.Contents.{gapBias, mostGap}
 use Rattle.order_file.specs.Table.{rowWidth, gapIn}
-use Rattle.windows.proofs.Loops.{unbiased}
 use Rattle.windows.proofs.starts.raised_to.Statement.{statement}
 use Rattle.windows.proofs.starts.raised_to.Tie as tie
 
@@ -14,7 +13,6 @@ pub raised-to-spec : {M : Type 1} → statement M
 raised-to-spec =
     tie.close
     (tie.spec
-    (λ c. omega (arith, c .before .pre .4))
     (λ c κs. let p = c .before .pre in (p .0, p .1, p .2, p .3))
     (λ c κs.
     let b = c .before .before in
@@ -28,5 +26,4 @@ raised-to-spec =
         b .pre .3,
       ),
     ))
-    (λ c. omega (arith, c .higher .ensures))
-    (λ c. unbiased _ _ _ _ _ refl (c .before .demanded .ensures) (c .higher .ensures)))
+    (λ c. c .raised-over .ensures ∙ ap (max _) (c .before .demanded .ensures)))

@@ -19,28 +19,31 @@ lower-latest-spec =
     (λ c κs. search needs) (λ c κs. search needs) (λ c κs. search needs)
     (λ c.
     let d = c .before .before .before .before .before .before .before .before .before in
-    let p = d .before .before .before .pre in
+    let p = d .before .before .before .before .pre in
     omega (arith, c .since .ensures, deadline-low (p .0 .form) _ (p .1) (ap (λ n. n .deadline) (d .goal-at .ensures))))
     (λ c. search needs) (λ c. search needs)
     (λ c.
-    let t = c .before .before in
+    let t = c .before .before .before in
     let e = t .before .before .before .before in
-    let b = e .before .before .before .before .before .before in
+    let b = e .before .before .before .before .before .before .before in
     let within = ltb-true (e .effect-step .result) (b .args .job .count .steps) (search (and-l, and-r, t .if1 .taken)) in
     omega (arith, within, b .pre .0 .form .stepCount))
     (λ c κs. search needs) (λ c. search needs) (λ c. search needs)
     (λ c.
     let t = c .before .before .before .before in
     let e = t .before .before .before .before in
-    let b = e .before .before .before .before .before .before in
+    let b = e .before .before .before .before .before .before .before in
     let within = ltb-true (e .effect-step .result) (b .args .job .count .steps) (search (and-l, and-r, t .if1 .taken)) in
     omega (arith, within, b .pre .0 .form .stepCount))
+    (λ c.
+    let e = c .before .before .before .before .before .before .before .before in
+    length-set (e .before .before .before .before .before .before .before .args .at .now) (e .effect-step .result) (c .lower .result))
     (λ c.
     let t = c .before .before .before .before in
     let f = t .before in
     let e = f .before .before .before in
     let d = e .before .before .before in
-    let b = d .before .before .before in
+    let b = d .before .before .before .before in
     let p = b .pre in
     let within = ltb-true (e .effect-step .result) (b .args .job .count .steps) (search (and-l, and-r, t .if1 .taken)) in
     record {
@@ -55,7 +58,7 @@ lower-latest-spec =
     let f = c .before in
     let e = f .before .before .before in
     let d = e .before .before .before in
-    let p = d .before .before .before .pre in
+    let p = d .before .before .before .before .pre in
     record {
       size = p .0 .size;
       goal = λ x l w.
