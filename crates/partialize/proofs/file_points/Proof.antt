@@ -81,7 +81,8 @@ file-points-spec =
       all-are noLatest,
     ))
     (λ c κs.
-    let start = c .before .before .before .before .before .before .before .before .before .before .before .before .before .before .before .before .before .before .before in
+    let found = c .before .before .before .before .before .before .before .before .before .before in
+    let start = found .before .before .before .before .before .before .before .before .before in
     let p = start .pre .0 .timed in
     let w = p .valid .form in
     record {

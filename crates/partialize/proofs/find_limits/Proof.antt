@@ -8,8 +8,13 @@ find-limits-spec =
     tie.close
     (tie.spec
     (λ c κs. c .before .before .before .before .before .before .before .pre)
-    (λ c κs. (c .before .before .before .before .before .before .before .before .before .before .before .pre .0 .form, (_, c .before .before .before .clock-limits .ensures)))
-    (λ c. omega (arith, c .before .before .limits2 .ensures .1 .size, c .before .before .before .before .before .before .before .before .before .before .before .before .before .before .pre .3 .size))
+    (λ c κs.
+    let clock = c .before .before .before in
+    (clock .before .before .before .before .before .before .before .before .pre .0 .form, (_, clock .clock-limits .ensures)))
+    (λ c.
+    let clock = c .before .before .before .before .before .before in
+    let p = clock .before .before .before .before .before .before .before .before .pre in
+    omega (arith, c .before .before .limits2 .ensures .1 .size, p .3 .size))
     (λ c.
     let limited = c .before .before .limits2 .ensures in
     record { bounded = limited .1; each = limited .0 _ (c .before .before .before .before .before .before .clock-limits .ensures) }))
