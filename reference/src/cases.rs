@@ -5,12 +5,13 @@
 use crate::bytes::{put_u32, u32_at};
 use crate::loosen::loosen;
 use crate::order_file::{alike, read_header, read_record, Link, Record, LINKS_TABLE, NONE};
+use crate::pairs::search;
 use crate::refusal::{number_and_place, Refusal};
 use crate::timing::{check_job, check_timing};
 use crate::well_formed::well_formed;
 
-/// The commands: well-formedness, job check, timing check, header, record, alike, loosening.
-pub const COMMANDS: &str = "wcthral";
+/// The commands: well-formedness, job check, timing check, header, record, alike, loosening, pairs.
+pub const COMMANDS: &str = "wcthralp";
 
 pub const LONGEST_FIELD: usize = 65_536;
 
@@ -27,7 +28,7 @@ pub struct Case {
 }
 
 impl Case {
-    /// Commands `w` and `c`: a job.
+    /// Commands `w`, `c` and `p`: a job.
     pub fn job(command: char, job: Vec<u8>) -> Case {
         let fields = vec![job];
         Case { command, fields }
@@ -129,7 +130,7 @@ fn next_case(rest: &mut &[u8]) -> Option<Case> {
 
 fn fields_of(command: char) -> Option<usize> {
     match command {
-        'w' | 'c' | 'h' => Some(1),
+        'w' | 'c' | 'h' | 'p' => Some(1),
         'l' | 'a' => Some(2),
         't' | 'r' => Some(3),
         _ => None,
@@ -164,6 +165,7 @@ pub enum Asked<'a> {
     Record(&'a [u8], u32, u32),
     Alike(&'a [u8], &'a [u8]),
     Loosening(&'a [u8], usize),
+    Pairs(&'a [u8]),
 }
 
 impl Case {
@@ -183,6 +185,7 @@ impl Case {
             'r' => Asked::Record(field(0), number_in(field(1))?, number_in(field(2))?),
             'a' => Asked::Alike(field(0), field(1)),
             'l' => Asked::Loosening(field(0), number_up_to(LONGEST_FIELD, field(1))?),
+            'p' => Asked::Pairs(field(0)),
             _ => return None,
         })
     }
@@ -214,6 +217,7 @@ pub fn answer(case: &Case) -> Option<String> {
         Asked::Record(file, table, number) => record_line(file, table, number),
         Asked::Alike(a, b) => alike_line(a, b),
         Asked::Loosening(job, length) => loosening_line(job, length),
+        Asked::Pairs(job) => pairs_line(job),
     })
 }
 
@@ -269,6 +273,11 @@ fn loosening_line(job: &[u8], length: usize) -> String {
         answer.length,
         rest.len()
     )
+}
+
+fn pairs_line(job: &[u8]) -> String {
+    let answer = search(job);
+    format!("p {} {} {}", answer.number, answer.place, answer.compared)
 }
 
 fn with_numbers(mut line: String, numbers: &[i64]) -> String {

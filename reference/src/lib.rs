@@ -1,5 +1,5 @@
-//! The second program: the literal meaning of every rule of document 01 and of request a) of
-//! document 02, one function a rule, with made jobs and the answers expected of them.
+//! The second program: the literal meaning of every rule of document 01 and of requests a) and b)
+//! of document 02, one function a rule, with made jobs and the answers expected of them.
 
 pub mod brute;
 pub mod bytes;
@@ -12,12 +12,14 @@ pub mod made;
 pub mod make;
 pub mod order_file;
 pub mod orders;
+pub mod pairs;
 pub mod random;
 pub mod refusal;
 pub mod samples;
 pub mod setters;
 pub mod show;
 pub mod stored;
+pub mod stored_pairs;
 pub mod stored_timed;
 pub mod timing;
 pub mod tuned;

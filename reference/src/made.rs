@@ -3,6 +3,7 @@
 use crate::cases::Case;
 use crate::job::{Job, LATEST_EDITION};
 use crate::loosen::order_file_of;
+use crate::make::crowded::crowded_job;
 use crate::make::near_miss::{near_miss, nearly_missed};
 use crate::make::order_files::{broken_files, slightly_changed, some_good_file};
 use crate::make::own_conflicts::some_own_conflict;
@@ -36,6 +37,7 @@ pub fn made_case_of(edition: u16, random: &mut Random, command: char) -> Case {
         'r' => record_case(random, edition),
         'a' => alike_case(random, edition),
         'l' => loosening_case(random, edition),
+        'p' => Case::job('p', file_for_the_search(random, edition)),
         _ => panic!("there is no command {command}"),
     }
 }
@@ -63,6 +65,20 @@ fn file_for_the_job_check(random: &mut Random, edition: u16) -> Vec<u8> {
         30..70 => some_near_miss(random, edition).to_file(),
         70..85 => scribbled_job(random, edition).to_file(),
         85..92 => some_own_conflict(random, edition).to_file(),
+        _ => damaged_file(random, edition),
+    }
+}
+
+/// Damage mostly leaves a crowded job in range.
+fn file_for_the_search(random: &mut Random, edition: u16) -> Vec<u8> {
+    match random.below(100) {
+        0..65 => crowded_job(random, edition).to_file(),
+        65..75 => some_own_conflict(random, edition).to_file(),
+        75..80 => scribbled_job(random, edition).to_file(),
+        80..90 => {
+            let file = crowded_job(random, edition).to_file();
+            damage::some_byte(random, edition, &file)
+        }
         _ => damaged_file(random, edition),
     }
 }

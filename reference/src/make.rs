@@ -2,12 +2,14 @@
 
 pub mod bench_jobs;
 pub mod checking_order;
+pub mod crowded;
 pub mod damage;
 pub mod edges;
 pub mod highest;
 pub mod near_miss;
 pub mod order_files;
 pub mod own_conflicts;
+pub mod pairs;
 pub mod ranges;
 pub mod scribbled;
 pub mod sound;

@@ -1,6 +1,7 @@
 //! Refusals: a number and a place.
 
-/// The place where no record is named, and the place of an acceptance.
+/// The place where no record is named, and the place of an acceptance, but that of a search which
+/// found a pair.
 pub const NOWHERE: u16 = 65_535;
 
 #[derive(Clone, Copy, Debug, PartialEq, Eq)]

@@ -18,10 +18,11 @@ use crate::make::{checking_order, damage, ranges};
 use crate::order_file::OrderFile;
 use crate::random::Random;
 use crate::samples::{sample, SAMPLES};
+use crate::stored_pairs;
 use crate::stored_timed;
 
 /// The commands that the replay program serves; the others join here as it learns them.
-pub const SERVED: &str = "whractl";
+pub const SERVED: &str = "whractlp";
 
 pub struct Stored {
     pub cases: Vec<u8>,
@@ -52,6 +53,7 @@ fn cases_of_edition_1(command: char) -> Vec<Case> {
         'r' => record_cases(),
         'a' => alike_cases(),
         'l' => loosening_cases(),
+        'p' => stored_pairs::cases_of_edition_1(),
         _ => panic!("there is no command {command}"),
     }
 }

@@ -17,6 +17,7 @@ use crate::stored::{
     at_written_starts, length_for, list, loosened_into_buffers_around, made_of, order_files,
     timings_at_the_earliest, to_files,
 };
+use crate::stored_pairs;
 
 pub fn cases_of_edition_2(command: char) -> Vec<Case> {
     match command {
@@ -27,6 +28,7 @@ pub fn cases_of_edition_2(command: char) -> Vec<Case> {
         'r' => record_cases(),
         'a' => alike_cases(),
         'l' => loosening_cases(),
+        'p' => stored_pairs::cases_of_edition_2(),
         _ => panic!("there is no command {command}"),
     }
 }

@@ -10,6 +10,14 @@ use crate::refusal::{refuse_at, refuse_if, Refusal};
 
 /// The job in a file, or the first of the refusals 1 to 7 and 17 in checking order.
 pub fn well_formed(file: &[u8]) -> Result<Job, Refusal> {
+    let job = in_range(file)?;
+    refuse_at(7, first_step_against_itself(&job))?;
+    refuse_at(17, first_timed_fact_against_another(&job))?;
+    Ok(job)
+}
+
+/// The job in a file, or the first of the refusals 1 to 6.
+pub fn in_range(file: &[u8]) -> Result<Job, Refusal> {
     refuse_if(1, file.len() < SHORTEST_HEADER)?;
     refuse_if(2, !(1..=LATEST_EDITION).contains(&edition_in(file)))?;
     refuse_if(1, file.len() < header_length(edition_in(file)))?;
@@ -21,8 +29,6 @@ pub fn well_formed(file: &[u8]) -> Result<Job, Refusal> {
     refuse_if(5, layout_disagrees(file))?;
     let job = records_in(file);
     refuse_at(6, first_broken_record(&job))?;
-    refuse_at(7, first_step_against_itself(&job))?;
-    refuse_at(17, first_timed_fact_against_another(&job))?;
     Ok(job)
 }
 

@@ -384,6 +384,7 @@ fn made_cases_leave_no_refusal_out() {
             'c' => (0..=7).chain(10..=14).collect(),
             't' => (0..=14).filter(|&number| number != 1).collect(),
             'l' => (0..=7).chain(10..=15).collect(),
+            'p' => (0..=6).collect(),
             _ => vec![0, 16],
         };
         if edition == 2 && "wctl".contains(command) {

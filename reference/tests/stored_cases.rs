@@ -5,6 +5,7 @@ use std::path::PathBuf;
 
 use reference::cases::{answers, cases_file, Case, COMMANDS};
 use reference::make::order_files::plain_file;
+use reference::make::pairs::in_a_later_step;
 use reference::make::telling::small_job;
 use reference::stored::{stored, stored_cases, SERVED};
 
@@ -55,7 +56,10 @@ fn lines_of_each_command() {
         Case::alike(orders, vec![]),
         Case::loosening(job.clone(), 3),
         Case::loosening(job.clone(), 0),
-        Case::loosening(job, 67),
+        Case::loosening(job.clone(), 67),
+        Case::job('p', job),
+        Case::job('p', in_a_later_step()[0].to_file()),
+        Case::job('p', vec![]),
     ];
     let lines = "\
 w 0 65535
@@ -79,6 +83,9 @@ l 0 65535 58 010002000100010002000000180000003000000038000000\
 00000000ffffffff06000000\
 0000010006000000\
 0000 9
+p 0 65535 0
+p 0 2 4
+p 1 65535 0
 ";
     assert_eq!(answers(&cases_file(&cases)), lines);
 }
