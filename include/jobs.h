@@ -1,5 +1,5 @@
-/* The static library `exports` for C and C++ callers: job files of editions 1 and 2 checked and
- * loosened, order files read and compared.
+/* The static library `exports` for C and C++ callers: job files of editions 1 and 2 checked,
+ * searched and loosened, order files read and compared.
  *
  * No function presumes anything of the bytes it is given. Each slice is a pointer and a length;
  * the pointer must be aligned and not null even where the length is 0. What a function writes
@@ -10,9 +10,10 @@
  *
  *     answer * 2^32 + number * 2^16 + place
  *
- * The number is 0 if the input is accepted, and then the place is JOBS_NOWHERE. Otherwise the
- * input is refused: the number says why, the place is the lowest record concerned (or JOBS_NOWHERE
- * where none is named), the answer is 0, and no lent byte or number has changed.
+ * The number is 0 if the input is accepted, and then the place is JOBS_NOWHERE, or the step that
+ * jobs_pairs found. Otherwise the input is refused: the number says why, the place is the lowest
+ * record concerned (or JOBS_NOWHERE where none is named), the answer is 0, and no lent byte or
+ * number has changed.
  *
  * The numbers in checking order, with what the place names:
  *
@@ -51,7 +52,8 @@ extern "C" {
 /* A thread with this much stack can make any call. */
 #define JOBS_STACK 98304u
 
-/* The place where no record is named, and the place of an acceptance. */
+/* The place where no record is named, and the place of an acceptance, unless jobs_pairs found a
+ * step. */
 #define JOBS_NOWHERE 65535u
 
 /* No order file is longer: a header, 64 windows, 4,032 orders, 544 links. */
@@ -68,7 +70,8 @@ extern "C" {
 #define JOBS_ORDERS 1u
 #define JOBS_LINKS 2u
 
-/* The length from jobs_partialize; 1 if jobs_alike says yes; else 0. */
+/* The length from jobs_partialize; how many pairs jobs_pairs compared; 1 if jobs_alike says yes;
+ * else 0. */
 static inline uint32_t jobs_answer(uint64_t returned)
 {
     return (uint32_t)(returned >> 32);
@@ -80,6 +83,7 @@ static inline uint32_t jobs_number(uint64_t returned)
     return (uint32_t)(returned >> 16) & 65535u;
 }
 
+/* The record that a refusal names, the step that jobs_pairs found, or JOBS_NOWHERE. */
 static inline uint32_t jobs_place(uint64_t returned)
 {
     return (uint32_t)returned & 65535u;
@@ -91,6 +95,13 @@ uint64_t jobs_check(const uint8_t *job, size_t len);
 /* Whether a job is sound with these starts in place of the written ones. Refuses with 1 to 14
  * and 17. */
 uint64_t jobs_check_schedule(const uint8_t *job, size_t len, const uint32_t *starts, size_t count);
+
+/* Searches a job for two effects of one step that set one fact both ways at one tick, and ends with
+ * the first such pair: step by step from 0 up, through all pairs of a step's effects, by the number
+ * of the lower effect, then of the higher. Answers how many pairs were compared, up to and with that
+ * one, or all if there is none; at most 130,816. The place is the step of that pair, or JOBS_NOWHERE
+ * if there is none. Refuses with 1 to 6 only: a pair found is no refusal here. */
+uint64_t jobs_pairs(const uint8_t *job, size_t len);
 
 /* Loosens a job into an order file at the front of `out`, and answers the file's length; bytes past
  * it stay. Refuses with 1 to 7, 17 and 10 to 15. */

@@ -1,7 +1,7 @@
 //! Refusals: a number and a place.
 
-/// The place where no record is named, and the place of an acceptance, but that of a search which
-/// found a pair.
+/// The place where no record is named, and the place of an acceptance, unless the search for pairs
+/// found one.
 pub const NOWHERE: u16 = 65_535;
 
 #[derive(Clone, Copy, Debug, PartialEq, Eq)]

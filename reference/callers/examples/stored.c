@@ -137,6 +137,14 @@ static void check_schedule(void)
     printf("\n");
 }
 
+static void pairs(void)
+{
+    read_fields(1);
+    uint64_t returned = jobs_pairs(fields[0].bytes, fields[0].len);
+    begin('p', returned);
+    printf(" %u\n", jobs_answer(returned));
+}
+
 static void partialize(void)
 {
     read_fields(2);
@@ -185,6 +193,7 @@ static void *run(void *unused)
         case 'w': read_fields(1); break;
         case 'c': check(); break;
         case 't': check_schedule(); break;
+        case 'p': pairs(); break;
         case 'l': partialize(); break;
         case 'h': header(); break;
         case 'r': record(); break;

@@ -12,6 +12,7 @@ mod library {
             starts: *const u32,
             count: usize,
         ) -> u64;
+        pub fn jobs_pairs(job: *const u8, len: usize) -> u64;
         pub fn jobs_partialize(job: *const u8, len: usize, out: *mut u8, out_len: usize) -> u64;
         pub fn jobs_alike(a: *const u8, a_len: usize, b: *const u8, b_len: usize) -> u64;
         pub fn jobs_order_header(file: *const u8, len: usize, list: *mut u32, count: usize) -> u64;
@@ -32,7 +33,7 @@ pub struct Packed(pub u64);
 
 #[derive(Clone, Copy, Debug, PartialEq, Eq)]
 pub enum Answer {
-    /// The length from loosening, 1 for alike, else 0.
+    /// The length from loosening, how many pairs were compared, 1 for alike, else 0.
     Accepted(u32),
     /// The place is none where no record is named.
     Refused { number: u16, place: Option<u16> },
@@ -40,14 +41,19 @@ pub enum Answer {
 
 impl Packed {
     pub fn answer(self) -> Answer {
-        let (number, place) = ((self.0 >> 16) as u16, self.0 as u16);
-        match number {
+        match (self.0 >> 16) as u16 {
             0 => Answer::Accepted((self.0 >> 32) as u32),
-            _ => Answer::Refused {
+            number => Answer::Refused {
                 number,
-                place: (place != u16::MAX).then_some(place),
+                place: self.place(),
             },
         }
+    }
+
+    /// The record that a refusal names; accepted, the step of the pair that `pairs` found.
+    pub fn place(self) -> Option<u16> {
+        let place = self.0 as u16;
+        (place != u16::MAX).then_some(place)
     }
 }
 
@@ -64,6 +70,13 @@ pub fn check_schedule(job: &[u8], starts: &[u32]) -> Packed {
     Packed(unsafe {
         library::jobs_check_schedule(job.as_ptr(), job.len(), starts.as_ptr(), starts.len())
     })
+}
+
+/// Searches each step's effects, from step 0 up, for a pair that sets one fact both ways at one
+/// tick. The answer is how many pairs were compared, up to and with the first found; its step is
+/// the place, which is none where none is found and all were compared.
+pub fn pairs(job: &[u8]) -> Packed {
+    Packed(unsafe { library::jobs_pairs(job.as_ptr(), job.len()) })
 }
 
 /// Loosens a job into an order file at the front of the buffer; the answer is its length.

@@ -1,6 +1,8 @@
-//! Sound jobs for measuring speed: every table grows with the steps, up to its highest count.
+//! Jobs for measuring speed. The sound ones: every table grows with the steps, up to its highest
+//! count.
 
 use crate::job::{Job, HIGHEST};
+use crate::make::pairs::one_step_with;
 use crate::make::sound::{sound_job, Shape};
 use crate::random::Random;
 
@@ -62,6 +64,20 @@ pub fn timed_bench_job(spread: Spread) -> Job {
     let steps = HIGHEST[2];
     let shape = shape(spread, steps).with_most_timed_facts();
     sound_job(&mut Random::seeded(steps as u64), &shape)
+}
+
+/// Jobs to search for a fact set both ways: as large as a job can be; all effects in one step, so
+/// that no job has more pairs; and the same with the first pair both ways.
+pub fn searched_bench_jobs() -> [(&'static str, Job); 3] {
+    let (steps, effects) = (HIGHEST[2], HIGHEST[4]);
+    [
+        ("64 steps, none found", bench_job(Spread::ManyFacts, steps)),
+        ("one step, none found", one_step_with(effects, &[])),
+        (
+            "one step, the first found",
+            one_step_with(effects, &[(0, 1)]),
+        ),
+    ]
 }
 
 fn shape(spread: Spread, steps: usize) -> Shape {

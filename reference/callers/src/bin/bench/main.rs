@@ -9,11 +9,14 @@ use std::panic::{catch_unwind, set_hook, take_hook};
 use std::process::ExitCode;
 
 use callers::Packed;
-use measure::{in_turn, Nanoseconds};
+use measure::{alone, in_turn, Nanoseconds};
 use reference::job::Job;
-use reference::make::bench_jobs::{bench_job, timed_bench_job, Spread, SPREADS, TIMED_SPREADS};
+use reference::make::bench_jobs::{
+    bench_job, searched_bench_jobs, timed_bench_job, Spread, SPREADS, TIMED_SPREADS,
+};
 use reference::make::telling::small_job;
 use reference::order_file::MOST_ORDERS;
+use reference::pairs::search;
 use reference::tuned;
 
 /// Longer than any order file.
@@ -46,6 +49,11 @@ fn print_all() {
     for spread in TIMED_SPREADS {
         let name = format!("timed, {}", spread.name());
         print_row(&name, measure(&timed_bench_job(spread)));
+    }
+    println!("\nthe search for a fact set both ways by itself, and the job check");
+    println!("{:30}{:>10}{:>10}{:>10}", "", "pairs", "search", "check");
+    for (name, job) in searched_bench_jobs() {
+        print_search(name, &job);
     }
     println!("\ncost of 64 steps over cost of 8, all tables in proportion");
     for (spread, [at_8, at_64]) in SPREADS.iter().zip(&grown) {
@@ -108,6 +116,22 @@ fn print_row(name: &str, row: Row) {
         format!("{library:>10.0}{tuned:>10.0}{:>10.2}", library / tuned)
     });
     println!("{name:20}{}{}", columns[0], columns[1]);
+}
+
+/// The library alone: how many pairs it compares, the time of that, the time of the job check.
+fn print_search(name: &str, job: &Job) {
+    let job = job.to_file();
+    let expected = search(&job);
+    let numbers = (expected.number, expected.place, expected.compared);
+    assert_eq!(callers::pairs(&job), packed(numbers));
+    let pairs = alone(|| {
+        black_box(callers::pairs(black_box(&job)));
+    });
+    let check = alone(|| {
+        black_box(callers::check(black_box(&job)));
+    });
+    let compared = expected.compared;
+    println!("{name:30}{compared:>10}{pairs:>10.0}{check:>10.0}");
 }
 
 fn print_growth(name: &str, at_8: &Row, at_64: &Row) {

@@ -1,4 +1,4 @@
-//! Two ways to do one thing, measured in turn, so that a busy machine slows both.
+//! Two ways to do one thing, measured in turn, so that a busy machine slows both; or one alone.
 
 use std::time::Instant;
 
@@ -33,6 +33,15 @@ pub fn in_turn(
         library: median(of_library),
         tuned: median(of_tuned),
     }
+}
+
+/// The median of one call of what has no other way beside it.
+pub fn alone(call: impl Fn()) -> f64 {
+    let call = |_: &mut [u8]| call();
+    let one_call = batch(&mut [], 1, &call);
+    let batches = 0..batches([one_call; 2]);
+    let each = batches.map(|_| batch(&mut [], calls(one_call), &call));
+    median(each.collect())
 }
 
 fn calls(of_one: f64) -> usize {

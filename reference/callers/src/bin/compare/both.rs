@@ -5,7 +5,8 @@ use std::fmt::Debug;
 use callers::Packed;
 use reference::loosen::{loosen, order_file_of};
 use reference::order_file::{alike, read_header, read_record, Record, NONE};
-use reference::refusal::{number_and_place, Refusal};
+use reference::pairs::search;
+use reference::refusal::{number_and_place, Refusal, NOWHERE};
 use reference::timing::{check_job, check_timing};
 
 use crate::tally::{Entry, Tally};
@@ -34,6 +35,18 @@ impl Both {
         let answer = callers::check_schedule(job, starts);
         let inputs = || format!("jobs_check_schedule, job {job:?} starts {starts:?}");
         self.agree(Entry::CheckSchedule, answer, expected, inputs)
+    }
+
+    pub fn pairs(&mut self, job: &[u8]) -> Result<(), String> {
+        let expected = search(job);
+        let verdict = (expected.number, expected.place);
+        let packed = pack(expected.compared, verdict);
+        let inputs = || format!("jobs_pairs, job {job:?}");
+        self.agree(Entry::Pairs, callers::pairs(job), packed, inputs)?;
+        if expected.number == 0 && expected.place != NOWHERE {
+            self.tally.count_found();
+        }
+        Ok(())
     }
 
     /// With a buffer of the file's length and the slack. Gives the order file, if there is one.

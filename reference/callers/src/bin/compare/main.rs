@@ -1,6 +1,7 @@
 //! `compare N SEED`: made jobs, starts, order files and damaged bytes go through the static library
 //! and through the second program, N calls of each. `compare CASES`: a file of cases does. Every
-//! answer and every lent byte must agree, and every refusal must have occurred.
+//! answer and every lent byte must agree, and every refusal must have occurred, as must a pair found
+//! and none found.
 
 mod both;
 mod source;
@@ -56,6 +57,7 @@ fn compare_case(both: &mut Both, case: &Case) -> Result<(), String> {
         Asked::Record(file, table, number) => both.record(file, table, number, 3),
         Asked::Alike(a, b) => both.alike(a, b),
         Asked::Loosening(job, length) => both.partialize_into(job, length),
+        Asked::Pairs(job) => both.pairs(job),
     }
 }
 
@@ -90,6 +92,7 @@ fn share(mut source: Source, calls: u64) -> Result<Tally, String> {
     while both.tally.calls() < calls {
         let job = source.job();
         both.check(&job)?;
+        both.pairs(&job)?;
         both.check_schedule(&job, &source.starts())?;
         let written = both.partialize(&job, source.slack())?;
         let file = source.order_file(written);

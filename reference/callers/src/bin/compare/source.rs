@@ -5,6 +5,7 @@ use reference::bytes::u16_at;
 use reference::job::{Job, LATEST_EDITION};
 use reference::made::some_edition;
 use reference::make::bench_jobs::{bench_job, timed_bench_job, SPREADS, TIMED_SPREADS};
+use reference::make::crowded::crowded_job;
 use reference::make::edges::edges;
 use reference::make::highest::{chain_of_all_steps, every_pair_ordered_both_ways};
 use reference::make::near_miss::{near_miss, nearly_missed};
@@ -13,6 +14,7 @@ use reference::make::order_files::{
     highest_file, some_file, too_many_orders, unlike_files,
 };
 use reference::make::own_conflicts::{own_conflicts, some_own_conflict};
+use reference::make::pairs::{beside_timed_facts, large_pairs, small_pairs};
 use reference::make::scribbled::scribbled_job;
 use reference::make::sound::some_sound_job;
 use reference::make::telling::telling_jobs;
@@ -77,8 +79,14 @@ impl Pool {
 
 fn by_hand(edition: u16) -> Vec<Job> {
     let (telling, more) = match edition {
-        1 => (telling_jobs(), [edges(), own_conflicts()].concat()),
-        _ => (timed_telling_jobs(), timed_edges()),
+        1 => (
+            telling_jobs(),
+            [edges(), own_conflicts(), small_pairs()].concat(),
+        ),
+        _ => (
+            timed_telling_jobs(),
+            [timed_edges(), beside_timed_facts()].concat(),
+        ),
     };
     let telling = telling.into_iter().map(|(_, job)| job);
     telling.chain(more).collect()
@@ -90,6 +98,7 @@ fn large(edition: u16) -> Vec<Job> {
     }
     let mut large = SPREADS.map(|spread| bench_job(spread, 64)).to_vec();
     large.extend([chain_of_all_steps(), every_pair_ordered_both_ways()]);
+    large.extend(large_pairs());
     large
 }
 
@@ -150,6 +159,7 @@ impl Source<'_> {
             1..3_000 => one_of(random, &self.pool.jobs),
             3_000..10_000 => made(random, scribbled_job),
             10_000..12_000 => made(random, some_own_conflict),
+            12_000..14_000 => made(random, crowded_job),
             _ => made(random, some_sound_job),
         };
         self.starts = starts;

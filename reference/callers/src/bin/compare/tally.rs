@@ -8,6 +8,7 @@ const NUMBERS: usize = 18;
 pub enum Entry {
     Check,
     CheckSchedule,
+    Pairs,
     Partialize,
     Header,
     Record,
@@ -15,9 +16,10 @@ pub enum Entry {
 }
 
 /// The name of each entry point, and which numbers it gives: one bit a number.
-const ENTRIES: [(&str, u32); 6] = [
+const ENTRIES: [(&str, u32); 7] = [
     ("jobs_check", 0b10_0111_1100_1111_1111),
     ("jobs_check_schedule", 0b10_0111_1111_1111_1111),
+    ("jobs_pairs", 0b00_0000_0000_0111_1111),
     ("jobs_partialize", 0b10_1111_1100_1111_1111),
     ("jobs_order_header", 0b01_0000_0000_0000_0001),
     ("jobs_order_record", 0b01_0000_0000_0000_0001),
@@ -28,6 +30,8 @@ const ENTRIES: [(&str, u32); 6] = [
 pub struct Tally {
     counts: [[u64; NUMBERS]; ENTRIES.len()],
     alike: u64,
+    /// Searches that found a pair.
+    found: u64,
 }
 
 impl Tally {
@@ -37,6 +41,15 @@ impl Tally {
 
     pub fn count_alike(&mut self) {
         self.alike += 1;
+    }
+
+    pub fn count_found(&mut self) {
+        self.found += 1;
+    }
+
+    /// Searches that were made and found no pair.
+    fn none_found(&self) -> u64 {
+        self.counts[Entry::Pairs as usize][0] - self.found
     }
 
     pub fn calls(&self) -> u64 {
@@ -49,11 +62,18 @@ impl Tally {
             *count += more;
         }
         self.alike += other.alike;
+        self.found += other.found;
         self
     }
 
     pub fn report(&self) -> String {
-        let mut text = format!("{} calls agree, {} files alike\n", self.calls(), self.alike);
+        let mut text = format!(
+            "{} calls agree, {} files alike, {} searches found a pair and {} none\n",
+            self.calls(),
+            self.alike,
+            self.found,
+            self.none_found()
+        );
         for ((name, _), counts) in ENTRIES.iter().zip(&self.counts) {
             write!(text, "{name}").expect("a string takes it");
             let occurred = counts.iter().enumerate().filter(|(_, &count)| count > 0);
@@ -73,6 +93,12 @@ impl Tally {
                 return Some(format!("{name} never gave {number}"));
             }
         }
-        (self.alike == 0).then(|| "no two files were alike".to_string())
+        let never = match (self.alike, self.found, self.none_found()) {
+            (0, _, _) => "no two files were alike",
+            (_, 0, _) => "no search found a pair",
+            (_, _, 0) => "every search found a pair",
+            _ => return None,
+        };
+        Some(never.to_string())
     }
 }
