@@ -98,9 +98,9 @@ uint64_t jobs_check_schedule(const uint8_t *job, size_t len, const uint32_t *sta
 
 /* Searches a job for two effects of one step that set one fact both ways at one tick, and ends with
  * the first such pair: step by step from 0 up, through all pairs of a step's effects, by the number
- * of the lower effect, then of the higher. Answers how many pairs were compared, up to and with that
- * one, or all if there is none; at most 130,816. The place is the step of that pair, or JOBS_NOWHERE
- * if there is none. Refuses with 1 to 6 only: a pair found is no refusal here. */
+ * of the lower effect, then of the higher. Answers how many pairs were compared, up to and with
+ * that one, or all if there is none; at most 130,816. The place is the step of that pair, or
+ * JOBS_NOWHERE if there is none. Refuses with 1 to 6 only: a pair found is no refusal here. */
 uint64_t jobs_pairs(const uint8_t *job, size_t len);
 
 /* Loosens a job into an order file at the front of `out`, and answers the file's length; bytes past

@@ -30,7 +30,7 @@ pub fn cases_of_edition_2() -> Vec<Case> {
     cases_of(2, jobs, 150)
 }
 
-/// These jobs, files for each refusal, a small job cut short or damaged at each byte, and made ones.
+/// These jobs, files for each refusal, a small job cut short and damaged at each byte, made ones.
 fn cases_of(edition: u16, jobs: Vec<Job>, made: usize) -> Vec<Case> {
     let small = for_damage(edition).to_file();
     let files = [

@@ -1,7 +1,7 @@
 //! `compare N SEED`: made jobs, starts, order files and damaged bytes go through the static library
 //! and through the second program, N calls of each. `compare CASES`: a file of cases does. Every
-//! answer and every lent byte must agree, and every refusal must have occurred, as must a pair found
-//! and none found.
+//! answer and every lent byte must agree, and every refusal must have occurred, as must searches
+//! that find a pair and that find none.
 
 mod both;
 mod source;
