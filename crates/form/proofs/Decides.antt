@@ -10,8 +10,8 @@ use Rattle.job.specs.Model.{view, modelOf}
 use Rattle.record_check.specs.declared.Form.{Form}
 use Rattle.header_check.specs.Header.{headerCheck}
 use Rattle.record_check.specs.Records.{recordCheck, RecordsPromise}
-use Rattle.self_check.specs.Against.{stepCheck}
-use Rattle.self_check.specs.Clock.{timedCheck}
+use Rattle.against.specs.Against.{stepCheck}
+use Rattle.against.specs.Clock.{timedCheck}
 use Rattle.form.specs.Refusals.{formCheck}
 
 -- refusals 1 to 6 pass, so refusals 7 and 17 decide; or one of them stands

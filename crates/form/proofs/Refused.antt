@@ -27,12 +27,13 @@ use Rattle.header_check.specs.Header.{editionKnown, marksWrong, layoutAgrees, h
 use Rattle.ranges.specs.Ranges.{countIn, recordBroken}
 use Rattle.record_check.specs.Records.{tableCheck, recordCheck}
 use Rattle.record_check.proofs.Ranged.{table-zero, tables, counts}
-use Rattle.self_check.specs.Against.{bothWays, usesTwice, opposesOwn, setBefore, usedBefore, opposesAny, bothWaysStep, usesTwiceStep, opposesOwnStep}
-use Rattle.self_check.specs.Against.{againstStep, stepCheck}
-use Rattle.self_check.specs.Clock.{timedBothWays, timedConflicts, timedCheck}
+use Rattle.against.specs.Against.{bothWays, usesTwice, opposesOwn, setBefore, usedBefore, opposesAny, bothWaysStep, usesTwiceStep, opposesOwnStep}
+use Rattle.against.specs.Against.{againstStep, stepCheck}
+use Rattle.against.specs.BothWays.{SetsBothWays}
+use Rattle.against.specs.Clock.{timedBothWays, timedConflicts, timedCheck}
 use Rattle.form.specs.Refusals.{formCheck}
 use Rattle.form.proofs.WellFormed.{steps-zero}
-use Rattle.form.specs.Refused.{tableNumber, FirstOutOfRange, SetsBothWays, UsesOneTwice, OpposesItsOwn, AgainstItself, FirstAgainst}
+use Rattle.form.specs.Refused.{tableNumber, FirstOutOfRange, UsesOneTwice, OpposesItsOwn, AgainstItself, FirstAgainst}
 use Rattle.form.specs.Refused.{TimedBothWays, FirstOfTwo, FormNumber, FormRefusal}
 
 -- the nine checks in turn

@@ -18,9 +18,9 @@ use Rattle.job.specs.Model.{Model, modelOf}
 use Rattle.job.specs.WellFormed.{WellFormed, Ranged}
 use Rattle.ranges.specs.Ranges.{recordOk, countIn}
 use Rattle.record_check.proofs.Ranged.{tables, counts, header, ranged, level-in, step-in, effect-in, use-in, goal-in}
-use Rattle.self_check.specs.Against.{bothWays, usesTwice, opposesOwn, setBefore, usedBefore, opposesAny, bothWaysStep, usesTwiceStep, opposesOwnStep}
-use Rattle.self_check.specs.Against.{againstStep, stepCheck}
-use Rattle.self_check.specs.Clock.{timedBothWays, timedConflicts, timedCheck}
+use Rattle.against.specs.Against.{bothWays, usesTwice, opposesOwn, setBefore, usedBefore, opposesAny, bothWaysStep, usesTwiceStep, opposesOwnStep}
+use Rattle.against.specs.Against.{againstStep, stepCheck}
+use Rattle.against.specs.Clock.{timedBothWays, timedConflicts, timedCheck}
 use Rattle.form.specs.Refusals.{formCheck}
 
 -- where three tests of four pass and not all four do, the fourth fails

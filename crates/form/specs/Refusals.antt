@@ -10,8 +10,8 @@ use Rattle.job.specs.WellFormed.{WellFormed}
 use Rattle.record_check.specs.declared.Form.{Form}
 use Rattle.header_check.specs.Header.{headerCheck}
 use Rattle.record_check.specs.Records.{recordCheck}
-use Rattle.self_check.specs.Against.{stepCheck}
-use Rattle.self_check.specs.Clock.{timedCheck}
+use Rattle.against.specs.Against.{stepCheck}
+use Rattle.against.specs.Clock.{timedCheck}
 
 -- refusals 1 to 7, then 17
 unfoldable pub formCheck : List ℕ → Verdict

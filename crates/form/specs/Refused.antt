@@ -14,6 +14,7 @@ use Rattle.job.specs.Layout.{latestEdition, timedEdition, shortestHeader, heade
 use Rattle.job.specs.Model.{Model, modelOf}
 use Rattle.header_check.specs.Header.{layoutAgrees}
 use Rattle.ranges.specs.Ranges.{countIn, recordOk}
+use Rattle.against.specs.BothWays.{SetsBothWays}
 
 -- the tables in their order
 abbrev pub tableNumber : Table → ℕ
@@ -32,14 +33,6 @@ pub record FirstOutOfRange (m : Model) (t : Table) (k : ℕ) : Type 0 where
   pub broken : recordOk m t k ≡ false
   pub lowerOk : (j : ℕ) → j < k → recordOk m t j ≡ true
   pub earlierOk : (earlier : Table) → tableNumber earlier < tableNumber t → (j : ℕ) → j < countIn m earlier → recordOk m earlier j ≡ true
-
--- 7: effects e and f of the step set a fact both ways at one tick
-pub record SetsBothWays (m : Model) (step e f : ℕ) : Type 0 where
-  pub known : (e < m .effects) × (f < m .effects)
-  pub own : (m .effectStep e ≡ step) × (m .effectStep f ≡ step)
-  pub sameFact : m .effectFact e ≡ m .effectFact f
-  pub sameTick : m .effectAt e ≡ m .effectAt f
-  pub otherValue : m .effectValue e ≡ m .effectValue f → ⊥
 
 -- 7: u and v are two uses of the step, of one level at one tick
 pub record UsesOneTwice (m : Model) (step u v : ℕ) : Type 0 where

@@ -26,9 +26,9 @@ use Rattle.job.specs.Clocked.{clocked}
 use Rattle.verdict.specs.Verdict.{_then_, refuseIf, refuseLowest}
 use Rattle.ranges.specs.Ranges.{factOk, levelOk, stepOk, conditionOk, effectOk, useOk, goalOk, timedOk}
 use Rattle.record_check.specs.Records.{tableCheck, recordCheck}
-use Rattle.self_check.specs.Against.{bothWays, usesTwice, opposesOwn, setBefore, usedBefore, opposesAny, bothWaysStep, usesTwiceStep, opposesOwnStep}
-use Rattle.self_check.specs.Against.{againstStep, stepCheck}
-use Rattle.self_check.specs.Clock.{timedBothWays, timedConflicts, timedCheck}
+use Rattle.against.specs.Against.{bothWays, usesTwice, opposesOwn, setBefore, usedBefore, opposesAny, bothWaysStep, usesTwiceStep, opposesOwnStep}
+use Rattle.against.specs.Against.{againstStep, stepCheck}
+use Rattle.against.specs.Clock.{timedBothWays, timedConflicts, timedCheck}
 use Rattle.form.specs.Refusals.{formCheck}
 use Rattle.validity.specs.Ticks.{planned}
 use Rattle.validity.specs.Seen.{givenAt, lastGiven, seen, afterAll}

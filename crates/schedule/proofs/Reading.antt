@@ -14,9 +14,9 @@ use Rattle.job.specs.WellFormed.{WellFormed, Ranged}
 use Rattle.job.specs.Clocked.{clocked}
 use Rattle.record_check.proofs.Ranged.{ranged}
 use Rattle.record_check.proofs.Laid.{passed-laid}
-use Rattle.self_check.specs.Against.{stepCheck}
-use Rattle.self_check.specs.Clock.{timedCheck}
-use Rattle.self_check.proofs.Unopposed.{steps-pass, clock-passes}
+use Rattle.against.specs.Against.{stepCheck}
+use Rattle.against.specs.Clock.{timedCheck}
+use Rattle.against.proofs.Unopposed.{steps-pass, clock-passes}
 use Rattle.form.specs.Refusals.{formCheck}
 use Rattle.form.proofs.WellFormed.{well-formed}
 use Rattle.form.proofs.Decides.{records-passed}

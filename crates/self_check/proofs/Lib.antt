@@ -1,3 +1,2 @@
--- The tests of refusal 7, and when it and refusal 17 pass.
+-- The tests of refusal 7.
 pub mod Steps
-pub mod Unopposed

@@ -6,16 +6,12 @@ use lib.Dec.{ltb, leb, eqb}
 use borrow.Author.Tests.{eqb-true, eq-eqb, ne-eqb}
 use Rattle.laws.proofs.Search.{and-both}
 use Rattle.job.specs.Model.{Model}
-use Rattle.self_check.specs.Against.{bothWays, usesTwice, opposesOwn}
+use Rattle.against.specs.Against.{usesTwice, opposesOwn}
 use Rattle.self_check.specs.Keys.{stepKey, effectKey, conditionKey, useKey}
 
 -- only records of one step and fact or level pass, so they share a key
 shared-key : (a b x y : ℕ) → (eqb a b && eqb x y) ≡ true → stepKey b y ≡ stepKey a x
 shared-key a b x y t = let e = and-both _ _ t in ap₂ stepKey (sym (eqb-true _ _ (e .0))) (sym (eqb-true _ _ (e .1)))
-
-pub own-both-ways : (m : Model) (e k : ℕ) → bothWays m e k ≡ true → effectKey m k ≡ effectKey m e
-unfolding bothWays
-own-both-ways m e k t = shared-key _ _ _ _ (and-both _ _ (and-both _ _ t .0) .0)
 
 pub own-uses-twice : (m : Model) (u k : ℕ) → usesTwice m u k ≡ true → useKey m k ≡ useKey m u
 unfolding usesTwice
@@ -27,18 +23,6 @@ own-opposes m e k t = shared-key _ _ _ _ (and-both _ _ (and-both _ _ (and-both _
 
 -- A field that was tested before the others fails them all, or leaves the answer to them; x and y are the code's readings.
 module _ (m : Model) (k j : ℕ) {x y : ℕ} where
-  pub both-ways-not : x ≡ m .effectAt k → y ≡ m .effectAt j → (x ≡ y → ⊥) → false ≡ bothWays m k j
-  unfolding bothWays
-  both-ways-not p q n = simp (ne-eqb (m .effectAt k) (m .effectAt j) (λ e. n (p ∙ e ∙ sym q)), and-false)
-
-  pub both-ways-rest :
-      x ≡ m .effectAt k → y ≡ m .effectAt j → x ≡ y
-      → (eqb (m .effectStep k) (m .effectStep j) && eqb (m .effectFact k) (m .effectFact j)
-      && not (eqb (m .effectValue k) (m .effectValue j)))
-      ≡ bothWays m k j
-  unfolding bothWays
-  both-ways-rest p q e = simp (eq-eqb (m .effectAt k) (m .effectAt j) (sym p ∙ e ∙ q), and-true)
-
   pub uses-twice-not : x ≡ m .useAt k → y ≡ m .useAt j → (x ≡ y → ⊥) → false ≡ usesTwice m k j
   unfolding usesTwice
   uses-twice-not p q n = simp (ne-eqb (m .useAt k) (m .useAt j) (λ e. n (p ∙ e ∙ sym q)), and-false)

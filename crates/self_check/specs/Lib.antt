@@ -1,4 +1,2 @@
--- When a step or the clock is against itself: refusals 7 and 17.
-pub mod Against
-pub mod Clock
+-- What the search of refusal 7 presumes of its indexes.
 pub mod Keys

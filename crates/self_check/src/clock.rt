@@ -6,7 +6,7 @@ ghost use lib.Dec.{eqb};
 ghost use Rattle.job.specs.Model.{view};
 ghost use Rattle.job.specs.WellFormed.{Ranged};
 ghost use Rattle.job.specs.Laid.{Laid};
-ghost use Rattle.self_check.specs.Clock.{timedConflicts, timedCheck};
+ghost use Rattle.against.specs.Clock.{timedConflicts, timedCheck};
 use job::layout::Job;
 use job::records::TimedFact;
 use job_reader::laid::timed_of;

@@ -1,6 +1,7 @@
-// Refusal 7: a step against itself, found in one pass over the effects and one over the uses. Each record walks an index, so that it
-// meets only those of its own step and fact or level, and the few others that share the key. The field that most often tells two such
-// records apart is read first. Refusal 17, the clock against itself, is in `clock`.
+// Refusal 7: a step against itself. Whether it sets a fact both ways is what the search by pairs finds; whether it opposes its own condition
+// or uses a level twice is found in one pass over the effects and one over the uses. Each record walks an index, so that it meets only those
+// of its own step and fact or level, and the few others that share the key. The field that most often tells two such records apart is read
+// first. Refusal 17, the clock against itself, is in `clock`.
 ghost use mathlib.Core.Path.{_≡_};
 ghost use mathlib.Core.Bool.{_&&_, cond};
 ghost use Prim.Native.Nat.{ℕ, min, _≤_, _<_};
@@ -8,10 +9,9 @@ ghost use lib.Dec.{ltb};
 ghost use Rattle.job.specs.Model.{view, effectOf};
 ghost use Rattle.job.specs.Laid.{Laid};
 ghost use Rattle.job.specs.WellFormed.{Ranged};
-ghost use Rattle.self_check.specs.Keys.{stepKey, effectKey, conditionKey, useKey, SearchBack};
+ghost use Rattle.self_check.specs.Keys.{stepKey, conditionKey, useKey, SearchBack};
 ghost use Rattle.timeline.specs.Indexed.{keyCount, capacity, Growing};
-ghost use Rattle.self_check.specs.Against.{bothWays, usesTwice, opposesOwn, setBefore, usedBefore, opposesAny, bothWaysStep, usesTwiceStep};
-ghost use Rattle.self_check.specs.Against.{opposesOwnStep, stepCheck};
+ghost use Rattle.against.specs.Against.{usesTwice, opposesOwn, usedBefore, opposesAny, usesTwiceStep, opposesOwnStep, stepCheck};
 
 pub mod clock;
 
@@ -19,6 +19,7 @@ use job::layout::Job;
 use job::records::Effect;
 use job_fields::*;
 use job_reader::laid::effect_of;
+use pair_search::search_pairs;
 use timeline::index::INDEX_SIZE;
 use timeline::index::KEYS;
 use timeline::index::UNLINKED;
@@ -33,18 +34,6 @@ fn step_key(step: u16, what: u16) -> usize
     ensures { λ r. ⌜ (r ≡ stepKey step what) × (r < keyCount) ⌝ }
 {
     (8 * step as usize + what as usize) % KEYS
-}
-
-// Whether e, if it is effect k, sets a fact the other way than f.
-fn both_ways(s: &[u8], job: Job, e: Effect, f: u16) -> bool
-    ensures { λ r. ⌜ ((k : ℕ) → e ≡ effectOf (view job (now (s .entry))) k → r ≡ bothWays (view job (now (s .entry))) k f) ⌝ }
-{
-    if e.at != effect_at(s, job, f) {
-        return false;
-    }
-    (e.step == effect_step(s, job, f))
-        & (e.fact == effect_fact(s, job, f))
-        & (e.value != effect_value(s, job, f))
 }
 
 fn uses_twice(s: &[u8], job: Job, u: u16, v: u16) -> bool
@@ -69,22 +58,6 @@ fn opposes_own(s: &[u8], job: Job, e: Effect, c: u16) -> bool
     (e.step == condition_step(s, job, c))
         & (condition_from(s, job, c) <= e.at)
         & (e.at < condition_to(s, job, c))
-}
-
-// Whether an effect before k, which is e, sets e's fact the other way, in e's step at e's tick.
-fn set_before(s: &[u8], job: Job, index: &[u16], key: usize, k: u16, e: Effect) -> bool
-    requires { ⌜ SearchBack (effectKey (view job (now s))) k (effectKey (view job (now s)) k) key (now index)
-        × (e ≡ effectOf (view job (now s)) k) ⌝ }
-    ensures { λ r. ⌜ r ≡ setBefore (view job (now (s .entry))) k ⌝ }
-{
-    let mut f = last_of(index, key);
-    while f < k {
-        if both_ways(s, job, e, f) {
-            return true;
-        }
-        f = before_of(index, f);
-    }
-    false
 }
 
 // Whether a use before u uses u's level in u's step at u's tick.
@@ -144,30 +117,24 @@ fn link_conditions(s: &[u8], job: Job, index: &mut [u16; INDEX_SIZE])
     }
 }
 
-// The lowest step that sets a fact both ways at one tick or opposes its own condition before its last tick, or the count of steps.
-// The effects before each are linked, and it is held against these.
+// The lowest step that opposes its own condition before its last tick, or the count of steps.
 fn effects_against(s: &[u8], job: Job) -> u16
     requires { ⌜ Laid job (now s) × Ranged (view job (now s)) ⌝ }
-    ensures { λ r. ⌜ r ≡ min (bothWaysStep (view job (now (s .entry)))) (opposesOwnStep (view job (now (s .entry)))) ⌝ }
+    ensures { λ r. ⌜ r ≡ opposesOwnStep (view job (now (s .entry))) ⌝ }
 {
-    let mut conditions = [UNLINKED; INDEX_SIZE];
-    link_conditions(s, job, &mut conditions);
-    let mut effects = [UNLINKED; INDEX_SIZE];
-    let mut sets = job.count.steps;
-    let mut opposes = job.count.steps;
+    let mut index = [UNLINKED; INDEX_SIZE];
+    link_conditions(s, job, &mut index);
+    let mut best = job.count.steps;
     let n = job.count.effects;
     let mut k = 0;
     while k < n {
         let e = effect_of(s, job, k);
         let key = step_key(e.step, e.fact);
-        let set = set_before(s, job, &effects, key, k, e);
-        sets = lower_if(set, e.step, sets);
-        let opposed = opposes_any(s, job, &conditions, key, e);
-        opposes = lower_if(opposed, e.step, opposes);
-        link(key, k, &mut effects);
+        let found = opposes_any(s, job, &index, key, e);
+        best = lower_if(found, e.step, best);
         k += 1;
     }
-    lower(sets, opposes)
+    best
 }
 
 // The lowest step that uses a level twice at one tick, or the count of steps. Without uses no index is made.
@@ -198,9 +165,10 @@ pub fn check_steps(s: &[u8], job: Job) -> Verdict
     requires { ⌜ Laid job (now s) × Ranged (view job (now s)) ⌝ }
     ensures { λ r. ⌜ r ≡ stepCheck (view job (now (s .entry))) ⌝ }
 {
-    let effects = effects_against(s, job);
+    let pairs = search_pairs(s, job);
     let uses = uses_against(s, job);
-    let step = lower(effects, uses);
+    let effects = effects_against(s, job);
+    let step = lower(lower(pairs.step, uses), effects);
     let n = job.count.steps;
     refuse_if(
         Verdict::Accepted,

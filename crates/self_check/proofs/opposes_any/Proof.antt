@@ -7,7 +7,7 @@ use Rattle.laws.proofs.Linked.{WalkBack, ahead, back-start, back-more, back-les
 use Rattle.job.specs.declared.records.Effect.{Effect}
 use Rattle.job.specs.Model.{view, effectOf}
 use Rattle.self_check.specs.Keys.{stepKey, effectKey, conditionKey}
-use Rattle.self_check.specs.Against.{opposesOwn, opposesAny}
+use Rattle.against.specs.Against.{opposesOwn, opposesAny}
 use Rattle.self_check.proofs.Steps.{own-opposes}
 use borrow.Author.Needs.{needs}
 use Rattle.self_check.proofs.opposes_any.Statement.{statement}

@@ -4,7 +4,7 @@ use Rattle.laws.proofs.Search.{any-found}
 use Rattle.laws.proofs.Linked.{WalkBack, ahead, back-start, back-more, back-less, back-end}
 use Rattle.job.specs.Model.{view}
 use Rattle.self_check.specs.Keys.{useKey}
-use Rattle.self_check.specs.Against.{usesTwice, usedBefore}
+use Rattle.against.specs.Against.{usesTwice, usedBefore}
 use Rattle.self_check.proofs.Steps.{own-uses-twice}
 use borrow.Author.Needs.{needs}
 use Rattle.self_check.proofs.used_before.Statement.{statement}

@@ -7,7 +7,7 @@ use Rattle.laws.proofs.Search.{owner-start, owner-more, owner-end}
 use Rattle.job.specs.Model.{view}
 use Rattle.self_check.specs.Keys.{stepKey, useKey}
 use Rattle.timeline.specs.Indexed.{Growing}
-use Rattle.self_check.specs.Against.{usedBefore, usesTwiceStep}
+use Rattle.against.specs.Against.{usedBefore, usesTwiceStep}
 use Rattle.timeline.proofs.Indexing.{growing-start, growing-more}
 use borrow.Author.Needs.{needs}
 use Rattle.self_check.proofs.uses_against.Statement.{statement}

@@ -6,7 +6,7 @@ use Rattle.laws.specs.Search.{lowest}
 use Rattle.laws.proofs.Search.{lowest-start, lowest-more, lowest-found, lowest-end}
 use Rattle.job.specs.Model.{view}
 use Rattle.verdict.proofs.Chain.{lowest-refused, lowest-passed}
-use Rattle.self_check.specs.Clock.{timedConflicts, timedCheck}
+use Rattle.against.specs.Clock.{timedConflicts, timedCheck}
 use borrow.Author.Needs.{needs}
 use Rattle.self_check.proofs.clock.check_clock.Statement.{statement}
 use Rattle.self_check.proofs.clock.check_clock.Tie as tie

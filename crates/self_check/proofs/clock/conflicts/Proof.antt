@@ -8,7 +8,7 @@ use Rattle.laws.specs.Search.{any, lowest}
 use Rattle.laws.proofs.Search.{any-none, any-found, lowest-facts, lowest-start, lowest-more}
 use Rattle.job.specs.declared.records.TimedFact.{TimedFact}
 use Rattle.job.specs.Model.{Model, view, timedOf}
-use Rattle.self_check.specs.Clock.{timedBothWays, timedConflicts}
+use Rattle.against.specs.Clock.{timedBothWays, timedConflicts}
 use borrow.Author.Needs.{needs}
 use Rattle.self_check.proofs.clock.conflicts.Statement.{statement}
 use Rattle.self_check.proofs.clock.conflicts.Tie as tie

@@ -12,9 +12,9 @@ use Rattle.verdict.specs.declared.Verdict.the-variants.{StepAgainstItself, Time
 use Rattle.verdict.specs.Verdict.{number}
 use Rattle.verdict.proofs.Chain.{zero-refuse, zero-lowest}
 use Rattle.job.specs.Model.{Model}
-use Rattle.self_check.specs.Against.{bothWays, usesTwice, opposesOwn, setBefore, usedBefore, opposesAny, bothWaysStep, usesTwiceStep, opposesOwnStep}
-use Rattle.self_check.specs.Against.{againstStep, stepCheck}
-use Rattle.self_check.specs.Clock.{timedBothWays, timedConflicts, timedCheck}
+use Rattle.against.specs.Against.{bothWays, usesTwice, opposesOwn, setBefore, usedBefore, opposesAny, bothWaysStep, usesTwiceStep, opposesOwnStep}
+use Rattle.against.specs.Against.{againstStep, stepCheck}
+use Rattle.against.specs.Clock.{timedBothWays, timedConflicts, timedCheck}
 
 -- where no index passes, none has an owner that counts
 owner-all : (n m : ℕ) (owner : ℕ → ℕ) (p : ℕ → Bool) → ((k : ℕ) → k < m → p k ≡ false) → lowestOwner n m owner p ≡ n
@@ -25,7 +25,7 @@ owner-all n m owner p h =
     (λ l. absurd (let z : n < n = l in omega arith))
 
 -- what does not pass fails
-fails : (b : Bool) → (b ≡ true → ⊥) → b ≡ false
+pub fails : (b : Bool) → (b ≡ true → ⊥) → b ≡ false
 fails b h = ⊎-elim (λ (t : b ≡ true). absurd (h t)) (λ f. f) (either b)
 
 -- a test of `not` that passes against what it denies
