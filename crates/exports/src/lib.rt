@@ -6,7 +6,8 @@ ghost use Rattle.validity.specs.Promise.{JobPromise, SchedulePromise};
 ghost use Rattle.order_answers.specs.Answers.{headerRead, recordRead, alikeAnswer, HeaderPromise, RecordPromise, AlikePromise};
 ghost use Rattle.partialize.specs.Partialization.{answerTo, bufferAfter};
 ghost use Rattle.partialize.specs.Demands.{Promise};
-ghost use Rattle.packing.specs.Packed.{packedVerdict, packedAnswer, packedAlike, packedHeader, packedRecord};
+ghost use Rattle.pair_search.specs.Answer.{pairsAnswer, PairsPromise};
+ghost use Rattle.packing.specs.Packed.{packedVerdict, packedAnswer, packedPairs, packedAlike, packedHeader, packedRecord};
 ghost use Rattle.listing.specs.Listed.{filled, headerList, recordList};
 ghost use Rattle.exports.specs.Packs.{Packs};
 use listing::list_header;
@@ -14,6 +15,7 @@ use listing::list_record;
 use packing::packed_alike;
 use packing::packed_answer;
 use packing::packed_header;
+use packing::packed_pairs;
 use packing::packed_record;
 use packing::packed_verdict;
 
@@ -34,6 +36,15 @@ pub extern "C" fn jobs_check_schedule(job: &[u8], starts: &[u32]) -> u64
 {
     let timed = schedule::check_schedule(job, starts);
     packed_verdict(timed)
+}
+
+// How many pairs of effects the search for a fact set both ways compares, and the step of the pair that it finds.
+#[no_mangle]
+pub extern "C" fn jobs_pairs(job: &[u8]) -> u64
+    ensures { λ r. ⌜ Packs (PairsPromise (now (job .entry))) packedPairs (pairsAnswer (now (job .entry))) r ⌝ }
+{
+    let a = pair_search::compare_pairs(job);
+    packed_pairs(a)
 }
 
 // Loosens a job into an order file in `out`.

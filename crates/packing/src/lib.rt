@@ -5,11 +5,12 @@ use order_answers::AlikeAnswer;
 use order_answers::HeaderRead;
 use order_answers::RecordRead;
 use order_reader::numbers;
+use pair_search::answer::PairsAnswer;
 use partialize::answer;
 use partialize::answer::Answer;
 use verdict::Verdict;
 
-// The length or the yes above 32 bits, the refusal's number above 16, and the place.
+// The length, the count or the yes above 32 bits, the refusal's number above 16, and the place.
 fn packed(answer: u32, number: u16, place: u16) -> u64
     ensures { λ r. ⌜ r ≡ spec.packed answer number place ⌝ }
 {
@@ -28,6 +29,17 @@ pub fn packed_answer(a: Answer) -> u64
     ensures { λ r. ⌜ r ≡ spec.packedAnswer a ⌝ }
 {
     packed(answer::length(a), answer::number(a), answer::place(a))
+}
+
+// What the search by pairs answers.
+pub fn packed_pairs(a: PairsAnswer) -> u64
+    ensures { λ r. ⌜ r ≡ spec.packedPairs a ⌝ }
+{
+    packed(
+        pair_search::answer::compared(a),
+        pair_search::answer::number(a),
+        pair_search::answer::place(a),
+    )
 }
 
 // What the alike test answers.

@@ -3,6 +3,7 @@ mod fields;
 mod lines;
 mod loosen;
 mod order_files;
+mod pairs;
 mod timing;
 mod well_formed;
 
@@ -18,6 +19,7 @@ fn serve(fd: i32) -> bool {
         b'c' => timing::serve_job(fd),
         b't' => timing::serve_schedule(fd),
         b'l' => loosen::serve_loosen(fd),
+        b'p' => pairs::serve_pairs(fd),
         b'h' => order_files::serve_header(fd),
         b'r' => order_files::serve_record(fd),
         b'a' => order_files::serve_alike(fd),
