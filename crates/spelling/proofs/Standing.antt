@@ -1,0 +1,144 @@
+-- The token at a cursor, told from the bytes.
+use Prim.Native.Nat.{ℕ, _≤_, _<_}
+use mathlib.Core.Path.{_≡_, refl, sym, ap, _∙_}
+use mathlib.Core.Bool.{Bool, true, false, cond, not, _&&_}
+use mathlib.Core.List.{List}
+use native.Mathlib.Omega.{arith}
+use native.Mathlib.Decide.{decLt}
+use lib.Dec.{eqb, ltb}
+use lib.ListN.{length, getD}
+use lib.Seq.{slice}
+use borrow.Author.Tests.{lt-ltb, le-ltb, eq-eqb, ne-eqb, not-true, not-false}
+use Rattle.laws.proofs.Search.{contrary}
+use Rattle.spelling.specs.Tokens.{Token, mark, word, stop, isMark}
+use Rattle.spelling.specs.Keywords.{same}
+use Rattle.spelling.specs.Numbers.{wholeOf, timeOf}
+use Rattle.spelling.specs.Cursor.{here, Standing, isBracket, isSuch, isWord, isStop, wholeAt, timeAt}
+use Rattle.spelling.specs.declared.Cursor.{Cursor}
+use Rattle.spelling.specs.declared.numbers.Spelt.{Spelt}
+use Rattle.spelling.specs.declared.numbers.Spelt.the-variants.{Nothing}
+
+-- a word of any kind
+abbrev pub some : Token → Bool
+some t = isSuch (λ w. true) t
+
+-- what is no word is no such word and no number
+such-none : (p : List ℕ → Bool) (t : Token) → some t ≡ false → false ≡ isSuch p t
+unfolding isSuch
+such-none p (mark m) e = refl
+such-none p (word w) e = contrary refl e
+such-none p stop e = refl
+
+whole-none : (t : Token) → some t ≡ false → Nothing ≡ wholeAt t
+unfolding isSuch wholeAt
+whole-none (mark m) e = refl
+whole-none (word w) e = contrary refl e
+whole-none stop e = refl
+
+time-none : (t : Token) → some t ≡ false → Nothing ≡ timeAt t
+unfolding isSuch timeAt
+time-none (mark m) e = refl
+time-none (word w) e = contrary refl e
+time-none stop e = refl
+
+module _ (plan : Bool) (text : List ℕ) (c : Cursor) where
+  here-stop : length text ≤ c .at → here plan text c ≡ stop
+  unfolding here
+  here-stop h = rw (le-ltb _ _ h)
+
+  here-mark : c .at < length text → isMark plan (getD text (c .at) 0) ≡ true → here plan text c ≡ mark (getD text (c .at) 0)
+  unfolding here
+  here-mark h e = rw (lt-ltb _ _ h, e)
+
+  here-word : c .at < length text → isMark plan (getD text (c .at) 0) ≡ false → here plan text c ≡ word (slice (c .at) (c .end) text)
+  unfolding here
+  here-word h e = rw (lt-ltb _ _ h, e)
+
+  -- at the text's end and before it
+  pub stop-is : Standing plan text c → eqb (c .at) (length text) ≡ isStop (here plan text c)
+  unfolding isStop
+  stop-is s =
+      elim (decLt (c .at) (length text)) [
+        | yes h ↦ rw (ne-eqb (c .at) (length text) (λ e. omega arith)) (go (isMark plan (getD text (c .at) 0)) refl h)
+        | no h ↦
+            let e : c .at ≡ length text = omega (arith, s .within, s .onward) in
+            rw (eq-eqb _ _ e, here-stop (omega arith), isStop)
+      ]
+    where
+      go : (m : Bool) → isMark plan (getD text (c .at) 0) ≡ m → c .at < length text → false ≡ isStop (here plan text c)
+      go true e h = rw (here-mark h e, isStop)
+      go false e h = rw (here-word h e, isStop)
+
+  pub inside : Standing plan text c → (c .at ≡ length text → ⊥) → c .at < length text
+  inside s f = omega (arith, s .within, s .onward)
+
+  pub bracket-end : (b : ℕ) → c .at ≡ length text → false ≡ isBracket b (here plan text c)
+  unfolding isBracket
+  bracket-end b e = let h : length text ≤ c .at = omega arith in rw (here-stop h, isBracket)
+
+  pub bracket-is :
+      (b : ℕ) {m : Bool} → c .at < length text → m ≡ isMark plan (getD text (c .at) 0) →
+      (m && eqb (getD text (c .at) 0) b) ≡ isBracket b (here plan text c)
+  unfolding isBracket
+  bracket-is b {m = true} h e = rw (here-mark h (sym e), isBracket)
+  bracket-is b {m = false} h e = rw (here-word h (sym e), isBracket)
+
+  pub some-end : c .at ≡ length text → false ≡ some (here plan text c)
+  unfolding isSuch
+  some-end e = let h : length text ≤ c .at = omega arith in rw (here-stop h, isSuch)
+
+  pub some-is : {m : Bool} → c .at < length text → m ≡ isMark plan (getD text (c .at) 0) → not m ≡ some (here plan text c)
+  unfolding isSuch
+  some-is {m = true} h e = rw (here-mark h (sym e), isSuch)
+  some-is {m = false} h e = rw (here-word h (sym e), isSuch)
+
+  -- a word at the cursor is its bytes
+  pub word-here : some (here plan text c) ≡ true → (c .at < length text) × (here plan text c ≡ word (slice (c .at) (c .end) text))
+  unfolding isSuch
+  word-here e =
+      elim (decLt (c .at) (length text)) [
+        | yes h ↦ go (isMark plan (getD text (c .at) 0)) refl h
+        | no h ↦ let l : length text ≤ c .at = omega arith in contrary e (rw (here-stop l, isSuch))
+      ]
+    where
+      go :
+          (m : Bool) → isMark plan (getD text (c .at) 0) ≡ m → c .at < length text →
+          (c .at < length text) × (here plan text c ≡ word (slice (c .at) (c .end) text))
+      go true f h = contrary e (rw (here-mark h f, isSuch))
+      go false f h = (h, here-word h f)
+
+  pub such-is :
+      (p : List ℕ → Bool) {r y : Bool} → r ≡ some (here plan text c) → y ≡ p (slice (c .at) (c .end) text) →
+      (r && y) ≡ isSuch p (here plan text c)
+  unfolding isSuch
+  such-is p {r = true} {y} e f = f ∙ sym (rw (word-here (sym e) .1, isSuch))
+  such-is p {r = false} {y} e f = such-none p (here plan text c) (sym e)
+
+  pub whole-is : {r : Bool} → r ≡ some (here plan text c) → not r ≡ true → Nothing ≡ wholeAt (here plan text c)
+  whole-is e f = whole-none (here plan text c) (sym e ∙ not-true _ f)
+
+  pub time-is : {r : Bool} → r ≡ some (here plan text c) → not r ≡ true → Nothing ≡ timeAt (here plan text c)
+  time-is e f = time-none (here plan text c) (sym e ∙ not-true _ f)
+
+  pub such-not : (p : List ℕ → Bool) {r : Bool} → r ≡ some (here plan text c) → not r ≡ true → false ≡ isSuch p (here plan text c)
+  such-not p e f = such-none p (here plan text c) (sym e ∙ not-true _ f)
+
+  -- a word there is told from its bytes
+  module _ {r : Bool} (e : r ≡ some (here plan text c)) (f : not r ≡ false) where
+    there : (c .at < length text) × (here plan text c ≡ word (slice (c .at) (c .end) text))
+    there = word-here (sym e ∙ not-false _ f)
+
+    pub longer : Standing plan text c → c .at < c .end
+    longer s = s .grows (there .0)
+
+    pub such-word : (p : List ℕ → Bool) {y : Bool} → y ≡ p (slice (c .at) (c .end) text) → y ≡ isSuch p (here plan text c)
+    unfolding isSuch
+    such-word p g = rw (there .1, isSuch) g
+
+    pub whole-word : {s : Spelt} → s ≡ wholeOf (slice (c .at) (c .end) text) → s ≡ wholeAt (here plan text c)
+    unfolding wholeAt
+    whole-word g = rw (there .1, wholeAt) g
+
+    pub time-word : {s : Spelt} → s ≡ timeOf (slice (c .at) (c .end) text) → s ≡ timeAt (here plan text c)
+    unfolding timeAt
+    time-word g = rw (there .1, timeAt) g

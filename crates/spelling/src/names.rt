@@ -1,0 +1,86 @@
+// Names of actions, facts and levels, and the words of the grammar.
+ghost use mathlib.Core.Path.{_≡_};
+ghost use Prim.Native.Nat.{_-_, _≤_, _<_};
+ghost use lib.ListN.{length, getD};
+ghost use lib.Seq.{slice};
+ghost use Rattle.laws.specs.Search.{all};
+ghost use Rattle.spelling.specs.Keywords.{same};
+ghost use Rattle.spelling.specs.Names.{isLetter, isDigit, isNameByte, isReserved, isName};
+
+// Whether the bytes from a place up to another are this word.
+pub fn word_is(text: &[u8], at: usize, end: usize, word: &[u8]) -> bool
+    requires { ⌜ (at ≤ end) × (end ≤ length (now text)) ⌝ }
+    ensures { λ r. ⌜ r ≡ same (slice at end (now (text .entry))) (now (word .entry)) ⌝ }
+{
+    if end - at != word.len() {
+        return false;
+    }
+    let mut k = 0;
+    while k < word.len() {
+        if text[at + k] != word[k] {
+            return false;
+        }
+        k += 1;
+    }
+    true
+}
+
+fn is_letter(b: u8) -> bool
+    ensures { λ r. ⌜ r ≡ isLetter b ⌝ }
+{
+    ((b'A' <= b) & (b <= b'Z')) | ((b'a' <= b) & (b <= b'z'))
+}
+
+pub fn is_digit(b: u8) -> bool
+    ensures { λ r. ⌜ r ≡ isDigit b ⌝ }
+{
+    (b'0' <= b) & (b <= b'9')
+}
+
+fn is_name_byte(b: u8) -> bool
+    ensures { λ r. ⌜ r ≡ isNameByte b ⌝ }
+{
+    is_letter(b) | is_digit(b) | (b == b'-') | (b == b'_')
+}
+
+// Whether all bytes of a word may stand in a name.
+fn name_bytes(text: &[u8], at: usize, end: usize) -> bool
+    requires { ⌜ (at ≤ end) × (end ≤ length (now text)) ⌝ }
+    ensures { λ r. ⌜ r ≡ all (end - at) (λ k. isNameByte (getD (slice at end (now (text .entry))) k 0)) ⌝ }
+{
+    let mut k = at;
+    while k < end {
+        if !is_name_byte(text[k]) {
+            return false;
+        }
+        k += 1;
+    }
+    true
+}
+
+// Whether a word is one of the six that are no names.
+fn is_reserved(text: &[u8], at: usize, end: usize) -> bool
+    requires { ⌜ (at ≤ end) × (end ≤ length (now text)) ⌝ }
+    ensures { λ r. ⌜ r ≡ isReserved (slice at end (now (text .entry))) ⌝ }
+{
+    word_is(text, at, end, b"at")
+        | word_is(text, at, end, b"over")
+        | word_is(text, at, end, b"and")
+        | word_is(text, at, end, b"not")
+        | word_is(text, at, end, b"increase")
+        | word_is(text, at, end, b"decrease")
+}
+
+// Bytes of the longest name.
+const NAME_MOST: usize = 31;
+
+// Whether a word is a name.
+pub fn is_name(text: &[u8], at: usize, end: usize) -> bool
+    requires { ⌜ (at < end) × (end ≤ length (now text)) ⌝ }
+    ensures { λ r. ⌜ r ≡ isName (slice at end (now (text .entry))) ⌝ }
+{
+    (end - at <= NAME_MOST)
+        & is_letter(text[at])
+        & name_bytes(text, at, end)
+        & !is_reserved(text, at, end)
+}
