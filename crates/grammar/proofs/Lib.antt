@@ -1,0 +1,9 @@
+pub mod Meaning
+pub mod Made
+pub mod Opened
+pub mod Closed
+pub mod Along
+pub mod Demanded
+pub mod Faults
+pub mod Placed
+pub mod Worked

@@ -1,0 +1,1 @@
+// The grammar of the two texts: definitions and theorems without code.
