@@ -3,6 +3,7 @@ use Prim.Native.Nat.{ℕ, zero, suc}
 use mathlib.Core.Path.{_≡_, refl, sym, ap, subst, _∙_}
 use mathlib.Core.Bool.{Bool, true, false, cond}
 use mathlib.Core.List.{List, [], _∷_, _++_, append-nil}
+use mathlib.Core.Logic.{_⊎_, inl, inr, ⊎-elim}
 use native.Mathlib.Omega.{arith}
 use Rattle.laws.specs.Search.{all, lowest}
 use Rattle.laws.proofs.Search.{contrary}
@@ -22,6 +23,7 @@ use Rattle.grammar.proofs.Meaning.{ended, Val, Vals, prints}
 use Rattle.grammar.proofs.Closed.{stop-is}
 use Rattle.grammar.proofs.Along.{begun}
 use Rattle.grammar.proofs.Along as along
+use Rattle.grammar.proofs.Deeper.{raise, lift, lifts, lifts-append, liftStep, lift-step, known-failed, one-deeper}
 
 -- every symbol stands for something: "a" is a name, "0" a number
 abbrev aName : Word
@@ -96,16 +98,6 @@ module _ (d : ℕ) where
       let h : t ≡ b .token = cc in
       let k : ts ≡ prints d (b .next ++ σ) (b .after) = cc in
       (b .next, b .new, ap (step d s) h ∙ b .steps, (b .after, k))
-
-  -- the first token that cannot stand there
-  pub record Fault (σ : List Symbol) (ps : List Placed) (line : ℕ) : Type 0 where
-    pub before : List Placed
-    pub at : Placed
-    pub after : List Placed
-    pub whole : ps ≡ before ++ at ∷ after
-    pub there : line ≡ at .line
-    pub stood : (us : List Token) × Generates σ (bare before ++ us)
-    pub cannot : (us : List Token) → Generates σ (bare before ++ at .token ∷ us) → ⊥
 
 -- the text's end comes last and only there
 abbrev pub Ends : List Token → Type 0
@@ -266,12 +258,29 @@ none-next s [] t [] new h true e k f = refl
 none-next s [] t (v ∷ next) new h true e k f = absurd (k .1 f)
 none-next s (u ∷ σ) t next new h true e k f = contrary e (h .0)
 
+-- the first token that cannot stand there: at no greater depth for 18, but where one more (and ..) may stand for 19
+pub record Fault (d : ℕ) (σ : List Symbol) (ps : List Placed) (number line : ℕ) : Type 0 where
+  pub before : List Placed
+  pub at : Placed
+  pub after : List Placed
+  pub whole : ps ≡ before ++ at ∷ after
+  pub there : line ≡ at .line
+  pub stood : (us : List Token) × Generates d σ (bare before ++ us)
+  pub cannot : (us : List Token) → Generates d σ (bare before ++ at .token ∷ us) → ⊥
+  pub which : (number ≡ 18) ⊎ (number ≡ 19)
+  pub deeper : number ≡ 19 → (us : List Token) × Generates (suc d) (lifts 1 σ) (bare before ++ at .token ∷ us)
+  pub never :
+      number ≡ 18 → (j : ℕ) (us : List Token) → Generates (raise j d) (lifts j σ) (bare before ++ at .token ∷ us) → ⊥
+
+gone-failed : (n : ℕ) (next : List Symbol) (new : List Said) → fails n ≡ goes next new → ⊥
+gone-failed n next new e = let z : _≡_ {A = ℕ} 0 1 = cc in omega arith
+
 module _ (d : ℕ) where
   fault-here :
-      (s : Symbol) (σ : List Symbol) (p : Placed) (ps : List Placed) (m line : ℕ) → step d s (p .token) ≡ fails m → line ≡ p .line →
-      Fault d (s ∷ σ) (p ∷ ps) line
+      (s : Symbol) (σ : List Symbol) (p : Placed) (ps : List Placed) (n line : ℕ) → step d s (p .token) ≡ fails n → line ≡ p .line →
+      Fault d (s ∷ σ) (p ∷ ps) n line
   unfolding bare
-  fault-here s σ p ps m line e f =
+  fault-here s σ p ps n line e f =
       record {
         before = [];
         at = p;
@@ -279,17 +288,31 @@ module _ (d : ℕ) where
         whole = refl;
         there = f;
         stood = (prints d (s ∷ σ) (anys d (s ∷ σ)), (anys d (s ∷ σ), refl));
-        cannot = λ us g. let o = on d s σ (p .token) us g in failed (o .0) (o .1) (sym e ∙ o .2);
+        cannot = λ us g. let o = on d s σ (p .token) us g in gone-failed n (o .0) (o .1) (sym e ∙ o .2);
+        which = ⊎-elim (λ (x : n ≡ 18). inl x) (λ x. inr (x .0)) (known-failed d s (p .token) n e);
+        deeper = λ q. ⊎-elim (λ (x : n ≡ 18). absurd (omega arith)) (λ x. opened-up (x .1) (x .2) (x .3)) (known-failed d s (p .token) n e);
+        never = λ q j us g.
+            let o = on (raise j d) (lift j s) (lifts j σ) (p .token) us g in
+            let l = lift-step j d s (p .token) (λ x. not-deep q (sym e ∙ x)) ∙ ap (liftStep j) e in
+            gone-failed n (o .0) (o .1) (sym l ∙ o .2);
       }
     where
-      failed : (next : List Symbol) (new : List Said) → fails m ≡ goes next new → ⊥
-      failed next new e = let z : _≡_ {A = ℕ} 0 1 = cc in omega arith
+      not-deep : n ≡ 18 → fails n ≡ fails 19 → ⊥
+      not-deep q x = let z : n ≡ 19 = cc in omega arith
+
+      opened-up :
+          (k : Kind) → s ≡ body k zero → isWord andWord (p .token) ≡ true →
+          (us : List Token) × Generates (suc d) (lifts 1 (s ∷ σ)) (p .token ∷ us)
+      opened-up k e f =
+          let τ = items k zero ∷ lifts 1 σ in
+          let l = ap (λ u. step (suc d) (lift 1 u) (p .token)) e ∙ one-deeper (suc d) k (p .token) f in
+          (prints (suc d) τ (anys (suc d) τ), back (suc d) (lift 1 s) (lifts 1 σ) (p .token) (items k zero ∷ []) [] _ l (anys (suc d) τ, refl))
 
   fault-later :
-      (s : Symbol) (σ : List Symbol) (p : Placed) (ps : List Placed) (next : List Symbol) (new : List Said) (line : ℕ) →
-      step d s (p .token) ≡ goes next new → Fault d (next ++ σ) ps line → Fault d (s ∷ σ) (p ∷ ps) line
+      (s : Symbol) (σ : List Symbol) (p : Placed) (ps : List Placed) (next : List Symbol) (new : List Said) (n line : ℕ) →
+      step d s (p .token) ≡ goes next new → Fault d (next ++ σ) ps n line → Fault d (s ∷ σ) (p ∷ ps) n line
   unfolding bare
-  fault-later s σ p ps next new line e f =
+  fault-later s σ p ps next new n line e f =
       record {
         before = p ∷ f .before;
         at = f .at;
@@ -299,14 +322,33 @@ module _ (d : ℕ) where
         stood = (f .stood .0, back d s σ (p .token) next new _ e (f .stood .1));
         cannot = λ us g.
             let o = on d s σ (p .token) _ g in
-            let same : goes next new ≡ goes (o .0) (o .1) = sym e ∙ o .2 in
-            let n : o .0 ≡ next = cc in
-            f .cannot us (subst (λ (τ : List Symbol). Generates d (τ ++ σ) (bare (f .before) ++ f .at .token ∷ us)) n (o .3));
+            f .cannot us (led d σ next new (o .0) (o .1) _ (sym e ∙ o .2) (o .3));
+        which = f .which;
+        deeper = λ q.
+            let g = f .deeper q in (
+              g .0,
+              back (suc d) (lift 1 s) (lifts 1 σ) (p .token) (lifts 1 next) new _ (lifted 1)
+                  (subst (λ (τ : List Symbol). Generates (suc d) τ (bare (f .before) ++ f .at .token ∷ g .0)) (lifts-append 1 next σ) (g .1)),
+            );
+        never = λ q j us g.
+            let o = on (raise j d) (lift j s) (lifts j σ) (p .token) _ g in
+            let h = led (raise j d) (lifts j σ) (lifts j next) new (o .0) (o .1) _ (sym (lifted j) ∙ o .2) (o .3) in
+            f .never q j us
+            (subst (λ (τ : List Symbol). Generates (raise j d) τ (bare (f .before) ++ f .at .token ∷ us)) (sym (lifts-append j next σ)) h);
       }
+    where
+      lifted : (j : ℕ) → step (raise j d) (lift j s) (p .token) ≡ goes (lifts j next) new
+      lifted j = lift-step j d s (p .token) (λ x. gone-failed 19 next new (sym x ∙ e)) ∙ ap (liftStep j) e
+
+      led :
+          (d : ℕ) (σ next : List Symbol) (new : List Said) (next′ : List Symbol) (new′ : List Said) (ts : List Token) →
+          goes next new ≡ goes next′ new′ → Generates d (next′ ++ σ) ts → Generates d (next ++ σ) ts
+      led d σ next new next′ new′ ts e g =
+          let n : next′ ≡ next = cc in subst (λ (τ : List Symbol). Generates d (τ ++ σ) ts) n g
 
   pub fault :
       (ps : List Placed) (σ : List Symbol) (is js : List Item) (n line : ℕ) → Shaped σ → Ends (bare ps) →
-      run d σ is ps ≡ refused n line js → Fault d σ ps line
+      run d σ is ps ≡ refused n line js → Fault d σ ps n line
   unfolding bare run onward
   fault [] σ is js n line h k e = absurd k
   fault (p ∷ ps) [] is js n line h k e = absurd h
@@ -318,19 +360,19 @@ module _ (d : ℕ) where
 
       go :
           (x : Step) → step d s (p .token) ≡ x → Keeps (ends s) (p .token) x →
-          onward x σ is (p .line) (λ σ′ is′. run d σ′ is′ []) ≡ refused n line js → Fault d (s ∷ σ) (p ∷ []) line
+          onward x σ is (p .line) (λ σ′ is′. run d σ′ is′ []) ≡ refused n line js → Fault d (s ∷ σ) (p ∷ []) n line
       go (goes next new) g q e =
           absurd (ended-so (next ++ σ) (is ++ onLine (p .line) new) (none-next s σ (p .token) next new h (ends s) refl q k) e)
-      go (fails m) g q e = fault-here s σ p [] m line g (let f : line ≡ p .line = cc in f)
+      go (fails m) g q e = fault-here s σ p [] n line (g ∙ ap fails (let f : m ≡ n = cc in f)) (let f : line ≡ p .line = cc in f)
   fault (p ∷ q ∷ ps) (s ∷ σ) is js n line h k e =
       go (step d s (p .token)) refl (keeps d s (p .token)) e (λ τ is′ h′ e′. fault (q ∷ ps) τ is′ js n line h′ (k .1) e′)
     where
       go :
           (x : Step) → step d s (p .token) ≡ x → Keeps (ends s) (p .token) x →
           onward x σ is (p .line) (λ σ′ is′. run d σ′ is′ (q ∷ ps)) ≡ refused n line js →
-          ((τ : List Symbol) (is′ : List Item) → Shaped τ → run d τ is′ (q ∷ ps) ≡ refused n line js → Fault d τ (q ∷ ps) line) →
-          Fault d (s ∷ σ) (p ∷ q ∷ ps) line
+          ((τ : List Symbol) (is′ : List Item) → Shaped τ → run d τ is′ (q ∷ ps) ≡ refused n line js → Fault d τ (q ∷ ps) n line) →
+          Fault d (s ∷ σ) (p ∷ q ∷ ps) n line
       go (goes next new) g r e f =
-          fault-later s σ p (q ∷ ps) next new line g
+          fault-later s σ p (q ∷ ps) next new n line g
           (f (next ++ σ) (is ++ onLine (p .line) new) (shaped-next s σ (p .token) next new h (ends s) refl r (k .0)) e)
-      go (fails m) g r e f = fault-here s σ p (q ∷ ps) m line g (let f : line ≡ p .line = cc in f)
+      go (fails m) g r e f = fault-here s σ p (q ∷ ps) n line (g ∙ ap fails (let f : m ≡ n = cc in f)) (let f : line ≡ p .line = cc in f)

@@ -4,6 +4,7 @@ pub mod Opened
 pub mod Closed
 pub mod Along
 pub mod Demanded
+pub mod Deeper
 pub mod Faults
 pub mod Placed
 pub mod Worked
