@@ -6,8 +6,8 @@ use mathlib.Core.List.{List, [], _∷_, _++_, append-assoc, append-nil}
 use native.Mathlib.Omega.{arith}
 use Rattle.spelling.specs.Tokens.{Token, Placed, bare}
 use Rattle.grammar.specs.Said.{Said, Item, onLine, saidOf}
-use Rattle.grammar.specs.Reader.{Symbol, Step, goes, fails, step, Outcome, read, refused, onward, run}
-use Rattle.grammar.proofs.Meaning.{Val, Vals, print, tell, prints, tells, join, prints-join, tells-join, parted, Made}
+use Rattle.grammar.specs.Reader.{Symbol, Step, goes, fails, step, read, onward, run}
+use Rattle.grammar.proofs.Meaning.{Vals, prints, tells, join, prints-join, tells-join, parted}
 use Rattle.grammar.proofs.Opened.{opened}
 use Rattle.grammar.proofs.Closed.{Closed, closed}
 

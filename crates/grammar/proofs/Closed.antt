@@ -1,12 +1,12 @@
 -- Whatever a token leaves to come, the token and that make up what the symbol stands for.
 use Prim.Native.Nat.{ℕ, zero, suc}
-use mathlib.Core.Path.{_≡_, refl, sym, ap, subst, _∙_}
+use mathlib.Core.Path.{_≡_, refl, sym, ap, subst}
 use mathlib.Core.Bool.{Bool, true, false, cond}
 use mathlib.Core.List.{List, [], _∷_, append-nil}
 use borrow.Author.Tests.{eqb-true}
 use Rattle.laws.proofs.Search.{contrary}
 use Rattle.spelling.specs.Tokens.{Token, mark, word, stop}
-use Rattle.spelling.specs.Keywords.{atWord, overWord, andWord, notWord, increaseWord, decreaseWord, startWord, endWord, allWord}
+use Rattle.spelling.specs.Keywords.{atWord, overWord, andWord, notWord, increaseWord, decreaseWord, startWord, endWord}
 use Rattle.spelling.specs.Keywords.{durativeWord, equalsWord, initWord}
 use Rattle.spelling.specs.Names.{isName}
 use Rattle.spelling.specs.Numbers.{isWhole, isTime, ticks}

@@ -1,6 +1,6 @@
 -- Where one more (and ..) may stand inside, every token does what it did, but for the one that was too deep.
 use Prim.Native.Nat.{ℕ, zero, suc}
-use mathlib.Core.Path.{_≡_, refl, sym, ap, _∙_}
+use mathlib.Core.Path.{_≡_, refl, ap}
 use mathlib.Core.Bool.{Bool, true, false, cond}
 use mathlib.Core.List.{List, [], _∷_, _++_}
 use mathlib.Core.Logic.{_⊎_, inl, inr}
@@ -116,7 +116,9 @@ abbrev Known : Symbol → Token → Step → Type 0
 Known s t (goes next new) = Unit
 Known s t (fails n) = (n ≡ 18) ⊎ ((n ≡ 19) × (k : Kind) × (s ≡ body k zero) × (isWord andWord t ≡ true))
 
-know : (s : Symbol) (t : Token) (y : Bool) (next : List Symbol) (new : List Said) (z : Step) → Known s t z → Known s t (cond y (goes next new) z)
+know :
+    (s : Symbol) (t : Token) (y : Bool) (next : List Symbol) (new : List Said) (z : Step) → Known s t z →
+    Known s t (cond y (goes next new) z)
 know s t true next new z k = tt
 know s t false next new z k = k
 

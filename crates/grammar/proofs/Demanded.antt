@@ -2,22 +2,19 @@
 use Prim.Native.Nat.{ℕ, _≤_}
 use mathlib.Core.Path.{_≡_, refl, sym, ap, subst, _∙_}
 use mathlib.Core.Bool.{Bool, true, false, cond}
-use mathlib.Core.List.{List, [], _∷_, _++_, append-nil}
+use mathlib.Core.List.{List, [], _∷_, append-nil}
 use native.Mathlib.Omega.{arith}
 use lib.Dec.{ltb}
 use lib.ListN.{length}
 use borrow.Author.Tests.{le-ltb}
-use Rattle.spelling.specs.Tokens.{Token, textMost, bare, tokens}
+use Rattle.spelling.specs.Tokens.{Token, textMost, tokens}
 use Rattle.spelling.specs.Spelling.{Spells}
 use Rattle.spelling.proofs.Spelling.{spelt, spelt-only}
-use Rattle.grammar.specs.Said.{Said, Item, saidOf}
-use Rattle.grammar.specs.Tree.{Text, Plan}
-use Rattle.grammar.specs.Written.{textTokens, planTokens}
-use Rattle.grammar.specs.Saying.{textSays, planSays}
+use Rattle.grammar.specs.Said.{Item, saidOf}
 use Rattle.grammar.specs.Allowed.{depthMost}
 use Rattle.grammar.specs.Reader.{Symbol, text, lines, Outcome, read, refused, run}
 use Rattle.grammar.specs.Reading.{actionReading, planReading}
-use Rattle.grammar.specs.Demands.{Writes, WritesPlan, ActionDemands, PlanDemands}
+use Rattle.grammar.specs.Demands.{ActionDemands, PlanDemands}
 use Rattle.grammar.proofs.Meaning.{Val, print, tell}
 use Rattle.grammar.proofs.Along.{reads, written}
 

@@ -7,7 +7,7 @@ use mathlib.Core.Logic.{_⊎_, inl, inr, ⊎-elim}
 use native.Mathlib.Omega.{arith}
 use Rattle.laws.specs.Search.{all, lowest}
 use Rattle.laws.proofs.Search.{contrary}
-use Rattle.spelling.specs.Tokens.{Token, mark, word, stop, Placed, bare}
+use Rattle.spelling.specs.Tokens.{Token, stop, Placed, bare}
 use Rattle.spelling.specs.Keywords.{same, atWord, overWord, andWord, notWord, increaseWord, decreaseWord, startWord, endWord}
 use Rattle.spelling.specs.Keywords.{durativeWord, equalsWord, initWord}
 use Rattle.spelling.specs.Cursor.{isBracket, isSuch, isWord, isStop}
@@ -306,7 +306,8 @@ module _ (d : ℕ) where
       opened-up k e f =
           let τ = items k zero ∷ lifts 1 σ in
           let l = ap (λ u. step (suc d) (lift 1 u) (p .token)) e ∙ one-deeper (suc d) k (p .token) f in
-          (prints (suc d) τ (anys (suc d) τ), back (suc d) (lift 1 s) (lifts 1 σ) (p .token) (items k zero ∷ []) [] _ l (anys (suc d) τ, refl))
+          let g = back (suc d) (lift 1 s) (lifts 1 σ) (p .token) (items k zero ∷ []) [] _ l (anys (suc d) τ, refl) in
+          (prints (suc d) τ (anys (suc d) τ), g)
 
   fault-later :
       (s : Symbol) (σ : List Symbol) (p : Placed) (ps : List Placed) (next : List Symbol) (new : List Said) (n line : ℕ) →
@@ -325,11 +326,10 @@ module _ (d : ℕ) where
             f .cannot us (led d σ next new (o .0) (o .1) _ (sym e ∙ o .2) (o .3));
         which = f .which;
         deeper = λ q.
-            let g = f .deeper q in (
-              g .0,
-              back (suc d) (lift 1 s) (lifts 1 σ) (p .token) (lifts 1 next) new _ (lifted 1)
-                  (subst (λ (τ : List Symbol). Generates (suc d) τ (bare (f .before) ++ f .at .token ∷ g .0)) (lifts-append 1 next σ) (g .1)),
-            );
+            let g = f .deeper q in
+            let ts = bare (f .before) ++ f .at .token ∷ g .0 in
+            let h = subst (λ (τ : List Symbol). Generates (suc d) τ ts) (lifts-append 1 next σ) (g .1) in
+            (g .0, back (suc d) (lift 1 s) (lifts 1 σ) (p .token) (lifts 1 next) new ts (lifted 1) h);
         never = λ q j us g.
             let o = on (raise j d) (lift j s) (lifts j σ) (p .token) _ g in
             let h = led (raise j d) (lifts j σ) (lifts j next) new (o .0) (o .1) _ (sym (lifted j) ∙ o .2) (o .3) in

@@ -1,14 +1,14 @@
 -- Each way in which one token decides, with the parts that it leaves to come and what they make up.
 use Prim.Native.Nat.{ℕ, suc}
 use mathlib.Core.Path.{_≡_, refl, sym, ap, _∙_}
-use mathlib.Core.Bool.{Bool, true, false}
+use mathlib.Core.Bool.{true, false}
 use mathlib.Core.List.{List, [], _∷_, _++_, append-assoc, append-nil}
 use Rattle.spelling.specs.Tokens.{Token, mark, word, stop}
-use Rattle.spelling.specs.Keywords.{atWord, overWord, andWord, notWord, increaseWord, decreaseWord, startWord, endWord, allWord}
+use Rattle.spelling.specs.Keywords.{atWord, overWord, andWord, notWord, increaseWord, decreaseWord, allWord}
 use Rattle.spelling.specs.Keywords.{durativeWord, durationWord, equalsWord, askedWord, conditionWord, effectWord, initWord, goalWord}
 use Rattle.spelling.specs.Numbers.{ticks}
 use Rattle.grammar.specs.Said.{Point, start, end, Place, wanted, set, reached, given, atStart, overAll, atEnd, whenOf}
-use Rattle.grammar.specs.Said.{Role, action, fact, rise, fall, stock, planned, Said, number}
+use Rattle.grammar.specs.Said.{action, fact, rise, fall, stock, Said, number}
 use Rattle.grammar.specs.Said as say
 use Rattle.grammar.specs.Tree.{Word, Literal, plain, negated, Change, sets, increases, decreases, Kind, conditions, effects, goals}
 use Rattle.grammar.specs.Tree.{Leaf, Tree, one, both, Trees, none, more, Action, Init, holds, level, Text}
@@ -17,9 +17,9 @@ use Rattle.grammar.specs.Written.{inBrackets, pointWord, literalTokens, 
 use Rattle.grammar.specs.Written.{actionTokens, actionsTokens, initTokens, initsTokens, textTokens, lineTokens, planTokens}
 use Rattle.grammar.specs.Saying.{literalSays, changeSays, leafSays, treeSays, treesSay, actionSays, actionsSay, initSays, initsSay}
 use Rattle.grammar.specs.Saying.{textSays, lineSays, planSays}
-use Rattle.grammar.specs.Allowed.{IsName, IsWhole, IsTime, LiteralOk, ChangeOk, LeafOk, TreeOk, TreesOk, ActionOk, ActionsOk}
+use Rattle.grammar.specs.Allowed.{IsName, IsWhole, LiteralOk, ChangeOk, TreeOk, TreesOk, ActionOk, ActionsOk}
 use Rattle.grammar.specs.Allowed.{InitOk, InitsOk, TextOk, LineOk, PlanOk}
-use Rattle.grammar.specs.Reader.{Symbol, bracket, keyword, name, time, amount, finish, text, textBody, inits, initBody}
+use Rattle.grammar.specs.Reader.{keyword, name, text, textBody, inits, initBody}
 use Rattle.grammar.specs.Reader.{item, body, items, conditionPoint, effectPoint, literal, literalBody, change, changeBody}
 use Rattle.grammar.specs.Reader.{lines, lineEnd, opening, closing, levelSymbols, actionSymbols, initSymbols, lineSymbols}
 use Rattle.grammar.proofs.Meaning.{tail, ended, followed, Made}

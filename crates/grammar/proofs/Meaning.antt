@@ -1,7 +1,6 @@
 -- What each symbol of the reader stands for: a part of a tree that is allowed, how that is written and what it says.
 use Prim.Native.Nat.{ℕ}
 use mathlib.Core.Path.{_≡_, refl, sym, ap, _∙_}
-use mathlib.Core.Bool.{true}
 use mathlib.Core.List.{List, [], _∷_, _++_, append-assoc}
 use Rattle.spelling.specs.Tokens.{Token, mark, word, stop}
 use Rattle.spelling.specs.Numbers.{spelled, ticks}
@@ -14,7 +13,7 @@ use Rattle.grammar.specs.Saying.{literalSays, changeSays, treeSays, tree
 use Rattle.grammar.specs.Allowed.{IsName, IsWhole, IsTime, LiteralOk, ChangeOk, TreeOk, TreesOk, InitOk, InitsOk, TextOk, PlanOk}
 use Rattle.grammar.specs.Reader.{Symbol, bracket, keyword, name, time, amount, finish, text, textBody, inits, initBody}
 use Rattle.grammar.specs.Reader.{item, body, items, conditionPoint, effectPoint, literal, literalBody, change, changeBody}
-use Rattle.grammar.specs.Reader.{lines, lineEnd, goes, step}
+use Rattle.grammar.specs.Reader.{lines, lineEnd}
 
 -- behind the opening bracket
 abbrev pub tail : List Token → List Token

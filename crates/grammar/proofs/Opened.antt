@@ -1,32 +1,28 @@
 -- Whatever a symbol stands for begins with a token that the reader takes, and the rest is what the symbols to come stand for.
 use Prim.Native.Nat.{ℕ, zero, suc}
-use mathlib.Core.Path.{_≡_, refl, sym, ap, _∙_}
-use mathlib.Core.Bool.{Bool, true, false, cond}
-use mathlib.Core.List.{List, [], _∷_, _++_, append-nil}
-use lib.Dec.{eqb}
-use lib.ListN.{length, getD}
+use mathlib.Core.Path.{_≡_, refl, ap, _∙_}
+use mathlib.Core.Bool.{Bool, true, false}
+use mathlib.Core.List.{List, [], _∷_, append-nil}
 use borrow.Author.Tests.{eq-eqb}
 use Rattle.laws.specs.Search.{all}
 use Rattle.laws.proofs.Search.{contrary}
 use Rattle.spelling.specs.Tokens.{Token, mark, word, stop}
-use Rattle.spelling.specs.Keywords.{same, atWord, overWord, andWord, notWord, increaseWord, decreaseWord, startWord, endWord, allWord}
-use Rattle.spelling.specs.Keywords.{durativeWord, equalsWord, initWord}
+use Rattle.spelling.specs.Keywords.{same, andWord, notWord, increaseWord, decreaseWord}
+use Rattle.spelling.specs.Keywords.{equalsWord}
 use Rattle.spelling.specs.Names.{isLetter, isDigit, isNameByte, isReserved, isName}
-use Rattle.spelling.specs.Numbers.{spelled, ticks}
 use Rattle.spelling.specs.Cursor.{isBracket, isSuch, isStop}
 use Rattle.spelling.proofs.Same.{same-eq, same-refl}
-use Rattle.grammar.specs.Said.{When, Point, start, end, Place, wanted, set, reached, given, atStart, overAll, atEnd, whenOf}
-use Rattle.grammar.specs.Said.{fact, rise, fall, stock, Said, number}
+use Rattle.grammar.specs.Said.{When, Point, start, end, Place, atStart, overAll, atEnd}
+use Rattle.grammar.specs.Said.{Said}
 use Rattle.grammar.specs.Said as say
 use Rattle.grammar.specs.Tree.{Word, Literal, plain, negated, Change, sets, increases, decreases, Kind, conditions, effects, goals}
-use Rattle.grammar.specs.Tree.{Leaf, Tree, one, both, Trees, none, more, Action, Init, holds, level, Text}
-use Rattle.grammar.specs.Tree.{Line, Plan, nothing, last, blank, then}
-use Rattle.grammar.specs.Written.{pointWord}
+use Rattle.grammar.specs.Tree.{Leaf, Tree, one, both, Trees, none, more, Action, Init, holds, level}
+use Rattle.grammar.specs.Tree.{Plan, nothing, last, blank, then}
 use Rattle.grammar.specs.Allowed.{IsName, LiteralOk, ChangeOk, LeafOk, TreeOk, TreesOk, ActionsOk, InitOk, InitsOk, PlanOk}
 use Rattle.grammar.specs.Reader.{Symbol, bracket, keyword, name, time, amount, finish, text, textBody, inits, initBody}
 use Rattle.grammar.specs.Reader.{item, body, items, conditionPoint, effectPoint, literal, literalBody, change, changeBody}
-use Rattle.grammar.specs.Reader.{lines, lineEnd, Step, goes, fails, bytes, deeper, leafStep, step}
-use Rattle.grammar.proofs.Meaning.{After, AfterOk, ended, followed, Val, Vals, print, tell, prints, tells, Made}
+use Rattle.grammar.specs.Reader.{lines, lineEnd, goes, bytes, deeper, leafStep, step}
+use Rattle.grammar.proofs.Meaning.{After, AfterOk, ended, followed, Val, Vals, print, tell, Made}
 use Rattle.grammar.proofs.Made.{made-literal, made-change, made-item, made-text, made-plain, made-negated, made-sets-plain}
 use Rattle.grammar.proofs.Made.{made-sets-negated, made-increases, made-decreases, made-holds, made-level, made-wants, made-does}
 use Rattle.grammar.proofs.Made.{made-at-start, made-at-end, made-over-all, made-effect, made-goal-plain, made-goal-negated, made-and}

@@ -1,14 +1,12 @@
 -- Every refusal lies at the first token that cannot stand there.
-use Prim.Native.Nat.{ℕ, zero, suc, _+_, _-_, _≤_}
+use Prim.Native.Nat.{ℕ, zero, suc, _+_, _-_}
 use native.Mathlib.Nat.{zero-add, suc-add}
 use mathlib.Core.Path.{_≡_, refl, sym, ap, subst, _∙_}
-use mathlib.Core.Bool.{Bool, true, false, cond}
+use mathlib.Core.Bool.{Bool, true, false}
 use mathlib.Core.List.{List, [], _∷_, _++_, append-assoc, append-nil}
 use native.Mathlib.Omega.{arith}
-use lib.Dec.{ltb}
-use lib.ListN.{length}
 use borrow.Author.Tests.{le-ltb}
-use Rattle.spelling.specs.Tokens.{Token, mark, word, stop, textMost, Placed, bare, tokens}
+use Rattle.spelling.specs.Tokens.{Token, mark, word, stop, Placed, bare, tokens}
 use Rattle.spelling.specs.Spelling.{Spells}
 use Rattle.spelling.specs.Spelling as spells
 use Rattle.spelling.proofs.Spelling.{spelt}
@@ -74,11 +72,12 @@ module _ (plan : Bool) (root : Symbol) (shape : Shaped (root ∷ [])) (same : (j
                 begins root (suc depthMost) ts t (g .0)
                 (subst (λ (r : Symbol). Generates (suc depthMost) (r ∷ []) (ts ++ t ∷ g .0)) (same 1) (g .1));
             never = λ q d h b.
-                let m : d ≡ raise (d - depthMost) depthMost = (let k : d ≡ d - depthMost + depthMost = omega arith in k ∙ sym (raised (d - depthMost) depthMost)) in
-                let c = subst (λ (x : ℕ). Begins root x (ts ++ (t ∷ []))) m b in
-                f .never q (d - depthMost) (c .0)
-                (subst (λ (r : Symbol). Generates (raise (d - depthMost) depthMost) (r ∷ []) (ts ++ t ∷ c .0)) (sym (same (d - depthMost)))
-                (generates root (raise (d - depthMost) depthMost) ts t c));
+                let j = d - depthMost in
+                let k : d ≡ d - depthMost + depthMost = omega arith in
+                let c = subst (λ (x : ℕ). Begins root x (ts ++ (t ∷ []))) (k ∙ sym (raised j depthMost)) b in
+                f .never q j (c .0)
+                (subst (λ (r : Symbol). Generates (raise j depthMost) (r ∷ []) (ts ++ t ∷ c .0)) (sym (same j))
+                (generates root (raise j depthMost) ts t c));
           }
 
 -- said in other words

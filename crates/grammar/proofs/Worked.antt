@@ -1,18 +1,24 @@
 -- Small texts of suppliers, computed: what is read says, and where the others are refused.
 use Prim.Native.Nat.{ℕ}
+use Prim.Native.String.{String}
 use mathlib.Core.Path.{_≡_, refl}
 use mathlib.Core.Bool.{true, false}
-use mathlib.Core.List.{List, [], _∷_}
+use mathlib.Core.List.{List, [], _∷_, _++_}
 use Rattle.laws.specs.Search.{all, lowest}
 use Rattle.spelling.specs.Tokens.{isBlank, isMark, inWord, lineAfter, joins, grown, withByte, tokens}
-use Rattle.spelling.specs.Keywords.{same}
+use Rattle.spelling.specs.Keywords.{same, codes}
 use Rattle.spelling.specs.Names.{isLetter, isDigit, isNameByte, isReserved, isName}
 use Rattle.spelling.specs.Numbers.{areDigits, spelledFrom, isWhole, pointAt, isTime, ticks}
 use Rattle.spelling.specs.Cursor.{isBracket, isSuch, isStop}
-use Rattle.grammar.specs.Said.{atStart, overAll, start, end, wanted, set, reached, given, action, fact, rise, stock, planned}
+use Rattle.grammar.specs.Said.{atStart, overAll, end, wanted, reached, given, action, fact, rise, stock, planned}
 use Rattle.grammar.specs.Said.{Said, name, number, Item, onLine}
 use Rattle.grammar.specs.Reader.{Outcome, read, refused, onward, bytes, deeper, leafStep, step, run}
 use Rattle.grammar.specs.Reading.{actionReading, planReading}
+
+-- a text, line by line
+abbrev written : List String → List ℕ
+written [] = []
+written (l ∷ ls) = codes l ++ 10 ∷ written ls
 
 -- an item on a line
 abbrev on : ℕ → Said → Item
@@ -23,69 +29,53 @@ abbrev place : Outcome → List ℕ
 place (read is) = []
 place (refused n l is) = n ∷ l ∷ []
 
--- `(:init)(:goal(and))`
+-- no action, nothing given, no goal
 nothing-to-do :
-    actionReading (40 ∷ 58 ∷ 105 ∷ 110 ∷ 105 ∷ 116 ∷ 41 ∷ 40 ∷ 58 ∷ 103 ∷ 111 ∷ 97 ∷ 108 ∷ 40 ∷ 97 ∷ 110 ∷ 100 ∷ 41 ∷ 41 ∷ [])
-    ≡ read ([])
+    actionReading (codes "(:init)(:goal(and))")
+    ≡ read []
 unfolding actionReading isBlank isMark inWord lineAfter joins grown withByte tokens same isLetter isDigit isNameByte isReserved
     isName all lowest areDigits spelledFrom isWhole pointAt isTime ticks isBracket isSuch isStop onLine onward bytes deeper leafStep
     step run
 nothing-to-do = refl
 
--- an action that wants, sets and raises, each on a line of its own
+-- an action that wants two facts and raises a level
 one-action :
-    actionReading (40 ∷ 58 ∷ 100 ∷ 117 ∷ 114 ∷ 97 ∷ 116 ∷ 105 ∷ 118 ∷ 101 ∷ 45 ∷ 97 ∷ 99 ∷ 116 ∷ 105 ∷ 111 ∷ 110 ∷ 32
-    ∷ 117 ∷ 112 ∷ 10 ∷ 58 ∷ 100 ∷ 117 ∷ 114 ∷ 97 ∷ 116 ∷ 105 ∷ 111 ∷ 110 ∷ 40 ∷ 61 ∷ 32 ∷ 63 ∷ 100 ∷ 117 ∷ 114 ∷ 97 ∷ 116
-    ∷ 105 ∷ 111 ∷ 110 ∷ 32 ∷ 48 ∷ 46 ∷ 53 ∷ 41 ∷ 10 ∷ 58 ∷ 99 ∷ 111 ∷ 110 ∷ 100 ∷ 105 ∷ 116 ∷ 105 ∷ 111 ∷ 110 ∷ 40 ∷ 97
-    ∷ 110 ∷ 100 ∷ 40 ∷ 97 ∷ 116 ∷ 32 ∷ 115 ∷ 116 ∷ 97 ∷ 114 ∷ 116 ∷ 40 ∷ 102 ∷ 41 ∷ 41 ∷ 10 ∷ 40 ∷ 111 ∷ 118 ∷ 101 ∷ 114
-    ∷ 32 ∷ 97 ∷ 108 ∷ 108 ∷ 40 ∷ 110 ∷ 111 ∷ 116 ∷ 40 ∷ 103 ∷ 41 ∷ 41 ∷ 41 ∷ 41 ∷ 10 ∷ 58 ∷ 101 ∷ 102 ∷ 102 ∷ 101 ∷ 99
-    ∷ 116 ∷ 40 ∷ 97 ∷ 116 ∷ 32 ∷ 101 ∷ 110 ∷ 100 ∷ 40 ∷ 105 ∷ 110 ∷ 99 ∷ 114 ∷ 101 ∷ 97 ∷ 115 ∷ 101 ∷ 40 ∷ 108 ∷ 41 ∷ 51
-    ∷ 41 ∷ 41 ∷ 41 ∷ 10 ∷ 40 ∷ 58 ∷ 105 ∷ 110 ∷ 105 ∷ 116 ∷ 40 ∷ 102 ∷ 41 ∷ 40 ∷ 61 ∷ 32 ∷ 40 ∷ 108 ∷ 41 ∷ 55 ∷ 41 ∷ 41
-    ∷ 40 ∷ 58 ∷ 103 ∷ 111 ∷ 97 ∷ 108 ∷ 40 ∷ 102 ∷ 41 ∷ 41 ∷ [])
-    ≡ read (on 0 (name action (117 ∷ 112 ∷ [])) ∷ on 1 (number 500) ∷ on 2 (name (fact (wanted atStart) true) (102 ∷ []))
-    ∷ on 3 (name (fact (wanted overAll) false) (103 ∷ [])) ∷ on 4 (name (rise end) (108 ∷ [])) ∷ on 4 (number 3)
-    ∷ on 5 (name (fact given true) (102 ∷ [])) ∷ on 5 (name stock (108 ∷ [])) ∷ on 5 (number 7)
-    ∷ on 5 (name (fact reached true) (102 ∷ [])) ∷ [])
+    actionReading (written ("(:durative-action raise" ∷ ":duration (= ?duration 0.5)" ∷ ":condition (and (at start (free))"
+    ∷ "(over all (not (shut))))" ∷ ":effect (at end (increase (cars) 3)))" ∷ "(:init (free) (= (cars) 7)) (:goal (free))" ∷ []))
+    ≡ read (on 0 (name action (codes "raise")) ∷ on 1 (number 500)
+    ∷ on 2 (name (fact (wanted atStart) true) (codes "free")) ∷ on 3 (name (fact (wanted overAll) false) (codes "shut"))
+    ∷ on 4 (name (rise end) (codes "cars")) ∷ on 4 (number 3) ∷ on 5 (name (fact given true) (codes "free"))
+    ∷ on 5 (name stock (codes "cars")) ∷ on 5 (number 7) ∷ on 5 (name (fact reached true) (codes "free")) ∷ [])
 unfolding actionReading isBlank isMark inWord lineAfter joins grown withByte tokens same isLetter isDigit isNameByte isReserved
     isName all lowest areDigits spelledFrom isWhole pointAt isTime ticks isBracket isSuch isStop onLine onward bytes deeper leafStep
     step run
 one-action = refl
 
 -- an empty text ends where something is expected
-no-text :
-    place (actionReading [])
-    ≡ 18 ∷ 0 ∷ []
+no-text : place (actionReading []) ≡ 18 ∷ 0 ∷ []
 unfolding actionReading isBlank isMark inWord lineAfter joins grown withByte tokens same isLetter isDigit isNameByte isReserved
     isName all lowest areDigits spelledFrom isWhole pointAt isTime ticks isBracket isSuch isStop onLine onward bytes deeper leafStep
     step run
 no-text = refl
 
--- a goal is one item: `(:goal)` is refused at its bracket
-no-goal :
-    place (actionReading (40 ∷ 58 ∷ 105 ∷ 110 ∷ 105 ∷ 116 ∷ 41 ∷ 10 ∷ 40 ∷ 58 ∷ 103 ∷ 111 ∷ 97 ∷ 108 ∷ 10 ∷ 41 ∷ []))
-    ≡ 18 ∷ 2 ∷ []
+-- a goal is one item at least, be it (and)
+no-goal : place (actionReading (codes "(:init)\n(:goal\n)")) ≡ 18 ∷ 2 ∷ []
 unfolding actionReading isBlank isMark inWord lineAfter joins grown withByte tokens same isLetter isDigit isNameByte isReserved
     isName all lowest areDigits spelledFrom isWhole pointAt isTime ticks isBracket isSuch isStop onLine onward bytes deeper leafStep
     step run
 no-goal = refl
 
 -- nothing stands behind the goal
-after-goal :
-    place (actionReading (40 ∷ 58 ∷ 105 ∷ 110 ∷ 105 ∷ 116 ∷ 41 ∷ 40 ∷ 58 ∷ 103 ∷ 111 ∷ 97 ∷ 108 ∷ 40 ∷ 97 ∷ 110 ∷ 100
-    ∷ 41 ∷ 41 ∷ 10 ∷ 40 ∷ []))
-    ≡ 18 ∷ 1 ∷ []
+after-goal : place (actionReading (codes "(:init)(:goal(and))\n(")) ≡ 18 ∷ 1 ∷ []
 unfolding actionReading isBlank isMark inWord lineAfter joins grown withByte tokens same isLetter isDigit isNameByte isReserved
     isName all lowest areDigits spelledFrom isWhole pointAt isTime ticks isBracket isSuch isStop onLine onward bytes deeper leafStep
     step run
 after-goal = refl
 
--- one fact stands under `at start`
+-- one fact stands under at start
 two-under-at :
-    place (actionReading (40 ∷ 58 ∷ 100 ∷ 117 ∷ 114 ∷ 97 ∷ 116 ∷ 105 ∷ 118 ∷ 101 ∷ 45 ∷ 97 ∷ 99 ∷ 116 ∷ 105 ∷ 111 ∷ 110
-    ∷ 32 ∷ 97 ∷ 32 ∷ 58 ∷ 100 ∷ 117 ∷ 114 ∷ 97 ∷ 116 ∷ 105 ∷ 111 ∷ 110 ∷ 40 ∷ 61 ∷ 32 ∷ 63 ∷ 100 ∷ 117 ∷ 114 ∷ 97 ∷ 116
-    ∷ 105 ∷ 111 ∷ 110 ∷ 32 ∷ 49 ∷ 41 ∷ 58 ∷ 99 ∷ 111 ∷ 110 ∷ 100 ∷ 105 ∷ 116 ∷ 105 ∷ 111 ∷ 110 ∷ 40 ∷ 97 ∷ 116 ∷ 32 ∷ 115
-    ∷ 116 ∷ 97 ∷ 114 ∷ 116 ∷ 40 ∷ 102 ∷ 41 ∷ 10 ∷ 40 ∷ 103 ∷ 41 ∷ 41 ∷ []))
-    ≡ 18 ∷ 1 ∷ []
+    place (actionReading (written ("(:durative-action a :duration (= ?duration 1)" ∷ ":condition (at start (f)" ∷ "(g))" ∷ [])))
+    ≡ 18 ∷ 2 ∷ []
 unfolding actionReading isBlank isMark inWord lineAfter joins grown withByte tokens same isLetter isDigit isNameByte isReserved
     isName all lowest areDigits spelledFrom isWhole pointAt isTime ticks isBracket isSuch isStop onLine onward bytes deeper leafStep
     step run
@@ -93,34 +83,34 @@ two-under-at = refl
 
 -- an effect is not over all
 over-effect :
-    place (actionReading (40 ∷ 58 ∷ 100 ∷ 117 ∷ 114 ∷ 97 ∷ 116 ∷ 105 ∷ 118 ∷ 101 ∷ 45 ∷ 97 ∷ 99 ∷ 116 ∷ 105 ∷ 111 ∷ 110
-    ∷ 32 ∷ 97 ∷ 32 ∷ 58 ∷ 100 ∷ 117 ∷ 114 ∷ 97 ∷ 116 ∷ 105 ∷ 111 ∷ 110 ∷ 40 ∷ 61 ∷ 32 ∷ 63 ∷ 100 ∷ 117 ∷ 114 ∷ 97 ∷ 116
-    ∷ 105 ∷ 111 ∷ 110 ∷ 32 ∷ 49 ∷ 41 ∷ 58 ∷ 99 ∷ 111 ∷ 110 ∷ 100 ∷ 105 ∷ 116 ∷ 105 ∷ 111 ∷ 110 ∷ 40 ∷ 97 ∷ 110 ∷ 100 ∷ 41
-    ∷ 58 ∷ 101 ∷ 102 ∷ 102 ∷ 101 ∷ 99 ∷ 116 ∷ 40 ∷ 10 ∷ 111 ∷ 118 ∷ 101 ∷ 114 ∷ 32 ∷ 97 ∷ 108 ∷ 108 ∷ 40 ∷ 102 ∷ 41 ∷ 41
-    ∷ 41 ∷ []))
-    ≡ 18 ∷ 1 ∷ []
+    place (actionReading (written ("(:durative-action a :duration (= ?duration 1)" ∷ ":condition (and) :effect ("
+    ∷ "over all (f)))" ∷ [])))
+    ≡ 18 ∷ 2 ∷ []
 unfolding actionReading isBlank isMark inWord lineAfter joins grown withByte tokens same isLetter isDigit isNameByte isReserved
     isName all lowest areDigits spelledFrom isWhole pointAt isTime ticks isBracket isSuch isStop onLine onward bytes deeper leafStep
     step run
 over-effect = refl
 
--- init knows no `not`
-not-in-init :
-    place (actionReading (40 ∷ 58 ∷ 105 ∷ 110 ∷ 105 ∷ 116 ∷ 40 ∷ 10 ∷ 110 ∷ 111 ∷ 116 ∷ 40 ∷ 102 ∷ 41 ∷ 41 ∷ 41 ∷ []))
-    ≡ 18 ∷ 1 ∷ []
+-- init knows no not
+not-in-init : place (actionReading (codes "(:init(\nnot(f)))")) ≡ 18 ∷ 1 ∷ []
 unfolding actionReading isBlank isMark inWord lineAfter joins grown withByte tokens same isLetter isDigit isNameByte isReserved
     isName all lowest areDigits spelledFrom isWhole pointAt isTime ticks isBracket isSuch isStop onLine onward bytes deeper leafStep
     step run
 not-in-init = refl
 
+-- a condition stands under its time
+bare-condition :
+    place (actionReading (written ("(:durative-action a :duration (= ?duration 1)" ∷ ":condition (" ∷ "f))" ∷ [])))
+    ≡ 18 ∷ 2 ∷ []
+unfolding actionReading isBlank isMark inWord lineAfter joins grown withByte tokens same isLetter isDigit isNameByte isReserved
+    isName all lowest areDigits spelledFrom isWhole pointAt isTime ticks isBracket isSuch isStop onLine onward bytes deeper leafStep
+    step run
+bare-condition = refl
+
 -- sixteen (and ..) inside one another
 sixteen-deep :
-    actionReading (40 ∷ 58 ∷ 105 ∷ 110 ∷ 105 ∷ 116 ∷ 41 ∷ 40 ∷ 58 ∷ 103 ∷ 111 ∷ 97 ∷ 108 ∷ 40 ∷ 97 ∷ 110 ∷ 100 ∷ 40 ∷ 97
-    ∷ 110 ∷ 100 ∷ 40 ∷ 97 ∷ 110 ∷ 100 ∷ 40 ∷ 97 ∷ 110 ∷ 100 ∷ 40 ∷ 97 ∷ 110 ∷ 100 ∷ 40 ∷ 97 ∷ 110 ∷ 100 ∷ 40 ∷ 97 ∷ 110
-    ∷ 100 ∷ 40 ∷ 97 ∷ 110 ∷ 100 ∷ 40 ∷ 97 ∷ 110 ∷ 100 ∷ 40 ∷ 97 ∷ 110 ∷ 100 ∷ 40 ∷ 97 ∷ 110 ∷ 100 ∷ 40 ∷ 97 ∷ 110 ∷ 100
-    ∷ 40 ∷ 97 ∷ 110 ∷ 100 ∷ 40 ∷ 97 ∷ 110 ∷ 100 ∷ 40 ∷ 97 ∷ 110 ∷ 100 ∷ 40 ∷ 97 ∷ 110 ∷ 100 ∷ 41 ∷ 41 ∷ 41 ∷ 41 ∷ 41 ∷ 41
-    ∷ 41 ∷ 41 ∷ 41 ∷ 41 ∷ 41 ∷ 41 ∷ 41 ∷ 41 ∷ 41 ∷ 41 ∷ 41 ∷ [])
-    ≡ read ([])
+    actionReading (codes "(:init)(:goal(and(and(and(and(and(and(and(and(and(and(and(and(and(and(and(and)))))))))))))))))")
+    ≡ read []
 unfolding actionReading isBlank isMark inWord lineAfter joins grown withByte tokens same isLetter isDigit isNameByte isReserved
     isName all lowest areDigits spelledFrom isWhole pointAt isTime ticks isBracket isSuch isStop onLine onward bytes deeper leafStep
     step run
@@ -128,11 +118,7 @@ sixteen-deep = refl
 
 -- the seventeenth is refused at its word
 seventeen-deep :
-    place (actionReading (40 ∷ 58 ∷ 105 ∷ 110 ∷ 105 ∷ 116 ∷ 41 ∷ 40 ∷ 58 ∷ 103 ∷ 111 ∷ 97 ∷ 108 ∷ 40 ∷ 97 ∷ 110 ∷ 100
-    ∷ 40 ∷ 97 ∷ 110 ∷ 100 ∷ 40 ∷ 97 ∷ 110 ∷ 100 ∷ 40 ∷ 97 ∷ 110 ∷ 100 ∷ 40 ∷ 97 ∷ 110 ∷ 100 ∷ 40 ∷ 97 ∷ 110 ∷ 100 ∷ 40
-    ∷ 97 ∷ 110 ∷ 100 ∷ 40 ∷ 97 ∷ 110 ∷ 100 ∷ 40 ∷ 97 ∷ 110 ∷ 100 ∷ 40 ∷ 97 ∷ 110 ∷ 100 ∷ 40 ∷ 97 ∷ 110 ∷ 100 ∷ 40 ∷ 97
-    ∷ 110 ∷ 100 ∷ 40 ∷ 97 ∷ 110 ∷ 100 ∷ 40 ∷ 97 ∷ 110 ∷ 100 ∷ 40 ∷ 97 ∷ 110 ∷ 100 ∷ 40 ∷ 97 ∷ 110 ∷ 100 ∷ 40 ∷ 10 ∷ 97
-    ∷ 110 ∷ 100 ∷ []))
+    place (actionReading (codes "(:init)(:goal(and(and(and(and(and(and(and(and(and(and(and(and(and(and(and(and(\nand"))
     ≡ 19 ∷ 1 ∷ []
 unfolding actionReading isBlank isMark inWord lineAfter joins grown withByte tokens same isLetter isDigit isNameByte isReserved
     isName all lowest areDigits spelledFrom isWhole pointAt isTime ticks isBracket isSuch isStop onLine onward bytes deeper leafStep
@@ -141,10 +127,9 @@ seventeen-deep = refl
 
 -- a blank line, free blanks, and no line end at the end
 plan-lines :
-    planReading (48 ∷ 58 ∷ 32 ∷ 40 ∷ 97 ∷ 41 ∷ 32 ∷ 91 ∷ 32 ∷ 49 ∷ 32 ∷ 93 ∷ 10 ∷ 10 ∷ 49 ∷ 46 ∷ 53 ∷ 58 ∷ 40 ∷ 98 ∷ 41
-    ∷ 91 ∷ 50 ∷ 93 ∷ [])
-    ≡ read (on 0 (number 0) ∷ on 0 (name planned (97 ∷ [])) ∷ on 0 (number 1000) ∷ on 2 (number 1500)
-    ∷ on 2 (name planned (98 ∷ [])) ∷ on 2 (number 2000) ∷ [])
+    planReading (codes "0: (rise) [ 1 ]\n\n1.5:(fall)[2]")
+    ≡ read (on 0 (number 0) ∷ on 0 (name planned (codes "rise")) ∷ on 0 (number 1000) ∷ on 2 (number 1500)
+    ∷ on 2 (name planned (codes "fall")) ∷ on 2 (number 2000) ∷ [])
 unfolding planReading isBlank isMark inWord lineAfter joins grown withByte tokens same isLetter isDigit isNameByte isReserved
     isName all lowest areDigits spelledFrom isWhole pointAt isTime ticks isBracket isSuch isStop onLine onward bytes deeper leafStep
     step run
@@ -153,25 +138,21 @@ plan-lines = refl
 -- an empty plan
 empty-plan :
     planReading []
-    ≡ read ([])
+    ≡ read []
 unfolding planReading isBlank isMark inWord lineAfter joins grown withByte tokens same isLetter isDigit isNameByte isReserved
     isName all lowest areDigits spelledFrom isWhole pointAt isTime ticks isBracket isSuch isStop onLine onward bytes deeper leafStep
     step run
 empty-plan = refl
 
 -- two plan lines on one line
-two-on-a-line :
-    place (planReading (10 ∷ 48 ∷ 58 ∷ 40 ∷ 97 ∷ 41 ∷ 91 ∷ 49 ∷ 93 ∷ 32 ∷ 49 ∷ 58 ∷ 40 ∷ 98 ∷ 41 ∷ 91 ∷ 49 ∷ 93 ∷ []))
-    ≡ 18 ∷ 1 ∷ []
+two-on-a-line : place (planReading (codes "\n0:(a)[1] 1:(b)[1]")) ≡ 18 ∷ 1 ∷ []
 unfolding planReading isBlank isMark inWord lineAfter joins grown withByte tokens same isLetter isDigit isNameByte isReserved
     isName all lowest areDigits spelledFrom isWhole pointAt isTime ticks isBracket isSuch isStop onLine onward bytes deeper leafStep
     step run
 two-on-a-line = refl
 
 -- a plan line over two lines is refused at the line end
-broken-line :
-    place (planReading (48 ∷ 58 ∷ 40 ∷ 97 ∷ 41 ∷ 10 ∷ 91 ∷ 49 ∷ 93 ∷ []))
-    ≡ 18 ∷ 0 ∷ []
+broken-line : place (planReading (codes "0:(a)\n[1]")) ≡ 18 ∷ 0 ∷ []
 unfolding planReading isBlank isMark inWord lineAfter joins grown withByte tokens same isLetter isDigit isNameByte isReserved
     isName all lowest areDigits spelledFrom isWhole pointAt isTime ticks isBracket isSuch isStop onLine onward bytes deeper leafStep
     step run

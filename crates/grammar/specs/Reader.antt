@@ -8,7 +8,7 @@ use Rattle.spelling.specs.Keywords.{durativeWord, durationWord, equalsWord, ask
 use Rattle.spelling.specs.Names.{isName}
 use Rattle.spelling.specs.Numbers.{spelled, ticks, isWhole, isTime}
 use Rattle.spelling.specs.Cursor.{isBracket, isSuch, isWord, isStop}
-use Rattle.grammar.specs.Said.{When, atStart, overAll, atEnd, Point, start, end, Place, wanted, set, reached, given}
+use Rattle.grammar.specs.Said.{atStart, overAll, atEnd, Point, start, end, Place, wanted, set, reached, given}
 use Rattle.grammar.specs.Said.{Role, action, fact, rise, fall, stock, planned, Said, number, Item, onLine}
 use Rattle.grammar.specs.Said as say
 use Rattle.grammar.specs.Tree.{Kind, conditions, effects, goals}

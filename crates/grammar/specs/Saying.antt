@@ -1,5 +1,5 @@
 -- Between crates: what a tree says, in the order of the text.
-use Prim.Native.Nat.{ℕ}
+
 use mathlib.Core.Bool.{true, false}
 use mathlib.Core.List.{List, [], _∷_, _++_}
 use Rattle.spelling.specs.Numbers.{spelled, ticks}

@@ -1,7 +1,7 @@
 -- Numbers read digit by digit: every byte passed is a digit, and the number is what they spell.
 use Prim.Native.Nat.{ℕ, zero, suc, _+_, _-_, _*_, _^_, _≤_, _<_}
 use mathlib.Core.Path.{_≡_, refl, sym, ap, subst, _∙_}
-use mathlib.Core.Bool.{Bool, true, false, cond, not, _||_, _&&_, and-false}
+use mathlib.Core.Bool.{Bool, true, false, not, _||_, _&&_, and-false}
 use mathlib.Core.List.{List, [], _∷_, _++_}
 use mathlib.Core.Logic.{⊎-elim}
 use native.Mathlib.Omega.{arith}
@@ -11,7 +11,7 @@ use lib.Dec.{eqb, leb, ltb}
 use lib.ListN.{length, getD, take, drop, drop-of-length-le}
 use lib.Seq.{slice, slice-empty, length-slice, length-take-le, take-suc, take-take, drop-append-le, drop-drop}
 use borrow.Author.Tests.{eqb-true, eqb-false, ltb-true, ltb-false, leb-true, eq-eqb, ne-eqb, le-leb, lt-leb, not-false}
-use Rattle.laws.specs.Search.{all, lowest}
+use Rattle.laws.specs.Search.{lowest}
 use Rattle.laws.proofs.Search.{and-l, and-both, or-both, or-out, lowest-is}
 use Rattle.spelling.specs.Names.{isDigit}
 use Rattle.spelling.specs.Numbers.{areDigits, spelledFrom, spelled, digitsOf, Below}

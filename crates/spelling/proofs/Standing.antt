@@ -1,19 +1,18 @@
 -- The token at a cursor, told from the bytes.
 use Prim.Native.Nat.{ℕ, _≤_, _<_}
-use mathlib.Core.Path.{_≡_, refl, sym, ap, _∙_}
-use mathlib.Core.Bool.{Bool, true, false, cond, not, _&&_}
+use mathlib.Core.Path.{_≡_, refl, sym, _∙_}
+use mathlib.Core.Bool.{Bool, true, false, not, _&&_}
 use mathlib.Core.List.{List}
 use native.Mathlib.Omega.{arith}
 use native.Mathlib.Decide.{decLt}
-use lib.Dec.{eqb, ltb}
+use lib.Dec.{eqb}
 use lib.ListN.{length, getD}
 use lib.Seq.{slice}
 use borrow.Author.Tests.{lt-ltb, le-ltb, eq-eqb, ne-eqb, not-true, not-false}
 use Rattle.laws.proofs.Search.{contrary}
 use Rattle.spelling.specs.Tokens.{Token, mark, word, stop, isMark}
-use Rattle.spelling.specs.Keywords.{same}
 use Rattle.spelling.specs.Numbers.{wholeOf, timeOf}
-use Rattle.spelling.specs.Cursor.{here, Standing, isBracket, isSuch, isWord, isStop, wholeAt, timeAt}
+use Rattle.spelling.specs.Cursor.{here, Standing, isBracket, isSuch, isStop, wholeAt, timeAt}
 use Rattle.spelling.specs.declared.Cursor.{Cursor}
 use Rattle.spelling.specs.declared.numbers.Spelt.{Spelt}
 use Rattle.spelling.specs.declared.numbers.Spelt.the-variants.{Nothing}

@@ -1,5 +1,7 @@
--- Between crates: the words of the grammar, as bytes, and when two words are the same.
+-- Between crates: the words of the grammar, and when two words are the same.
 use Prim.Native.Nat.{ℕ}
+use Prim.Native.Char.{code}
+use Prim.Native.String.{String, [] as []ˢ, _∷_ as _∷ˢ_}
 use mathlib.Core.Bool.{Bool, true, false, _&&_}
 use mathlib.Core.List.{List, [], _∷_}
 use lib.Dec.{eqb}
@@ -11,70 +13,58 @@ same [] (b ∷ v) = false
 same (a ∷ w) [] = false
 same (a ∷ w) (b ∷ v) = eqb a b && same w v
 
--- `at`
+-- the codes of a text's characters, which are its bytes where all are ASCII
+abbrev pub codes : String → List ℕ
+codes []ˢ = []
+codes (c ∷ˢ s) = code c ∷ codes s
+
 abbrev pub atWord : List ℕ
-atWord = 97 ∷ 116 ∷ []
+atWord = codes "at"
 
--- `over`
 abbrev pub overWord : List ℕ
-overWord = 111 ∷ 118 ∷ 101 ∷ 114 ∷ []
+overWord = codes "over"
 
--- `and`
 abbrev pub andWord : List ℕ
-andWord = 97 ∷ 110 ∷ 100 ∷ []
+andWord = codes "and"
 
--- `not`
 abbrev pub notWord : List ℕ
-notWord = 110 ∷ 111 ∷ 116 ∷ []
+notWord = codes "not"
 
--- `increase`
 abbrev pub increaseWord : List ℕ
-increaseWord = 105 ∷ 110 ∷ 99 ∷ 114 ∷ 101 ∷ 97 ∷ 115 ∷ 101 ∷ []
+increaseWord = codes "increase"
 
--- `decrease`
 abbrev pub decreaseWord : List ℕ
-decreaseWord = 100 ∷ 101 ∷ 99 ∷ 114 ∷ 101 ∷ 97 ∷ 115 ∷ 101 ∷ []
+decreaseWord = codes "decrease"
 
--- `start`
 abbrev pub startWord : List ℕ
-startWord = 115 ∷ 116 ∷ 97 ∷ 114 ∷ 116 ∷ []
+startWord = codes "start"
 
--- `end`
 abbrev pub endWord : List ℕ
-endWord = 101 ∷ 110 ∷ 100 ∷ []
+endWord = codes "end"
 
--- `all`
 abbrev pub allWord : List ℕ
-allWord = 97 ∷ 108 ∷ 108 ∷ []
+allWord = codes "all"
 
--- `:durative-action`
 abbrev pub durativeWord : List ℕ
-durativeWord = 58 ∷ 100 ∷ 117 ∷ 114 ∷ 97 ∷ 116 ∷ 105 ∷ 118 ∷ 101 ∷ 45 ∷ 97 ∷ 99 ∷ 116 ∷ 105 ∷ 111 ∷ 110 ∷ []
+durativeWord = codes ":durative-action"
 
--- `:duration`
 abbrev pub durationWord : List ℕ
-durationWord = 58 ∷ 100 ∷ 117 ∷ 114 ∷ 97 ∷ 116 ∷ 105 ∷ 111 ∷ 110 ∷ []
+durationWord = codes ":duration"
 
--- `=`
 abbrev pub equalsWord : List ℕ
-equalsWord = 61 ∷ []
+equalsWord = codes "="
 
--- `?duration`
 abbrev pub askedWord : List ℕ
-askedWord = 63 ∷ 100 ∷ 117 ∷ 114 ∷ 97 ∷ 116 ∷ 105 ∷ 111 ∷ 110 ∷ []
+askedWord = codes "?duration"
 
--- `:condition`
 abbrev pub conditionWord : List ℕ
-conditionWord = 58 ∷ 99 ∷ 111 ∷ 110 ∷ 100 ∷ 105 ∷ 116 ∷ 105 ∷ 111 ∷ 110 ∷ []
+conditionWord = codes ":condition"
 
--- `:effect`
 abbrev pub effectWord : List ℕ
-effectWord = 58 ∷ 101 ∷ 102 ∷ 102 ∷ 101 ∷ 99 ∷ 116 ∷ []
+effectWord = codes ":effect"
 
--- `:init`
 abbrev pub initWord : List ℕ
-initWord = 58 ∷ 105 ∷ 110 ∷ 105 ∷ 116 ∷ []
+initWord = codes ":init"
 
--- `:goal`
 abbrev pub goalWord : List ℕ
-goalWord = 58 ∷ 103 ∷ 111 ∷ 97 ∷ 108 ∷ []
+goalWord = codes ":goal"

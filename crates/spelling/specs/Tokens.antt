@@ -1,7 +1,7 @@
 -- Between crates: what a text is made of, words, brackets and the text's end, each on its line. In a plan a colon is like a bracket and a
 -- line end stands for itself.
 use Prim.Native.Nat.{ℕ, suc}
-use mathlib.Core.Bool.{Bool, true, false, cond, not, _||_, _&&_}
+use mathlib.Core.Bool.{Bool, false, cond, not, _||_, _&&_}
 use mathlib.Core.List.{List, [], _∷_}
 use lib.Dec.{eqb}
 

@@ -1,6 +1,5 @@
 // Tests of the token at a cursor.
 ghost use mathlib.Core.Path.{_≡_};
-ghost use lib.ListN.{length};
 ghost use mathlib.Core.Bool.{true};
 ghost use Rattle.spelling.specs.Names.{isName};
 ghost use Rattle.spelling.specs.Cursor.{here, Standing, isBracket, isSuch, isWord, isStop, wholeAt, timeAt};
