@@ -19,7 +19,7 @@ use Rattle.grammar.specs.Allowed.{LiteralOk, ActionOk, LineOk}
 use Rattle.grammar.specs.Reader.{Symbol, bracket, keyword, name, time, amount, finish, text, textBody, inits, initBody}
 use Rattle.grammar.specs.Reader.{item, body, items, conditionPoint, effectPoint, literal, literalBody, change, changeBody}
 use Rattle.grammar.specs.Reader.{lines, lineEnd, Step, goes, fails, bytes, lineSymbols, deeper, leafStep, step}
-use Rattle.grammar.proofs.Meaning.{After, AfterOk, ended, followed, Val, Vals, print, tell, Made}
+use Rattle.grammar.proofs.Meaning.{After, AfterOk, ended, followed, _▸_, Val, Vals, print, tell, Made}
 use Rattle.grammar.proofs.Made.{made-literal, made-change, made-item, made-text, made-plain, made-negated, made-sets-plain}
 use Rattle.grammar.proofs.Made.{made-sets-negated, made-increases, made-decreases, made-holds, made-level, made-wants, made-does}
 use Rattle.grammar.proofs.Made.{made-at-start, made-at-end, made-over-all, made-effect, made-goal-plain, made-goal-negated, made-and}
@@ -206,7 +206,7 @@ module _ (d : ℕ) where
   with-line :
       (l : Line) (ok : LineOk l) (a : After) (ok′ : AfterOk a) →
       (v : Val d lines) × Made d lines (word (l .start)) lineSymbols (number (ticks (l .start)) ∷ [])
-      (tt, (tt, ((l .name, ok .named), (tt, (tt, ((l .duration, ok .timed), (tt, ((a, ok′), tt)))))))) v
+      (tt ▸ tt ▸ (l .name, ok .named) ▸ tt ▸ tt ▸ (l .duration, ok .timed) ▸ tt ▸ (a, ok′) ▸ tt) v
   with-line l ok ended ok′ = ((last l, ok), made-last d l ok)
   with-line l ok (followed p) ok′ = ((then l p, (ok, ok′)), made-then d l ok p ok′)
 

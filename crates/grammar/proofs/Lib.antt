@@ -1,3 +1,4 @@
+-- The demands on the two readings, from what each symbol of the reader stands for; small texts by computing.
 pub mod Meaning
 pub mod Made
 pub mod Opened

@@ -22,7 +22,7 @@ use Rattle.grammar.specs.Allowed.{InitOk, InitsOk, TextOk, LineOk, PlanO
 use Rattle.grammar.specs.Reader.{keyword, name, text, textBody, inits, initBody}
 use Rattle.grammar.specs.Reader.{item, body, items, conditionPoint, effectPoint, literal, literalBody, change, changeBody}
 use Rattle.grammar.specs.Reader.{lines, lineEnd, opening, closing, levelSymbols, actionSymbols, initSymbols, lineSymbols}
-use Rattle.grammar.proofs.Meaning.{tail, ended, followed, Made}
+use Rattle.grammar.proofs.Meaning.{tail, ended, followed, _▸_, Made}
 
 -- all but a plan's end begin with a bracket
 literal-opens : (l : Literal) → literalTokens l ≡ mark 40 ∷ tail (literalTokens l)
@@ -242,46 +242,10 @@ module _ (d : ℕ) where
   pub made-action :
       (a : Action) (ok : ActionOk d a) (bs : List Action) (oks : ActionsOk d bs) (is : List Init) (i : InitsOk is) (g : Tree goals)
       (j : TreeOk d goals g) →
-      Made d textBody (word durativeWord) (actionSymbols d) [] (
-        (a .name, ok .named),
-        (
-          tt,
-          (
-            tt,
-            (
-              tt,
-              (
-                tt,
-                (
-                  (a .duration, ok .timed),
-                  (
-                    tt,
-                    (
-                      tt,
-                      (
-                        (a .condition, ok .condition),
-                        (
-                          tt,
-                          (
-                            (a .effect, ok .effect),
-                            (
-                              tt,
-                              (
-                                (record { actions = bs; init = is; goal = g }, record { actions = oks; init = i; goal = j }),
-                                tt,
-                              ),
-                            ),
-                          ),
-                        ),
-                      ),
-                    ),
-                  ),
-                ),
-              ),
-            ),
-          ),
-        ),
-      )
+      Made d textBody (word durativeWord) (actionSymbols d) []
+      ((a .name, ok .named) ▸ tt ▸ tt ▸ tt ▸ tt ▸ (a .duration, ok .timed) ▸ tt ▸ tt ▸ (a .condition, ok .condition) ▸ tt
+      ▸ (a .effect, ok .effect) ▸ tt
+      ▸ (record { actions = bs; init = is; goal = g }, record { actions = oks; init = i; goal = j }) ▸ tt)
       (record { actions = a ∷ bs; init = is; goal = g }, record { actions = (ok, oks); init = i; goal = j })
   unfolding textTokens textSays actionsTokens actionsSay actionTokens actionSays
   made-action a ok bs oks is i g j =
@@ -335,14 +299,14 @@ module _ (d : ℕ) where
   pub made-last :
       (l : Line) (ok : LineOk l) →
       Made d lines (word (l .start)) lineSymbols (number (ticks (l .start)) ∷ [])
-      (tt, (tt, ((l .name, ok .named), (tt, (tt, ((l .duration, ok .timed), (tt, ((ended, tt), tt)))))))) (last l, ok)
+      (tt ▸ tt ▸ (l .name, ok .named) ▸ tt ▸ tt ▸ (l .duration, ok .timed) ▸ tt ▸ (ended, tt) ▸ tt) (last l, ok)
   unfolding planTokens planSays lineTokens lineSays
   made-last l ok = record { tokens = refl; said = refl }
 
   pub made-then :
       (l : Line) (ok : LineOk l) (p : Plan) (ok′ : PlanOk p) →
       Made d lines (word (l .start)) lineSymbols (number (ticks (l .start)) ∷ [])
-      (tt, (tt, ((l .name, ok .named), (tt, (tt, ((l .duration, ok .timed), (tt, ((followed p, ok′), tt)))))))) (then l p, (ok, ok′))
+      (tt ▸ tt ▸ (l .name, ok .named) ▸ tt ▸ tt ▸ (l .duration, ok .timed) ▸ tt ▸ (followed p, ok′) ▸ tt) (then l p, (ok, ok′))
   unfolding planTokens planSays lineTokens lineSays
   made-then l ok p ok′ = record { tokens = simp append-nil; said = simp append-nil }
 

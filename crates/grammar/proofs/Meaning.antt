@@ -37,6 +37,11 @@ abbrev pub afterSays : After → List Said
 afterSays ended = []
 afterSays (followed p) = planSays p
 
+-- parts in a row
+infixr 20 _▸_
+abbrev pub _▸_ : {A B : Type 0} → A → B → A × B
+a ▸ b = (a, b)
+
 module _ (d : ℕ) where
   abbrev pub Val : Symbol → Type 0
   Val (bracket b) = Unit
