@@ -1,4 +1,4 @@
-//! The second program: the literal meaning of every rule of document 01 and of requests a) and b)
+//! The second program: the literal meaning of every rule of document 01 and of requests a) to c)
 //! of document 02, one function a rule, with made jobs and the answers expected of them.
 
 pub mod brute;
@@ -13,6 +13,7 @@ pub mod make;
 pub mod order_file;
 pub mod orders;
 pub mod pairs;
+pub mod pddl;
 pub mod random;
 pub mod refusal;
 pub mod samples;

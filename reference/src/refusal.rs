@@ -21,7 +21,7 @@ impl Refusal {
     }
 
     pub fn at(number: u16, place: usize) -> Refusal {
-        let place = u16::try_from(place).expect("places are below 65,535");
+        let place = u16::try_from(place).expect("places are at most 65,535");
         Refusal { number, place }
     }
 }
