@@ -10,6 +10,7 @@ pub mod near_miss;
 pub mod order_files;
 pub mod own_conflicts;
 pub mod pairs;
+pub mod pddl;
 pub mod ranges;
 pub mod scribbled;
 pub mod sound;

@@ -69,7 +69,7 @@ fn an_action_has_its_four_parts_in_their_order() {
         "( :durative-action n :duration ( = ?duration 5 ) :condition ( and ) @)",
         "( :durative-action n :duration ( = ?duration 5 ) :condition ( and ) @( and )",
         "( :durative-action n :duration ( = ?duration 5 ) :condition ( and ) :effect @)",
-        "( :durative-action n :duration ( = ?duration 5 ) :condition ( and ) :effect ( and ) @( :in",
+        "( :durative-action n :duration ( = ?duration 5 ) :condition ( and ) :effect ( and ) @( :i",
         "( :durative-action n :duration ( = ?duration 5 ) :condition ( and ) :effect ( and ) @:eff",
         "( :durative-action n @:parameters ( ) :duration",
     ] {

@@ -3,6 +3,7 @@
 mod action_text;
 mod job;
 mod lengths;
+mod made;
 mod names;
 mod numbers;
 mod plan_text;
