@@ -8,7 +8,9 @@ use std::{env, fs, io};
 use reference::brute::brute;
 use reference::cases::{answers, cases_file, COMMANDS};
 use reference::made::made_case;
+use reference::pddl::job_from_texts;
 use reference::random::Random;
+use reference::refusal::Refusal;
 use reference::samples::sample;
 use reference::show::show;
 use reference::stored::{stored, SERVED};
@@ -20,6 +22,7 @@ reference make N SEED KINDS FILE
                                write N made cases of the commands in KINDS, in turn
 reference brute N SEED         try at least N choices that obey the order files of made jobs
 reference show                 print what show prints of the job on standard input
+reference pddl ACTIONS PLAN    write the job of two PDDL texts to standard output
 reference sample NAME          write a sample job to standard output: paper, deck-resigned,
                                fixed-restart, handsets, refused, longest; of edition 2: barriers,
                                longest-timed, longest-sheet";
@@ -50,6 +53,10 @@ fn run() -> io::Result<()> {
             io::stdin().read_to_end(&mut job)?;
             print(&show(&job))
         }
+        ["pddl", actions, plan] => {
+            let job = job_from_texts(&fs::read(actions)?, &fs::read(plan)?).map_err(refused)?;
+            io::stdout().write_all(&job)
+        }
         ["sample", name] => {
             let job = sample(name).ok_or_else(|| io::Error::other("there is no such sample"))?;
             io::stdout().write_all(&job.to_file())
@@ -60,6 +67,11 @@ fn run() -> io::Result<()> {
 
 fn print(text: &str) -> io::Result<()> {
     io::stdout().write_all(text.as_bytes())
+}
+
+fn refused(refusal: Refusal) -> io::Error {
+    let Refusal { number, place } = refusal;
+    io::Error::other(format!("refused {number} place {place}"))
 }
 
 fn number(argument: &str) -> io::Result<u64> {

@@ -8,6 +8,7 @@ mod names;
 mod numbers;
 mod plan_text;
 mod refusals;
+mod sample;
 mod spacing;
 
 use reference::job::Job;
