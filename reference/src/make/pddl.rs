@@ -1,5 +1,6 @@
 //! Made PDDL texts: what a supplier means, its spelling, and faults in either.
 
+pub mod by_hand;
 pub mod damage;
 pub mod nudges;
 pub mod sound;
@@ -38,13 +39,16 @@ pub fn some_texts(random: &mut Random) -> Texts {
         let spacing = Spacing::some(random);
         damage(random, spelled).texts(random, spacing)
     };
-    let (actions, plan) = match random.below(100) {
+    let (mut actions, mut plan) = match random.below(100) {
         0..6 => (damage::some_byte(random, actions), plan),
         6..10 => (actions, damage::some_byte(random, plan)),
         10 if random.chance(30) => (damage::over_its_length(random, actions), plan),
         10 if random.chance(40) => (actions, damage::over_its_length(random, plan)),
         _ => (actions, plan),
     };
+    // A byte over its length says as much as many do.
+    actions.truncate(LONGEST_TEXT + 1);
+    plan.truncate(LONGEST_TEXT + 1);
     let room = some_room(random, &actions, &plan);
     Texts {
         actions,

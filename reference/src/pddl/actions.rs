@@ -25,15 +25,20 @@ pub struct Actions<'a> {
 pub struct Action {
     pub duration: i64,
     pub conditions: Vec<(When, Value)>,
-    pub effects: Vec<(When, Value)>,
-    pub uses: Vec<(When, Change)>,
+    pub effects: Vec<(Point, Value)>,
+    pub uses: Vec<(Point, Change)>,
 }
 
-#[derive(Clone, Copy, Debug, PartialEq, Eq)]
+#[derive(Clone, Copy)]
 pub enum When {
-    AtStart,
+    At(Point),
     OverAll,
-    AtEnd,
+}
+
+#[derive(Clone, Copy)]
+pub enum Point {
+    Start,
+    End,
 }
 
 /// A fact, under `not` with the value 0.
@@ -115,10 +120,10 @@ impl<'a> Reader<'a> {
         self.reading.keyword(":condition")?;
         action.conditions = self.items(Reader::condition)?;
         self.reading.keyword(":effect")?;
-        for (when, done) in self.items(Reader::effect)? {
+        for (point, done) in self.items(Reader::effect)? {
             match done {
-                Done::Set(value) => action.effects.push((when, value)),
-                Done::Changed(change) => action.uses.push((when, change)),
+                Done::Set(value) => action.effects.push((point, value)),
+                Done::Changed(change) => action.uses.push((point, change)),
             }
         }
         self.close()?;
@@ -218,7 +223,7 @@ impl<'a> Reader<'a> {
     fn condition(&mut self) -> Read<(When, Value)> {
         let at = self.reading.one_of(&[("at", true), ("over", false)])?;
         let when = if at {
-            self.start_or_end()?
+            When::At(self.start_or_end()?)
         } else {
             self.reading.keyword("all")?;
             When::OverAll
@@ -229,9 +234,9 @@ impl<'a> Reader<'a> {
         Ok((when, value))
     }
 
-    fn effect(&mut self) -> Read<(When, Done)> {
+    fn effect(&mut self) -> Read<(Point, Done)> {
         self.reading.keyword("at")?;
-        let when = self.start_or_end()?;
+        let point = self.start_or_end()?;
         self.open()?;
         let done = if self.reading.pass_if(keyword("increase")) {
             Done::Changed(self.change(1)?)
@@ -241,11 +246,11 @@ impl<'a> Reader<'a> {
             Done::Set(self.value()?)
         };
         self.close()?;
-        Ok((when, done))
+        Ok((point, done))
     }
 
-    fn start_or_end(&mut self) -> Read<When> {
-        let words = [("start", When::AtStart), ("end", When::AtEnd)];
+    fn start_or_end(&mut self) -> Read<Point> {
+        let words = [("start", Point::Start), ("end", Point::End)];
         self.reading.one_of(&words)
     }
 

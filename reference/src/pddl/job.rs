@@ -1,6 +1,6 @@
 //! The job of two texts that have been read: refusals 20 and 4, and its records.
 
-use super::actions::{Action, Actions, When};
+use super::actions::{Action, Actions, Point, When};
 use super::names::Kind;
 use super::plan::PlanLine;
 use crate::job::{Condition, Effect, Goal, Job, Level, Step, Use, HIGHEST};
@@ -102,19 +102,19 @@ fn put_step(job: &mut Job, step: usize, planned: &Planned) {
             wanted,
         });
     }
-    for &(when, set) in &action.effects {
+    for &(point, set) in &action.effects {
         job.effects.push(Effect {
             step,
             fact: set.fact,
-            at: point(when, length),
+            at: tick_of(point, length),
             value: set.value,
         });
     }
-    for &(when, change) in &action.uses {
+    for &(point, change) in &action.uses {
         job.uses.push(Use {
             step,
             level: change.level,
-            at: point(when, length),
+            at: tick_of(point, length),
             amount: change.amount,
         });
     }
@@ -132,16 +132,15 @@ fn conditions(action: &Action) -> impl Iterator<Item = (i64, i64, usize, u16)> +
 /// The first and the last tick; an "over all" of a duration under 2 ticks has none.
 fn ticks_of(when: When, length: i64) -> Option<(i64, i64)> {
     match when {
-        When::AtStart => Some((0, 0)),
+        When::At(point) => Some((tick_of(point, length), tick_of(point, length))),
         When::OverAll => (length >= 2).then_some((1, length - 1)),
-        When::AtEnd => Some((length, length)),
     }
 }
 
-/// Where an effect or a use lies; these never stand under "over all".
-fn point(when: When, length: i64) -> i64 {
-    match when {
-        When::AtEnd => length,
-        _ => 0,
+/// From the step's start.
+fn tick_of(point: Point, length: i64) -> i64 {
+    match point {
+        Point::Start => 0,
+        Point::End => length,
     }
 }

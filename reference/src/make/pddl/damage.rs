@@ -222,11 +222,25 @@ pub fn some_byte(random: &mut Random, text: Vec<u8>) -> Vec<u8> {
     text
 }
 
-/// As long as a text may be, or a little longer, by blanks at its end.
+/// As long as a text may be, or a byte longer, by blanks at its end.
 pub fn over_its_length(random: &mut Random, text: Vec<u8>) -> Vec<u8> {
     let mut text = text;
-    let length = LONGEST_TEXT + random.pick(&[0, 1, 1, 65]);
+    let length = LONGEST_TEXT + random.pick(&[0, 1, 1]);
     let blank = random.pick(b" \t\n");
     text.resize(length.max(text.len()), blank);
     text
+}
+
+/// Each place of a text with a byte changed, put in and taken out there.
+pub fn each_byte(text: &[u8]) -> Vec<(usize, Vec<u8>)> {
+    let mut texts = Vec::new();
+    for at in 0..text.len() {
+        let (before, after) = text.split_at(at);
+        for byte in [b' ', b'\n', b'(', b')', b'x', b'0', b':', text[at] ^ 32] {
+            texts.push((at, [before, &[byte], &after[1..]].concat()));
+            texts.push((at, [before, &[byte], after].concat()));
+        }
+        texts.push((at, [before, &after[1..]].concat()));
+    }
+    texts
 }

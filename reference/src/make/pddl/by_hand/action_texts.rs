@@ -1,35 +1,58 @@
-//! The grammar of the action text: what it generates is read, and what else there may be is refused
-//! at the first word or bracket that cannot stand there.
+//! The grammar of the action text.
 
-use super::*;
+use super::{
+    action, actions, all_marked, all_marked_between, marked, told, told_alone, with_condition,
+    with_effect, Told, GOOD,
+};
 
-#[test]
-fn the_request_s_own_form_is_read() {
+pub fn all() -> Vec<Told> {
+    [
+        the_request_s_own_form(),
+        numbers_of_actions(),
+        empty_texts(),
+        parts_of_the_text(),
+        parts_of_an_action(),
+        good_conditions(),
+        faulty_conditions(),
+        good_effects(),
+        faulty_effects(),
+        names_that_begin_as_keywords(),
+        good_init(),
+        faulty_init(),
+        good_goals(),
+        faulty_goals(),
+        depths(),
+        places_of_19(),
+    ]
+    .concat()
+}
+
+pub fn the_request_s_own_form() -> Vec<Told> {
     let text = "(:durative-action N :duration (= ?duration 5) :condition (at start (F)) \
                 :effect (at end (F))) (:init (F) (= (L) 7)) (:goal (F))";
-    assert_eq!(of_actions(text), GOOD);
-    assert_eq!(answer(text, "0: (N) [5]"), GOOD);
+    vec![told_alone(text, GOOD), told(text, "0: (N) [5]", GOOD)]
 }
 
-#[test]
-fn any_number_of_actions_even_none() {
-    assert_eq!(of_actions("(:init) (:goal (and))"), GOOD);
+pub fn numbers_of_actions() -> Vec<Told> {
     let one = action("a", "1", "(and)", "(and)");
     let two = action("b", "2", "(and)", "(and)");
-    assert_eq!(of_actions(actions(&[&one], "", "(and)")), GOOD);
-    assert_eq!(of_actions(actions(&[&one, &two], "", "(and)")), GOOD);
+    vec![
+        told_alone("(:init) (:goal (and))", GOOD),
+        told_alone(actions(&[&one], "", "(and)"), GOOD),
+        told_alone(actions(&[&one, &two], "", "(and)"), GOOD),
+    ]
 }
 
-#[test]
-fn an_empty_text_ends_too_soon() {
-    assert_eq!(of_actions(""), (18, 0));
-    assert_eq!(of_actions(" \t"), (18, 0));
-    assert_eq!(of_actions("\n\n"), (18, 2));
+pub fn empty_texts() -> Vec<Told> {
+    vec![
+        told_alone("", (18, 0)),
+        told_alone(" \t", (18, 0)),
+        told_alone("\n\n", (18, 2)),
+    ]
 }
 
-#[test]
-fn the_parts_come_in_their_order_and_nothing_follows_them() {
-    for text in [
+pub fn parts_of_the_text() -> Vec<Told> {
+    all_marked(&[
         "@:init",
         "@) ( :init )",
         "( @:goal ( and ) )",
@@ -45,14 +68,11 @@ fn the_parts_come_in_their_order_and_nothing_follows_them() {
         "( :init ) ( :goal ( and ) ) @)",
         "( :init ) ( :goal ( and ) ) @( :goal ( and ) )",
         "( :init ) ( :goal ( and ) ) @; the end",
-    ] {
-        assert_marked_fault(18, text);
-    }
+    ])
 }
 
-#[test]
-fn an_action_has_its_four_parts_in_their_order() {
-    for text in [
+pub fn parts_of_an_action() -> Vec<Told> {
+    all_marked(&[
         "( @:durative-actions n",
         "( @:action n",
         "( :durative-action @( n )",
@@ -72,33 +92,21 @@ fn an_action_has_its_four_parts_in_their_order() {
         "( :durative-action n :duration ( = ?duration 5 ) :condition ( and ) :effect ( and ) @( :i",
         "( :durative-action n :duration ( = ?duration 5 ) :condition ( and ) :effect ( and ) @:eff",
         "( :durative-action n @:parameters ( ) :duration",
-    ] {
-        assert_marked_fault(18, text);
-    }
+    ])
 }
+
+// ---------------------------------------------------------------------------------------------
+// Conditions and effects
 
 /// The beginning of an action up to its conditions, each sign on a line to itself.
 const TO_CONDITION: &str = "( :durative-action n :duration ( = ?duration 5 ) :condition";
 const AFTER_CONDITION: &str = ":effect ( and ) ) ( :init ) ( :goal ( and ) )";
+const TO_EFFECT: &str =
+    "( :durative-action n :duration ( = ?duration 5 ) :condition ( and ) :effect";
 const AFTER_EFFECT: &str = ") ( :init ) ( :goal ( and ) )";
 
-fn assert_condition_fault(number: u16, condition: &str) {
-    assert_marked_fault(
-        number,
-        &format!("{TO_CONDITION} {condition} {AFTER_CONDITION}"),
-    );
-}
-
-fn assert_effect_fault(number: u16, effect: &str) {
-    assert_marked_fault(
-        number,
-        &format!("{TO_CONDITION} ( and ) :effect {effect} {AFTER_EFFECT}"),
-    );
-}
-
-#[test]
-fn conditions_stand_under_at_start_over_all_or_at_end() {
-    for condition in [
+pub fn good_conditions() -> Vec<Told> {
+    [
         "(at start (f))",
         "(over all (f))",
         "(at end (f))",
@@ -109,10 +117,13 @@ fn conditions_stand_under_at_start_over_all_or_at_end() {
         "(and (at start (f)))",
         "(and (at start (f)) (over all (g)) (at end (not (h))))",
         "(and (and (at end (f))) (and) (at start (f)))",
-    ] {
-        assert_eq!(of_actions(with_condition(condition)), GOOD, "{condition}");
-    }
-    for condition in [
+    ]
+    .map(|condition| told_alone(with_condition(condition), GOOD))
+    .to_vec()
+}
+
+pub fn faulty_conditions() -> Vec<Told> {
+    let conditions = [
         "( @)",
         "( @f )",
         "( @not ( at start ( f ) ) )",
@@ -151,14 +162,12 @@ fn conditions_stand_under_at_start_over_all_or_at_end() {
         "( @or ( at start ( f ) ) )",
         "( @And ( at start ( f ) ) )",
         "( @ands ( at start ( f ) ) )",
-    ] {
-        assert_condition_fault(18, condition);
-    }
+    ];
+    all_marked_between(TO_CONDITION, &conditions, AFTER_CONDITION)
 }
 
-#[test]
-fn effects_stand_under_at_start_or_at_end() {
-    for effect in [
+pub fn good_effects() -> Vec<Told> {
+    [
         "(at start (f))",
         "(at end (f))",
         "(at start (not (f)))",
@@ -168,10 +177,13 @@ fn effects_stand_under_at_start_or_at_end() {
         "(and)",
         "(and (at start (f)) (at start (decrease (l) 1)) (at end (not (f))))",
         "(and (and (at end (increase (l) 1))) (at end (not (f))) (and))",
-    ] {
-        assert_eq!(of_actions(with_effect(effect)), GOOD, "{effect}");
-    }
-    for effect in [
+    ]
+    .map(|effect| told_alone(with_effect(effect), GOOD))
+    .to_vec()
+}
+
+pub fn faulty_effects() -> Vec<Told> {
+    let effects = [
         "( @over all ( f ) )",
         "( @f )",
         "( @increase ( l ) 5 )",
@@ -189,56 +201,64 @@ fn effects_stand_under_at_start_or_at_end() {
         "( at end ( @and ( f ) ) )",
         "( at end ( f ) @( g ) )",
         "( at @all ( f ) )",
-    ] {
-        assert_effect_fault(18, effect);
-    }
+    ];
+    all_marked_between(TO_EFFECT, &effects, AFTER_EFFECT)
 }
 
-#[test]
-fn keywords_begin_longer_names() {
-    for name in [
-        "increased",
-        "increase1",
-        "decreaser",
-        "not-yet",
-        "note",
-        "at-home",
-        "att",
-        "overt",
-        "android",
-        "and_",
-        "start",
-        "end",
-        "all",
-        "AND",
-        "Not",
-        "AT",
-        "Over",
-        "INCREASE",
-        "init",
-        "goal",
-        "duration",
-    ] {
+const AS_KEYWORDS: [&str; 21] = [
+    "increased",
+    "increase1",
+    "decreaser",
+    "not-yet",
+    "note",
+    "at-home",
+    "att",
+    "overt",
+    "android",
+    "and_",
+    "start",
+    "end",
+    "all",
+    "AND",
+    "Not",
+    "AT",
+    "Over",
+    "INCREASE",
+    "init",
+    "goal",
+    "duration",
+];
+
+/// Each as a fact, a level and an action.
+pub fn names_that_begin_as_keywords() -> Vec<Told> {
+    let mut texts = Vec::new();
+    for name in AS_KEYWORDS {
         let condition = format!("(and (at start ({name})) (over all (not ({name}))))");
-        assert_eq!(of_actions(with_condition(&condition)), GOOD, "{name}");
+        texts.push(told_alone(with_condition(&condition), GOOD));
         let effect = format!("(at end ({name}))");
-        assert_eq!(of_actions(with_effect(&effect)), GOOD, "{name}");
+        texts.push(told_alone(with_effect(&effect), GOOD));
         let effect = format!("(at end (increase ({name}) 1))");
-        assert_eq!(of_actions(with_effect(&effect)), GOOD, "{name}");
+        texts.push(told_alone(with_effect(&effect), GOOD));
         let init = format!("({name})");
-        assert_eq!(of_actions(actions(&[], &init, &init)), GOOD, "{name}");
+        texts.push(told_alone(actions(&[], &init, &init), GOOD));
         let act = action(name, "5", "(and)", "(and)");
         let text = actions(&[&act], "", "(and)");
-        assert_eq!(answer(text, format!("0: ({name}) [5]")), GOOD, "{name}");
+        texts.push(told(text, format!("0: ({name}) [5]"), GOOD));
     }
+    texts
 }
 
-#[test]
-fn init_holds_facts_and_levels() {
-    for init in ["", "(f)", "(= (l) 5)", "(f) (= (l) 5) (g) (= (m) 0)"] {
-        assert_eq!(of_actions(actions(&[], init, "(and)")), GOOD, "{init}");
-    }
-    for init in [
+// ---------------------------------------------------------------------------------------------
+// Init and goal
+
+pub fn good_init() -> Vec<Told> {
+    ["", "(f)", "(= (l) 5)", "(f) (= (l) 5) (g) (= (m) 0)"]
+        .map(|init| told_alone(actions(&[], init, "(and)"), GOOD))
+        .to_vec()
+}
+
+pub fn faulty_init() -> Vec<Told> {
+    let listed = [
         "@f",
         "( @) )",
         "( @( f ) )",
@@ -257,24 +277,24 @@ fn init_holds_facts_and_levels() {
         "( @== ( l ) 5 )",
         "( @increase ( l ) 5 )",
         "@[ f ]",
-    ] {
-        assert_marked_fault(18, &format!("( :init {init} ) ( :goal ( and ) )"));
-    }
+    ];
+    all_marked_between("( :init", &listed, ") ( :goal ( and ) )")
 }
 
-#[test]
-fn goals_stand_bare() {
-    for goal in [
+pub fn good_goals() -> Vec<Told> {
+    [
         "(f)",
         "(not (g))",
         "(and)",
         "(and (f) (not (g)))",
         "(and (and (f) (and)) (not (g)))",
-    ] {
-        let verdict = of_actions(actions(&[], "(f)", goal));
-        assert_eq!(verdict, GOOD, "{goal}");
-    }
-    for goal in [
+    ]
+    .map(|goal| told_alone(actions(&[], "(f)", goal), GOOD))
+    .to_vec()
+}
+
+pub fn faulty_goals() -> Vec<Told> {
+    let goals = [
         "@)",
         "@f",
         "( @) )",
@@ -290,66 +310,60 @@ fn goals_stand_bare() {
         "( @= ( l ) 5 )",
         "( and @f )",
         "( and ( f ) ) ) @x",
-    ] {
-        assert_marked_fault(18, &format!("( :init ) ( :goal {goal} )"));
-    }
+    ];
+    all_marked_between("( :init ) ( :goal", &goals, ")")
 }
+
+// ---------------------------------------------------------------------------------------------
+// Depth
 
 /// So many (and ..) in each other around an item.
 fn nested(depth: usize, item: &str) -> String {
     format!("{}{item}{}", "( and ".repeat(depth), " )".repeat(depth))
 }
 
-#[test]
-fn the_outermost_and_is_of_depth_1_and_16_is_the_deepest() {
-    for (item, place) in [
-        ("( at end ( f ) )", 0),
-        ("( at end ( f ) )", 1),
-        ("( f )", 2),
-    ] {
-        let text = |inner: &str| match place {
-            0 => with_condition(inner),
-            1 => with_effect(inner),
-            _ => actions(&[], "(f)", inner),
-        };
-        let number = |inner: &str| of_actions(text(inner)).0;
-        assert_ne!(number(&nested(16, item)), 19);
-        assert_ne!(number(&nested(16, "")), 19);
-        assert_eq!(number(&nested(17, item)), 19);
-        assert_eq!(number(&nested(17, "")), 19);
-        assert_eq!(number(&nested(40, item)), 19);
-        // Depth, not number: beside each other they may be any number.
-        let beside = format!("( and {} )", nested(15, item).repeat(40));
-        assert_ne!(number(&beside), 19);
+/// The outermost is of depth 1, and 16 is the deepest; beside each other they may be any number,
+/// and each part begins anew.
+pub fn depths() -> Vec<Told> {
+    let mut texts = Vec::new();
+    for inner in ["( at end ( f ) )", ""] {
+        for text in [with_condition, with_effect] {
+            texts.push(told_alone(text(&nested(16, inner)), GOOD));
+            texts.push(told_alone(text(&nested(17, inner)), (19, 0)));
+            texts.push(told_alone(text(&nested(40, inner)), (19, 0)));
+            let beside = format!("( and {} )", nested(15, inner).repeat(40));
+            texts.push(told_alone(text(&beside), GOOD));
+        }
     }
+    for inner in ["( f )", "( not ( g ) )", ""] {
+        let goal = |goal: &str| actions(&[], "(f)", goal);
+        texts.push(told_alone(goal(&nested(16, inner)), GOOD));
+        texts.push(told_alone(goal(&nested(17, inner)), (19, 2)));
+    }
+    let sixteen = nested(16, "");
+    let one = action("a", "5", &sixteen, &sixteen);
+    let other = action("b", "5", &sixteen, &sixteen);
+    let text = actions(&[&one, &other], "", &sixteen);
+    texts.push(told_alone(text, GOOD));
+    texts
 }
 
-#[test]
-fn refusal_19_lies_at_the_seventeenth_and() {
+/// At the seventeenth `and`; but what comes first in the text decides, and an `and` that could not
+/// stand there at any depth is outside the grammar.
+pub fn places_of_19() -> Vec<Told> {
     let open = "( and ".repeat(16);
     let close = " )".repeat(16);
-    assert_condition_fault(19, &format!("{open}( @and ) {close}"));
-    assert_effect_fault(19, &format!("{open}( @and ( at start ( f ) ) ) {close}"));
-    assert_marked_fault(19, &format!("( :init ) ( :goal {open}( @and"));
-    // What comes first in the text decides between 18 and 19.
-    assert_condition_fault(19, &format!("{open}( @and f"));
-    assert_condition_fault(18, &format!("{open}@and ) {close}"));
-    assert_condition_fault(18, &format!("( and @x {open}( and"));
-    // An `and` that could not stand there at any depth is outside the grammar.
-    assert_condition_fault(18, &format!("{open}( at start ( @and ) ) {close}"));
-    assert_marked_fault(18, &format!("( :init ) ( :goal {open}( not ( @and"));
-}
-
-#[test]
-fn depth_is_counted_anew_in_each_part() {
-    let sixteen = nested(16, "");
-    let text = actions(
-        &[
-            &action("a", "5", &sixteen, &sixteen),
-            &action("b", "5", &sixteen, &sixteen),
-        ],
-        "",
-        &sixteen,
-    );
-    assert_eq!(of_actions(text), GOOD);
+    vec![
+        marked(19, &format!("{TO_CONDITION} {open}( @and ) {close}")),
+        marked(
+            19,
+            &format!("{TO_EFFECT} {open}( @and ( at start ( f ) ) )"),
+        ),
+        marked(19, &format!("( :init ) ( :goal {open}( @and")),
+        marked(19, &format!("{TO_CONDITION} {open}( @and f")),
+        marked(18, &format!("{TO_CONDITION} {open}@and ) {close}")),
+        marked(18, &format!("{TO_CONDITION} ( and @x {open}( and")),
+        marked(18, &format!("{TO_CONDITION} {open}( at start ( @and ) )")),
+        marked(18, &format!("( :init ) ( :goal {open}( not ( @and")),
+    ]
 }
