@@ -5,4 +5,8 @@ use Rattle.pair_search.proofs.keys.effect_key.Tie as tie
 
 pub effect-key-spec : {M : Type 1} → statement M
 unfolding keyOf
-effect-key-spec = tie.close (tie.spec (λ c. search needs) (λ c. search needs) (λ c. search needs) (λ c. search needs) (λ c. search needs) (λ c. search needs) (λ c. search needs) (λ c. search needs))
+effect-key-spec =
+    tie.close
+    (tie.spec
+    (λ c. search needs) (λ c. search needs) (λ c. search needs) (λ c. search needs)
+    (λ c. search needs) (λ c. search needs) (λ c. search needs) (λ c. search needs))
