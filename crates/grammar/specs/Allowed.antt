@@ -1,4 +1,4 @@
--- Between crates: which trees are allowed: names are names, numbers are numbers, and no (and ..) is deeper than so many, "the outermost
+-- Which trees are allowed: names are names, numbers are numbers, and no (and ..) is deeper than so many, "the outermost
 -- being 1".
 use Prim.Native.Nat.{ℕ, zero, suc}
 use mathlib.Core.Path.{_≡_}

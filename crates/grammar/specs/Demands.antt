@@ -1,4 +1,4 @@
--- Between crates: "Every text this grammar generates has one reading, and nothing else is read."
+-- "Every text this grammar generates has one reading, and nothing else is read."
 use Prim.Native.Nat.{ℕ, _≤_}
 use mathlib.Core.Path.{_≡_}
 use mathlib.Core.Bool.{true, false}

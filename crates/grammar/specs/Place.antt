@@ -1,4 +1,4 @@
--- Between crates: the place of a fault: "the first word, bracket or line end that cannot stand there, or the text's end".
+-- The place of a fault: "the first word, bracket or line end that cannot stand there, or the text's end".
 use Prim.Native.Nat.{ℕ, suc, _≤_}
 use mathlib.Core.Path.{_≡_}
 use mathlib.Core.Bool.{true, false}

@@ -1,4 +1,4 @@
--- Between crates: what may stand next. A stack of expected symbols meets the tokens one by one, and one token decides.
+-- What may stand next. A stack of expected symbols meets the tokens one by one, and one token decides.
 use Prim.Native.Nat.{ℕ, zero, suc}
 use mathlib.Core.Bool.{Bool, true, false, cond}
 use mathlib.Core.List.{List, [], _∷_, _++_}

@@ -1,4 +1,4 @@
--- Between crates: the reading of each of the two texts: "text over its length (at line 0, its first fault)".
+-- The reading of each of the two texts: "text over its length (at line 0, its first fault)".
 use Prim.Native.Nat.{ℕ}
 use mathlib.Core.Bool.{true, false, cond}
 use mathlib.Core.List.{List, [], _∷_}

@@ -1,4 +1,4 @@
--- Between crates: what a text says, in its order: names in their roles and numbers, each on its line.
+-- What a text says, in its order: names in their roles and numbers, each on its line.
 use Prim.Native.Nat.{ℕ}
 use mathlib.Core.Bool.{Bool}
 use mathlib.Core.List.{List, [], _∷_}

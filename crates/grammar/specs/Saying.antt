@@ -1,4 +1,4 @@
--- Between crates: what a tree says, in the order of the text.
+-- What a tree says, in the order of the text.
 
 use mathlib.Core.Bool.{true, false}
 use mathlib.Core.List.{List, [], _∷_, _++_}

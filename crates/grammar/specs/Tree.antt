@@ -1,4 +1,4 @@
--- Between crates: what is written, as trees: the actions, init and goal of the first text, the lines of the plan. A name or a number is
+-- What is written, as trees: the actions, init and goal of the first text, the lines of the plan. A name or a number is
 -- the word that is written.
 use Prim.Native.Nat.{ℕ}
 use mathlib.Core.List.{List}

@@ -1,4 +1,4 @@
--- Between crates: how a tree is written, as words and brackets.
+-- How a tree is written, as words and brackets.
 use mathlib.Core.List.{List, [], _∷_, _++_}
 use Rattle.spelling.specs.Tokens.{Token, mark, word, stop}
 use Rattle.spelling.specs.Keywords.{atWord, overWord, andWord, notWord, increaseWord, decreaseWord, startWord, endWord, allWord}

@@ -1,4 +1,4 @@
--- Between crates: what a cursor says, the token that stands at it and those behind it, and the tests of that token.
+-- What a cursor says, the token that stands at it and those behind it, and the tests of that token.
 use Prim.Native.Nat.{ℕ, _≤_, _<_}
 use mathlib.Core.Path.{_≡_}
 use mathlib.Core.Bool.{Bool, true, false, cond}

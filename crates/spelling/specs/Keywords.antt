@@ -1,4 +1,4 @@
--- Between crates: the words of the grammar, and when two words are the same.
+-- The words of the grammar, and when two words are the same.
 use Prim.Native.Nat.{ℕ}
 use Prim.Native.Char.{code}
 use Prim.Native.String.{String, [] as []ˢ, _∷_ as _∷ˢ_}

@@ -1,4 +1,4 @@
--- Between crates: what a name is. "N is a letter, then letters, digits, - or _, up to 31 bytes, capitals distinct, but not at, over, and,
+-- What a name is. "N is a letter, then letters, digits, - or _, up to 31 bytes, capitals distinct, but not at, over, and,
 -- not, increase or decrease."
 use Prim.Native.Nat.{ℕ}
 use mathlib.Core.Bool.{Bool, not, _||_, _&&_}

@@ -1,4 +1,4 @@
--- Between crates: what a number is. "W has one to nine digits; T one to six, then at will a point and one to three, a tick being a
+-- What a number is. "W has one to nine digits; T one to six, then at will a point and one to three, a tick being a
 -- thousandth."
 use Prim.Native.Nat.{ℕ, _+_, _-_, _*_, _^_, _<_}
 use mathlib.Core.Bool.{Bool, cond, _||_, _&&_}

@@ -1,4 +1,4 @@
--- Between crates: the spelling of words and brackets as a text. "Spaces, tabs and line ends must part two words, never stand inside one
+-- The spelling of words and brackets as a text. "Spaces, tabs and line ends must part two words, never stand inside one
 -- and are otherwise free, except that each plan line has a line to itself."
 use Prim.Native.Nat.{ℕ, _<_}
 use mathlib.Core.Path.{_≡_}

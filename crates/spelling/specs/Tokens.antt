@@ -1,4 +1,4 @@
--- Between crates: what a text is made of, words, brackets and the text's end, each on its line. In a plan a colon is like a bracket and a
+-- What a text is made of, words, brackets and the text's end, each on its line. In a plan a colon is like a bracket and a
 -- line end stands for itself.
 use Prim.Native.Nat.{ℕ, suc}
 use mathlib.Core.Bool.{Bool, false, cond, not, _||_, _&&_}

@@ -1,0 +1,35 @@
+// Jobs from a supplier's two texts: the actions, then the plan, then the job.
+ghost use Rattle.from_pddl.specs.Promise.{TextsPromise};
+
+mod actions;
+pub mod answer;
+mod filing;
+mod plan;
+
+use actions::read_named;
+use answer::TextsAnswer;
+use plan::NOTES;
+use plan::file_plan;
+
+// The slots of an index of names, and what stands in a free one.
+const INDEX: usize = 69632;
+
+const FREE: u16 = 65535;
+
+// Makes a job of edition 1 in `out` of an action text and a plan; or refuses, and changes no byte.
+pub fn job_from_texts(actions: &[u8], plan: &[u8], out: &mut [u8]) -> TextsAnswer
+    ensures { λ r. ⌜ TextsPromise (now (actions .entry)) (now (plan .entry)) (now (out .entry)) (now (out .exit)) r ⌝ }
+{
+    let mut said = [0u64; NOTES];
+    let mut index = [FREE; INDEX];
+    let mut numbers = [0u16; NOTES];
+    let read = read_named(actions, &mut said, &mut index, &mut numbers);
+    if read.fault == 19 {
+        return TextsAnswer::ActionsTooDeep(read.line as u16);
+    }
+    if read.fault != 0 {
+        return TextsAnswer::ActionsOutside(read.line as u16);
+    }
+    let n = read.count;
+    file_plan(actions, &said[..n], &index, &numbers, read.names, plan, out)
+}

@@ -1,0 +1,2 @@
+-- What the readers of items take.
+pub mod Kinds

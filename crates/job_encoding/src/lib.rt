@@ -1,0 +1,1 @@
+// The bytes of a job file: definitions and theorems without code.

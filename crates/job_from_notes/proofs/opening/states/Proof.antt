@@ -1,0 +1,14 @@
+-- By its role.
+use mathlib.Core.Path.{ap}
+use borrow.Author.Needs.{needs}
+use lib.Dec.{eqb, leb}
+use Rattle.job_from_notes.proofs.opening.states.Statement.{statement}
+use Rattle.job_from_notes.proofs.opening.states.Tie as tie
+
+pub states-spec : {M : Type 1} → statement M
+states-spec =
+    tie.close
+    (tie.spec
+    (λ c κs. search needs) (λ c. search needs) (λ c. search needs)
+    (λ c. rw (c .enum-told .given .1) (ap (leb 20) (c .before .before .role .ensures)))
+    (λ c. rw (c .enum-told2 .given .1) (ap (λ r. eqb r 3) (c .before .before .role .ensures))))

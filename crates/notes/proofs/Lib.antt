@@ -1,0 +1,2 @@
+-- What a note says.
+pub mod Notes

@@ -1,0 +1,2 @@
+-- Laws of the plan's lines.
+pub mod Lines

@@ -1,0 +1,1 @@
+// The job that a supplier's two texts describe: definitions without code.
