@@ -7,7 +7,9 @@ ghost use Rattle.order_answers.specs.Answers.{headerRead, recordRead, alikeAnsw
 ghost use Rattle.partialize.specs.Partialization.{answerTo, bufferAfter};
 ghost use Rattle.partialize.specs.Demands.{Promise};
 ghost use Rattle.pair_search.specs.Answer.{pairsAnswer, PairsPromise};
-ghost use Rattle.packing.specs.Packed.{packedVerdict, packedAnswer, packedPairs, packedAlike, packedHeader, packedRecord};
+ghost use Rattle.from_pddl.specs.FromTexts as texts;
+ghost use Rattle.from_pddl.specs.Promise.{TextsPromise};
+ghost use Rattle.packing.specs.Packed.{packedVerdict, packedAnswer, packedTexts, packedPairs, packedAlike, packedHeader, packedRecord};
 ghost use Rattle.listing.specs.Listed.{filled, headerList, recordList};
 ghost use Rattle.exports.specs.Packs.{Packs};
 use listing::list_header;
@@ -17,6 +19,7 @@ use packing::packed_answer;
 use packing::packed_header;
 use packing::packed_pairs;
 use packing::packed_record;
+use packing::packed_texts;
 use packing::packed_verdict;
 
 // Whether a job is sound.
@@ -56,6 +59,17 @@ pub extern "C" fn jobs_partialize(job: &[u8], out: &mut [u8]) -> u64
 {
     let a = partialize::partialize(job, out);
     packed_answer(a)
+}
+
+// Makes a job in `out` of a supplier's action text and plan.
+#[no_mangle]
+pub extern "C" fn jobs_from_pddl(actions: &[u8], plan: &[u8], out: &mut [u8]) -> u64
+    ensures { λ r. ⌜ Packs (TextsPromise (now (actions .entry)) (now (plan .entry)) (now (out .entry)) (now (out .exit))) packedTexts
+        (texts.answerTo (now (actions .entry)) (now (plan .entry)) (length (now (out .entry)))) r ⌝ }
+    ensures { λ _. ⌜ now (out .exit) ≡ texts.bufferAfter (now (actions .entry)) (now (plan .entry)) (now (out .entry)) ⌝ }
+{
+    let a = from_pddl::job_from_texts(actions, plan, out);
+    packed_texts(a)
 }
 
 // Whether two order files are alike.

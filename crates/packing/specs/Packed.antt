@@ -11,16 +11,21 @@ use Rattle.pair_search.specs.declared.answer.PairsAnswer.{PairsAnswer}
 use Rattle.pair_search.specs.Answer as pairs
 use Rattle.partialize.specs.declared.answer.Answer.{Answer}
 use Rattle.partialize.specs.Answer as loosened
+use Rattle.from_pddl.specs.declared.answer.TextsAnswer.{TextsAnswer}
+use Rattle.from_pddl.specs.Answer as texts
 
 abbrev pub packed : ℕ → ℕ → ℕ → ℕ
 packed answer number place = answer * 2 ^ 32 + number * 2 ^ 16 + place
 
--- of the checks, of loosening, of the search by pairs, of the alike test and of the readers
+-- of the checks, of loosening, of two texts, of the search by pairs, of the alike test and of the readers
 abbrev pub packedVerdict : Verdict → ℕ
 packedVerdict v = packed 0 (verdict.number v) (verdict.place v)
 
 abbrev pub packedAnswer : Answer → ℕ
 packedAnswer a = packed (loosened.lengthOf a) (loosened.number a) (loosened.place a)
+
+abbrev pub packedTexts : TextsAnswer → ℕ
+packedTexts a = packed (texts.lengthOf a) (texts.number a) (texts.place a)
 
 abbrev pub packedPairs : PairsAnswer → ℕ
 packedPairs a = packed (pairs.compared a) (pairs.number a) (pairs.place a)

@@ -1,6 +1,7 @@
 // An answer as one number.
 ghost use mathlib.Core.Path.{_≡_};
 ghost use Rattle.packing.specs.Packed as spec;
+use from_pddl::answer::TextsAnswer;
 use order_answers::AlikeAnswer;
 use order_answers::HeaderRead;
 use order_answers::RecordRead;
@@ -29,6 +30,17 @@ pub fn packed_answer(a: Answer) -> u64
     ensures { λ r. ⌜ r ≡ spec.packedAnswer a ⌝ }
 {
     packed(answer::length(a), answer::number(a), answer::place(a))
+}
+
+// What two texts are answered.
+pub fn packed_texts(a: TextsAnswer) -> u64
+    ensures { λ r. ⌜ r ≡ spec.packedTexts a ⌝ }
+{
+    packed(
+        from_pddl::answer::length(a),
+        from_pddl::answer::number(a),
+        from_pddl::answer::place(a),
+    )
 }
 
 // What the search by pairs answers.

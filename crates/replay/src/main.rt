@@ -1,9 +1,11 @@
 // Runs made cases: reads the file `cases` to its end and prints a line a case.
+mod buffers;
 mod fields;
 mod lines;
 mod loosen;
 mod order_files;
 mod pairs;
+mod texts;
 mod timing;
 mod well_formed;
 
@@ -20,6 +22,7 @@ fn serve(fd: i32) -> bool {
         b't' => timing::serve_schedule(fd),
         b'l' => loosen::serve_loosen(fd),
         b'p' => pairs::serve_pairs(fd),
+        b'f' => texts::serve_texts(fd),
         b'h' => order_files::serve_header(fd),
         b'r' => order_files::serve_record(fd),
         b'a' => order_files::serve_alike(fd),

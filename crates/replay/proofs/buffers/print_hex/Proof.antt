@@ -1,8 +1,8 @@
 -- The bytes are printed one by one.
 use Prim.Native.Nat.{_≤_, _-_}
 use borrow.Author.Needs.{needs}
-use Rattle.replay.proofs.loosen.print_hex.Statement.{statement}
-use Rattle.replay.proofs.loosen.print_hex.Tie as tie
+use Rattle.replay.proofs.buffers.print_hex.Statement.{statement}
+use Rattle.replay.proofs.buffers.print_hex.Tie as tie
 
 pub print-hex-spec : {M : Type 1} → statement M
 print-hex-spec =

@@ -2,8 +2,8 @@
 use Prim.Native.Nat.{_≤_}
 use lib.ListN.{length}
 use borrow.Author.Needs.{needs}
-use Rattle.replay.proofs.loosen.front.Statement.{statement}
-use Rattle.replay.proofs.loosen.front.Tie as tie
+use Rattle.replay.proofs.buffers.front.Statement.{statement}
+use Rattle.replay.proofs.buffers.front.Tie as tie
 
 pub front-spec : {M : Type 1} → statement M
 front-spec =

@@ -1,0 +1,44 @@
+// Makes a job of a supplier's two texts: `pddl ACTIONS PLAN JOB`. Prints a line, the job's length or in words what is wrong and where.
+mod files;
+mod told;
+
+use from_pddl::answer::TextsAnswer;
+use from_pddl::job_from_texts;
+use job_from_notes::file::LONGEST_JOB;
+
+// Writes the job that was made, or says why none was.
+fn finish(answer: TextsAnswer, job: &[u8]) {
+    if from_pddl::answer::number(answer) != 0 {
+        told::refused(answer);
+        return;
+    }
+    let n = from_pddl::answer::length(answer) as usize;
+    if n <= job.len() {
+        if files::write_file(3, &job[..n]) {
+            told::made(n);
+        }
+    }
+}
+
+fn make() {
+    let mut actions = io::large_buffer();
+    let first = files::read_file(1, &mut actions);
+    let mut plan = io::large_buffer();
+    let second = files::read_file(2, &mut plan);
+    if !(first.whole & second.whole) {
+        return;
+    }
+    let m = first.len;
+    let n = second.len;
+    let mut job = [0u8; LONGEST_JOB];
+    let answer = job_from_texts(&actions[..m], &plan[..n], &mut job);
+    finish(answer, &job);
+}
+
+fn main() {
+    if os::arg_count() == 4 {
+        make();
+    } else {
+        told::usage();
+    }
+}
