@@ -1,10 +1,11 @@
 /* The static library `exports` for C and C++ callers: job files of editions 1 and 2 checked,
- * searched and loosened, order files read and compared.
+ * searched and loosened, order files read and compared, jobs made of PDDL texts.
  *
  * No function presumes anything of the bytes it is given. Each slice is a pointer and a length;
  * the pointer must be aligned and not null even where the length is 0. What a function writes
  * into must not overlap what it reads. Nothing is kept after the return, nothing is allocated; a
- * call takes less than JOBS_STACK bytes of its thread's stack, whatever it is given.
+ * call takes less than JOBS_STACK bytes of its thread's stack, jobs_from_pddl less than
+ * JOBS_TEXTS_STACK, whatever it is given.
  *
  * All functions return one number, which the functions below take apart:
  *
@@ -12,11 +13,15 @@
  *
  * The number is 0 if the input is accepted, and then the place is JOBS_NOWHERE, or the step that
  * jobs_pairs found. Otherwise the input is refused: the number says why, the place is the lowest
- * record concerned (or JOBS_NOWHERE where none is named), the answer is 0, and no lent byte or
- * number has changed.
+ * record concerned (or JOBS_NOWHERE where none is named), for 18 to 20 a line of a text, from 0 up
+ * to 65,535; the answer is 0, and no lent byte or number has changed.
  *
  * The numbers in checking order, with what the place names:
  *
+ *     18  a text is longer than 65,535 bytes (0), or outside the grammar (the line of the first
+ *         word, bracket or line end that cannot stand there, or of the text's end)
+ *     19  (and ..) is nested deeper than 16 (the line of the seventeenth `and`)
+ *     20  a plan line names no action, or has another duration than its action (line of the plan)
  *      1  the job file is shorter than 48 bytes; after 2, also than the 52 of edition 2
  *      2  its edition is neither 1 nor 2
  *      3  its serial mark exceeds 1, or in edition 1 its tenth number is not 0
@@ -35,7 +40,7 @@
  *     12  a level passes a bound (level)
  *     13  a goal fails or comes after its deadline (goal)
  *     14  steps of a serial job overlap (step)
- *     15  the buffer is shorter than the order file
+ *     15  the buffer is shorter than the order file, or than the job
  *     16  an order file breaks its layout or its ranges, or the record named is not there
  *         (0; of two files 0 or 1, the file)
  */
@@ -49,8 +54,11 @@
 extern "C" {
 #endif
 
-/* A thread with this much stack can make any call. */
+/* A thread with this much stack can make any call but jobs_from_pddl. */
 #define JOBS_STACK 98304u
+
+/* A thread with this much stack can make any call; jobs_from_pddl keeps what it reads in texts. */
+#define JOBS_TEXTS_STACK 1572864u
 
 /* The place where no record is named, and the place of an acceptance, unless jobs_pairs found a
  * step. */
@@ -58,6 +66,11 @@ extern "C" {
 
 /* No order file is longer: a header, 64 windows, 4,032 orders, 544 links. */
 #define JOBS_LONGEST_ORDER_FILE (24u + 64u * 12u + 4032u * 8u + 544u * 2u)
+
+/* No job of edition 1 is longer: a header, 256 facts, 16 levels, 64 steps, 512 conditions, 512
+ * effects, 256 uses, 32 goals. */
+#define JOBS_LONGEST_JOB \
+    (48u + 256u + 16u * 12u + 64u * 10u + 512u * 14u + 512u * 10u + 256u * 12u + 32u * 8u)
 
 /* In an order file: the latest start that is none, the link to timed fact 0, which those to the
  * others follow up to 575, and the link to the initial state. */
@@ -70,8 +83,8 @@ extern "C" {
 #define JOBS_ORDERS 1u
 #define JOBS_LINKS 2u
 
-/* The length from jobs_partialize; how many pairs jobs_pairs compared; 1 if jobs_alike says yes;
- * else 0. */
+/* The length from jobs_partialize and jobs_from_pddl; how many pairs jobs_pairs compared; 1 if
+ * jobs_alike says yes; else 0. */
 static inline uint32_t jobs_answer(uint64_t returned)
 {
     return (uint32_t)(returned >> 32);
@@ -83,7 +96,7 @@ static inline uint32_t jobs_number(uint64_t returned)
     return (uint32_t)(returned >> 16) & 65535u;
 }
 
-/* The record that a refusal names, the step that jobs_pairs found, or JOBS_NOWHERE. */
+/* The record or line that a refusal names, the step that jobs_pairs found, or JOBS_NOWHERE. */
 static inline uint32_t jobs_place(uint64_t returned)
 {
     return (uint32_t)returned & 65535u;
@@ -122,6 +135,13 @@ uint64_t jobs_order_header(const uint8_t *file, size_t len, uint32_t *list, size
  * JOBS_FIRST_TIMED plus a timed fact's number, or JOBS_INITIAL_STATE. Refuses with 16. */
 uint64_t jobs_order_record(const uint8_t *file, size_t len, uint32_t table, uint32_t number,
                            uint32_t *list, size_t count);
+
+/* Makes two PDDL texts of at most 65,535 bytes each into a job of edition 1 at the front of `out`,
+ * and answers the job's length; bytes past it stay. The first text holds the actions, the initial
+ * state and the goals, the second the plan. Refuses with 18 or 19 at the first text's first fault,
+ * else at the second's; then with 20, 4, 6, 7, 10 to 13 and 15. */
+uint64_t jobs_from_pddl(const uint8_t *actions, size_t actions_len, const uint8_t *plan,
+                        size_t plan_len, uint8_t *out, size_t out_len);
 
 #ifdef __cplusplus
 }

@@ -6,19 +6,21 @@ use crate::bytes::{put_u32, u32_at};
 use crate::loosen::loosen;
 use crate::order_file::{alike, read_header, read_record, Link, Record, LINKS_TABLE, NONE};
 use crate::pairs::search;
+use crate::pddl::jobs_from_pddl;
 use crate::refusal::{number_and_place, Refusal};
 use crate::timing::{check_job, check_timing};
 use crate::well_formed::well_formed;
 
-/// The commands: well-formedness, job check, timing check, header, record, alike, loosening, pairs.
-pub const COMMANDS: &str = "wcthralp";
+/// The commands: well-formedness, job check, timing check, header, record, alike, loosening, pairs,
+/// from texts.
+pub const COMMANDS: &str = "wcthralpf";
 
 pub const LONGEST_FIELD: usize = 65_536;
 
 /// The most starts that a case adds to the list in its field.
 pub const MOST_FURTHER: usize = 65_536;
 
-/// What a buffer holds before loosening.
+/// What a buffer holds before something is written into it.
 const FILLING: u8 = 165;
 
 #[derive(Clone, Debug, PartialEq, Eq)]
@@ -77,6 +79,13 @@ impl Case {
             fields: vec![a, b],
         }
     }
+
+    pub fn from_texts(actions: Vec<u8>, plan: Vec<u8>, room: usize) -> Case {
+        Case {
+            command: 'f',
+            fields: vec![actions, plan, number_field(room as u32)],
+        }
+    }
 }
 
 fn number_field(number: u32) -> Vec<u8> {
@@ -132,7 +141,7 @@ fn fields_of(command: char) -> Option<usize> {
     match command {
         'w' | 'c' | 'h' | 'p' => Some(1),
         'l' | 'a' => Some(2),
-        't' | 'r' => Some(3),
+        't' | 'r' | 'f' => Some(3),
         _ => None,
     }
 }
@@ -166,6 +175,7 @@ pub enum Asked<'a> {
     Alike(&'a [u8], &'a [u8]),
     Loosening(&'a [u8], usize),
     Pairs(&'a [u8]),
+    FromTexts(&'a [u8], &'a [u8], usize),
 }
 
 impl Case {
@@ -186,6 +196,10 @@ impl Case {
             'a' => Asked::Alike(field(0), field(1)),
             'l' => Asked::Loosening(field(0), number_up_to(LONGEST_FIELD, field(1))?),
             'p' => Asked::Pairs(field(0)),
+            'f' => {
+                let room = number_up_to(LONGEST_FIELD, field(2))?;
+                Asked::FromTexts(field(0), field(1), room)
+            }
             _ => return None,
         })
     }
@@ -218,6 +232,7 @@ pub fn answer(case: &Case) -> Option<String> {
         Asked::Alike(a, b) => alike_line(a, b),
         Asked::Loosening(job, length) => loosening_line(job, length),
         Asked::Pairs(job) => pairs_line(job),
+        Asked::FromTexts(actions, plan, room) => from_texts_line(actions, plan, room),
     })
 }
 
@@ -258,21 +273,27 @@ fn alike_line(a: &[u8], b: &[u8]) -> String {
     with_numbers(verdict_line('a', &answer), &[yes])
 }
 
-/// The buffer is printed up to its last byte unlike the filling; how many follow is counted.
 fn loosening_line(job: &[u8], length: usize) -> String {
     let mut buffer = vec![FILLING; length];
     let answer = loosen(job, &mut buffer);
+    let line = format!("l {} {} {}", answer.number, answer.place, answer.length);
+    with_buffer(line, &buffer)
+}
+
+fn from_texts_line(actions: &[u8], plan: &[u8], room: usize) -> String {
+    let mut buffer = vec![FILLING; room];
+    let answer = jobs_from_pddl(actions, plan, &mut buffer);
+    let line = format!("f {} {} {}", answer.number, answer.place, answer.length);
+    with_buffer(line, &buffer)
+}
+
+/// The buffer is printed up to its last byte unlike the filling; how many follow is counted.
+fn with_buffer(line: String, buffer: &[u8]) -> String {
     let last = buffer.iter().rposition(|&byte| byte != FILLING);
     let (front, rest) = buffer.split_at(last.map_or(0, |last| last + 1));
     let hex: String = front.iter().map(|byte| format!("{byte:02x}")).collect();
     let hex = if hex.is_empty() { "-" } else { &hex };
-    format!(
-        "l {} {} {} {hex} {}",
-        answer.number,
-        answer.place,
-        answer.length,
-        rest.len()
-    )
+    format!("{line} {hex} {}", rest.len())
 }
 
 fn pairs_line(job: &[u8]) -> String {

@@ -21,6 +21,7 @@ pub mod setters;
 pub mod show;
 pub mod stored;
 pub mod stored_pairs;
+pub mod stored_texts;
 pub mod stored_timed;
 pub mod timing;
 pub mod tuned;

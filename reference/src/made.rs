@@ -7,6 +7,7 @@ use crate::make::crowded::crowded_job;
 use crate::make::near_miss::{near_miss, nearly_missed};
 use crate::make::order_files::{broken_files, slightly_changed, some_good_file};
 use crate::make::own_conflicts::some_own_conflict;
+use crate::make::pddl::{some_texts, Texts};
 use crate::make::scribbled::scribbled_job;
 use crate::make::sound::{small_sound_job, some_sound_job};
 use crate::make::timings::some_starts;
@@ -38,6 +39,7 @@ pub fn made_case_of(edition: u16, random: &mut Random, command: char) -> Case {
         'a' => alike_case(random, edition),
         'l' => loosening_case(random, edition),
         'p' => Case::job('p', file_for_the_search(random, edition)),
+        'f' => texts_case(random),
         _ => panic!("there is no command {command}"),
     }
 }
@@ -176,4 +178,16 @@ fn alike_case(random: &mut Random, edition: u16) -> Case {
         _ => (file.to_file(), file.to_file()),
     };
     Case::alike(a, b)
+}
+
+// ---------------------------------------------------------------------------------------------
+// Texts
+
+fn texts_case(random: &mut Random) -> Case {
+    let Texts {
+        actions,
+        plan,
+        room,
+    } = some_texts(random);
+    Case::from_texts(actions, plan, room)
 }

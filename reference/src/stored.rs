@@ -19,10 +19,11 @@ use crate::order_file::OrderFile;
 use crate::random::Random;
 use crate::samples::{sample, SAMPLES};
 use crate::stored_pairs;
+use crate::stored_texts;
 use crate::stored_timed;
 
 /// The commands that the replay program serves; the others join here as it learns them.
-pub const SERVED: &str = "whractlp";
+pub const SERVED: &str = "whractlpf";
 
 pub struct Stored {
     pub cases: Vec<u8>,
@@ -39,6 +40,9 @@ pub fn stored(commands: &str) -> Stored {
 
 /// The stored cases of one command do not depend on which others are served.
 pub fn stored_cases(command: char) -> Vec<Case> {
+    if command == 'f' {
+        return stored_texts::cases();
+    }
     let mut cases = cases_of_edition_1(command);
     cases.extend(stored_timed::cases_of_edition_2(command));
     cases

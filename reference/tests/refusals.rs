@@ -385,6 +385,7 @@ fn made_cases_leave_no_refusal_out() {
             't' => (0..=14).filter(|&number| number != 1).collect(),
             'l' => (0..=7).chain(10..=15).collect(),
             'p' => (0..=6).collect(),
+            'f' => vec![0, 4, 6, 7, 10, 11, 12, 13, 15, 18, 19, 20],
             _ => vec![0, 16],
         };
         if edition == 2 && "wctl".contains(command) {

@@ -6,6 +6,7 @@ use std::path::PathBuf;
 use reference::cases::{answers, cases_file, Case, COMMANDS};
 use reference::make::order_files::plain_file;
 use reference::make::pairs::in_a_later_step;
+use reference::make::pddl::highest::LONGEST_JOB;
 use reference::make::telling::small_job;
 use reference::stored::{stored, stored_cases, SERVED};
 
@@ -28,11 +29,27 @@ fn writing_them_again_gives_the_same_bytes() {
 #[test]
 fn all_commands_together_stay_small() {
     let all = stored(COMMANDS);
-    assert!(all.cases.len() < 4_000_000);
+    assert!(all.cases.len() < 8_000_000);
     assert!(all.stdout.len() < 2_000_000);
     let cases: usize = COMMANDS.chars().map(|c| stored_cases(c).len()).sum();
     assert_eq!(all.stdout.lines().count(), cases);
     assert!(!all.stdout.contains("bad cases"));
+}
+
+fn texts(actions: &str, room: usize) -> Case {
+    Case::from_texts(actions.into(), b" \n".to_vec(), room)
+}
+
+#[test]
+fn stored_texts_are_given_every_answer() {
+    let stdout = stored("f").stdout;
+    let numbers = stdout.lines().filter_map(|line| line.split(' ').nth(1));
+    let mut numbers: Vec<u16> = numbers.filter_map(|number| number.parse().ok()).collect();
+    numbers.sort();
+    numbers.dedup();
+    assert_eq!(numbers, [0, 4, 6, 7, 10, 11, 12, 13, 15, 18, 19, 20]);
+    let longest = format!("f 0 65535 {LONGEST_JOB} ");
+    assert!(stdout.lines().any(|line| line.starts_with(&longest)));
 }
 
 #[test]
@@ -60,6 +77,10 @@ fn lines_of_each_command() {
         Case::job('p', job),
         Case::job('p', in_a_later_step()[0].to_file()),
         Case::job('p', vec![]),
+        texts("(:init(f))(:goal(f))", 67),
+        texts("(:init(f))(:goal(f))", 56),
+        texts("(:init)(:goal(f))", 57),
+        texts("(:init)\n\n(f)", 0),
     ];
     let lines = "\
 w 0 65535
@@ -86,6 +107,13 @@ l 0 65535 58 010002000100010002000000180000003000000038000000\
 p 0 65535 0
 p 0 2 4
 p 1 65535 0
+f 0 65535 57 010000000100000000000100000000000000000030000000\
+310000003100000031000000310000003100000031000000\
+01\
+00000100ffffffff 10
+f 15 65535 0 - 56
+f 13 0 0 - 57
+f 18 2 0 - 0
 ";
     assert_eq!(answers(&cases_file(&cases)), lines);
 }
@@ -123,4 +151,11 @@ fn a_damaged_file_of_cases_ends_with_a_line() {
         fields: vec![job, vec![0; 3]],
     };
     assert_eq!(then(&cases_file(&[odd_number])), bad);
+    let too_much_room = texts("(:init)(:goal(and))", 65_537);
+    assert_eq!(then(&cases_file(&[too_much_room])), bad);
+    let no_room = Case {
+        command: 'f',
+        fields: vec![vec![], vec![], vec![]],
+    };
+    assert_eq!(then(&cases_file(&[no_room])), bad);
 }

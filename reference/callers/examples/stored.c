@@ -1,5 +1,5 @@
-/* Puts a file of cases, such as replay's stored ones, through the static library, in a thread whose whole
- * stack is what jobs.h asks for, and prints the lines expected of them. The form check by itself
+/* Puts a file of cases, such as replay's stored ones, through the static library, in threads whose
+ * whole stack is what jobs.h asks for, and prints the lines expected of them. The form check by itself
  * (`w`) is no function of the library: such a case is passed over. From the root of the repository:
  *
  *     cc -std=c11 -pthread -Iinclude -o target/stored \
@@ -186,6 +186,32 @@ static void alike(void)
     printf(" %u\n", jobs_answer(returned));
 }
 
+/* In a thread of its own: it needs more stack than the others. */
+static void *from_pddl(void *unused)
+{
+    size_t len = number_in(2, LONGEST);
+    memset(buffer, FILLING, sizeof buffer);
+    uint64_t returned = jobs_from_pddl(fields[0].bytes, fields[0].len, fields[1].bytes,
+                                       fields[1].len, buffer, len);
+    begin('f', returned);
+    printf(" %u", jobs_answer(returned));
+    print_buffer(len);
+    return unused;
+}
+
+/* Runs a function to its end in a thread with this much stack. */
+static void in_a_thread(void *(*function)(void *), size_t stack)
+{
+    pthread_attr_t attributes;
+    pthread_t thread;
+    if (pthread_attr_init(&attributes) != 0
+        || pthread_attr_setstacksize(&attributes, stack) != 0
+        || pthread_create(&thread, &attributes, function, NULL) != 0
+        || pthread_join(thread, NULL) != 0)
+        fail("no thread with so little stack");
+    pthread_attr_destroy(&attributes);
+}
+
 static void *run(void *unused)
 {
     for (int command; (command = getc(cases)) != EOF;) {
@@ -198,6 +224,7 @@ static void *run(void *unused)
         case 'h': header(); break;
         case 'r': record(); break;
         case 'a': alike(); break;
+        case 'f': read_fields(3); in_a_thread(from_pddl, JOBS_TEXTS_STACK); break;
         default: fail("bad cases");
         }
     }
@@ -209,12 +236,6 @@ int main(int count, char **arguments)
     cases = count == 2 ? fopen(arguments[1], "rb") : NULL;
     if (cases == NULL)
         fail("which cases?");
-    pthread_attr_t attributes;
-    pthread_t thread;
-    if (pthread_attr_init(&attributes) != 0
-        || pthread_attr_setstacksize(&attributes, JOBS_STACK) != 0
-        || pthread_create(&thread, &attributes, run, NULL) != 0
-        || pthread_join(thread, NULL) != 0)
-        fail("no thread with so little stack");
+    in_a_thread(run, JOBS_STACK);
     return 0;
 }

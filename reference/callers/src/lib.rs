@@ -3,6 +3,8 @@
 //! The functions are those of `include/jobs.h`, which says what each refuses. A refusal changes
 //! no byte and no number that was lent.
 
+use std::ops::RangeInclusive;
+
 mod library {
     extern "C" {
         pub fn jobs_check(job: *const u8, len: usize) -> u64;
@@ -24,6 +26,14 @@ mod library {
             list: *mut u32,
             count: usize,
         ) -> u64;
+        pub fn jobs_from_pddl(
+            actions: *const u8,
+            actions_len: usize,
+            plan: *const u8,
+            plan_len: usize,
+            out: *mut u8,
+            out_len: usize,
+        ) -> u64;
     }
 }
 
@@ -33,15 +43,15 @@ pub struct Packed(pub u64);
 
 #[derive(Clone, Copy, Debug, PartialEq, Eq)]
 pub enum Answer {
-    /// The length from loosening, how many pairs were compared, 1 for alike, else 0.
+    /// The length from loosening or of a job, how many pairs were compared, 1 for alike, else 0.
     Accepted(u32),
-    /// The place is none where no record is named.
+    /// The place is none where no record or line is named.
     Refused { number: u16, place: Option<u16> },
 }
 
 impl Packed {
     pub fn answer(self) -> Answer {
-        match (self.0 >> 16) as u16 {
+        match self.number() {
             0 => Answer::Accepted((self.0 >> 32) as u32),
             number => Answer::Refused {
                 number,
@@ -50,12 +60,19 @@ impl Packed {
         }
     }
 
-    /// The record that a refusal names; accepted, the step of the pair that `pairs` found.
+    /// The record or line that a refusal names; accepted, the step of the pair that `pairs` found.
     pub fn place(self) -> Option<u16> {
         let place = self.0 as u16;
-        (place != u16::MAX).then_some(place)
+        (place != u16::MAX || NAMES_A_LINE.contains(&self.number())).then_some(place)
+    }
+
+    fn number(self) -> u16 {
+        (self.0 >> 16) as u16
     }
 }
+
+/// Refusals of texts, whose place is a line: even 65,535 is one.
+const NAMES_A_LINE: RangeInclusive<u16> = 18..=20;
 
 // Every call below lends the library whole slices, for as long as the call lasts: a shared one to
 // read, a mutable one to read and write. A slice's pointer is aligned and not null, empty or not.
@@ -104,5 +121,21 @@ pub fn order_record(file: &[u8], table: u32, number: u32, list: &mut [u32]) -> P
     let (list, count) = (list.as_mut_ptr(), list.len());
     Packed(unsafe {
         library::jobs_order_record(file.as_ptr(), file.len(), table, number, list, count)
+    })
+}
+
+/// Makes two PDDL texts, the actions and the plan, into a job of edition 1 at the front of the buffer;
+/// the answer is its length. The thread needs `JOBS_TEXTS_STACK` bytes of stack, 1.5 MiB.
+pub fn from_pddl(actions: &[u8], plan: &[u8], out: &mut [u8]) -> Packed {
+    let (out, out_len) = (out.as_mut_ptr(), out.len());
+    Packed(unsafe {
+        library::jobs_from_pddl(
+            actions.as_ptr(),
+            actions.len(),
+            plan.as_ptr(),
+            plan.len(),
+            out,
+            out_len,
+        )
     })
 }

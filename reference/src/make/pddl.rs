@@ -2,6 +2,7 @@
 
 pub mod by_hand;
 pub mod damage;
+pub mod highest;
 pub mod nudges;
 pub mod sound;
 pub mod spelling;

@@ -5,6 +5,8 @@ use reference::make::pddl::by_hand::{
     action_texts, all, jobs, lengths, names, plans, told_alone, Told,
 };
 use reference::make::pddl::damage::each_byte;
+use reference::make::pddl::highest::{highest_texts, last_records_at_fault, LONGEST_JOB};
+use reference::pddl::job_from_texts;
 
 fn assert_told(texts: Vec<Told>) {
     for told in texts {
@@ -38,6 +40,14 @@ fn lengths_by_hand() {
 #[test]
 fn jobs_by_hand() {
     assert_told(jobs::all());
+}
+
+#[test]
+fn texts_of_a_job_with_every_table_full() {
+    let Told { actions, plan, .. } = highest_texts();
+    let job = job_from_texts(&actions, &plan).unwrap();
+    assert_eq!(job.len(), LONGEST_JOB);
+    assert_told(last_records_at_fault());
 }
 
 #[test]

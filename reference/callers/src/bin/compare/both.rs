@@ -6,6 +6,7 @@ use callers::Packed;
 use reference::loosen::{loosen, order_file_of};
 use reference::order_file::{alike, read_header, read_record, Record, NONE};
 use reference::pairs::search;
+use reference::pddl::jobs_from_pddl;
 use reference::refusal::{number_and_place, Refusal, NOWHERE};
 use reference::timing::{check_job, check_timing};
 
@@ -113,6 +114,22 @@ impl Both {
             self.tally.count_alike();
         }
         Ok(())
+    }
+
+    /// With a buffer of this length.
+    pub fn from_pddl(&mut self, actions: &[u8], plan: &[u8], length: usize) -> Result<(), String> {
+        let lent = MARGIN..MARGIN + length;
+        let mut expected_buffer = vec![FILLING; length + 2 * MARGIN];
+        let mut buffer = expected_buffer.clone();
+        let expected = jobs_from_pddl(actions, plan, &mut expected_buffer[lent.clone()]);
+        let answer = callers::from_pddl(actions, plan, &mut buffer[lent]);
+        let packed = pack(expected.length, (expected.number, expected.place));
+        let inputs = || {
+            let (actions, plan) = (actions.escape_ascii(), plan.escape_ascii());
+            format!("jobs_from_pddl, actions \"{actions}\" plan \"{plan}\" buffer of {length}")
+        };
+        self.agree(Entry::FromPddl, answer, packed, inputs)?;
+        same("buffer", &buffer, &expected_buffer, inputs)
     }
 
     fn agree(

@@ -1,5 +1,5 @@
-//! `compare N SEED`: made jobs, starts, order files and damaged bytes go through the static library
-//! and through the second program, N calls of each. `compare CASES`: a file of cases does. Every
+//! `compare N SEED`: made jobs, starts, order files, texts and damaged bytes go through the static
+//! library and through the second program, N calls of each. `compare CASES`: a file of cases does. Every
 //! answer and every lent byte must agree, and every refusal must have occurred, as must searches
 //! that find a pair and that find none.
 
@@ -58,6 +58,7 @@ fn compare_case(both: &mut Both, case: &Case) -> Result<(), String> {
         Asked::Alike(a, b) => both.alike(a, b),
         Asked::Loosening(job, length) => both.partialize_into(job, length),
         Asked::Pairs(job) => both.pairs(job),
+        Asked::FromTexts(actions, plan, room) => both.from_pddl(actions, plan, room),
     }
 }
 
@@ -86,7 +87,7 @@ fn whole(tally: &Tally) -> Result<String, String> {
     }
 }
 
-/// From each job come a few calls, and from its order file a few more.
+/// From each job come a few calls, from its order file a few more, and with them goes a pair of texts.
 fn share(mut source: Source, calls: u64) -> Result<Tally, String> {
     let mut both = Both::default();
     while both.tally.calls() < calls {
@@ -102,6 +103,8 @@ fn share(mut source: Source, calls: u64) -> Result<Tally, String> {
         let other = source.other_file(&file);
         both.alike(&file, &other)?;
         both.alike(&other, &file)?;
+        let texts = source.texts();
+        both.from_pddl(&texts.actions, &texts.plan, texts.room)?;
     }
     Ok(both.tally)
 }

@@ -15,6 +15,10 @@ use reference::make::order_files::{
 };
 use reference::make::own_conflicts::{own_conflicts, some_own_conflict};
 use reference::make::pairs::{beside_timed_facts, large_pairs, small_pairs};
+use reference::make::pddl::by_hand::{all, Told};
+use reference::make::pddl::damage as texts_damage;
+use reference::make::pddl::highest::{highest_texts, last_records_at_fault, LONGEST_JOB};
+use reference::make::pddl::{some_texts, Texts};
 use reference::make::scribbled::scribbled_job;
 use reference::make::sound::some_sound_job;
 use reference::make::telling::telling_jobs;
@@ -28,6 +32,11 @@ use reference::random::Random;
 
 const NEAR_MISSES: usize = 200;
 
+const MADE_TEXTS: usize = 2_000;
+
+/// Texts with more bytes take long to go through.
+const SMALL_TEXTS: usize = 1_000;
+
 /// A job file, and starts to check it with.
 type Timed = (Vec<u8>, Vec<u32>);
 
@@ -36,6 +45,8 @@ pub struct Pool {
     jobs: Vec<Timed>,
     large: Vec<Timed>,
     files: Vec<Vec<u8>>,
+    texts: Vec<Texts>,
+    large_texts: Vec<Texts>,
 }
 
 impl Pool {
@@ -45,11 +56,22 @@ impl Pool {
             jobs: Vec::new(),
             large: Vec::new(),
             files: Vec::new(),
+            texts: Vec::new(),
+            large_texts: Vec::new(),
         };
         for edition in 1..=LATEST_EDITION {
             pool.add_edition(&mut random, edition);
         }
+        pool.add_texts(&mut random);
         pool
+    }
+
+    fn add_texts(&mut self, random: &mut Random) {
+        let by_hand = [all(), last_records_at_fault(), vec![highest_texts()]].concat();
+        let mut texts: Vec<Texts> = by_hand.into_iter().map(into_longest).collect();
+        texts.extend((0..MADE_TEXTS).map(|_| some_texts(random)));
+        let small = |texts: &Texts| texts.actions.len() + texts.plan.len() <= SMALL_TEXTS;
+        (self.texts, self.large_texts) = texts.into_iter().partition(small);
     }
 
     /// What the jobs of an edition add, and the order files that they make possible.
@@ -100,6 +122,15 @@ fn large(edition: u16) -> Vec<Job> {
     large.extend([chain_of_all_steps(), every_pair_ordered_both_ways()]);
     large.extend(large_pairs());
     large
+}
+
+/// With a buffer that takes any job.
+fn into_longest(told: Told) -> Texts {
+    Texts {
+        actions: told.actions,
+        plan: told.plan,
+        room: LONGEST_JOB,
+    }
 }
 
 fn timed(random: &mut Random, job: &Job) -> Timed {
@@ -222,6 +253,22 @@ impl Source<'_> {
             1 | 2 if !file.is_empty() => changed(&mut self.random, file.to_vec()),
             _ => self.order_file(None),
         }
+    }
+
+    /// A pair of texts, one of them damaged now and then.
+    pub fn texts(&mut self) -> Texts {
+        let random = &mut self.random;
+        let mut texts = match random.below(1_000) {
+            0 => one_of(random, &self.pool.large_texts),
+            1..5 => some_texts(random),
+            _ => one_of(random, &self.pool.texts),
+        };
+        match random.below(10) {
+            0..3 => texts.actions = texts_damage::some_byte(random, texts.actions),
+            3 => texts.plan = texts_damage::some_byte(random, texts.plan),
+            _ => {}
+        }
+        texts
     }
 }
 

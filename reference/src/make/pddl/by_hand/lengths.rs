@@ -7,6 +7,7 @@ pub fn all() -> Vec<Told> {
         longest_texts(),
         texts_over_their_length(),
         last_lines(),
+        faults_far_down(),
         counts_past_65_535(),
         names_as_many_as_fit(),
     ]
@@ -58,6 +59,22 @@ pub fn last_lines() -> Vec<Told> {
         told_alone(lines(65_534) + ")", (18, 65_534)),
         told(SHORT, lines(65_535), GOOD),
         told(SHORT, lines(65_534) + "0", (18, 65_534)),
+    ]
+}
+
+/// What counts of the longest texts is their last bytes.
+pub fn faults_far_down() -> Vec<Told> {
+    let down = |text: &str| format!("{}{text}", "\n".repeat(65_535 - text.len()));
+    let one = action("a", "5", "(and)", "(and)");
+    let text = actions(&[&one], "", "(and)");
+    let deep = format!("(:init)(:goal{}", "(and".repeat(17));
+    let lines_of_deep = (65_535 - deep.len()) as u16;
+    vec![
+        told(down(&text), "0:(a)[5]", GOOD),
+        told(&text, down("0:(a)[5]"), GOOD),
+        told(&text, down("0:(b)[5]"), (20, 65_527)),
+        told(&text, down("0:(a)[6]"), (20, 65_527)),
+        told_alone(down(&deep), (19, lines_of_deep)),
     ]
 }
 
