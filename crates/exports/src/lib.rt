@@ -7,8 +7,8 @@ ghost use Rattle.order_answers.specs.Answers.{headerRead, recordRead, alikeAnsw
 ghost use Rattle.partialize.specs.Partialization.{answerTo, bufferAfter};
 ghost use Rattle.partialize.specs.Demands.{Promise};
 ghost use Rattle.pair_search.specs.Answer.{pairsAnswer, PairsPromise};
-ghost use Rattle.from_pddl.specs.FromTexts as texts;
-ghost use Rattle.from_pddl.specs.Promise.{TextsPromise};
+ghost use Rattle.texts_answer.specs.FromTexts as texts;
+ghost use Rattle.texts_answer.specs.Promise.{TextsPromise};
 ghost use Rattle.packing.specs.Packed.{packedVerdict, packedAnswer, packedTexts, packedPairs, packedAlike, packedHeader, packedRecord};
 ghost use Rattle.listing.specs.Listed.{filled, headerList, recordList};
 ghost use Rattle.exports.specs.Packs.{Packs};

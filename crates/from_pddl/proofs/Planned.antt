@@ -28,11 +28,12 @@ use Rattle.naming.specs.Named.{Readable, AllNamed}
 use Rattle.job_from_notes.specs.Counted.{tablesIn, Walked}
 use Rattle.plan_check.specs.Checked.{Checked}
 use Rattle.verdict.specs.declared.Verdict.the-variants.{CountTooHigh}
-use Rattle.from_pddl.specs.declared.answer.TextsAnswer.{TextsAnswer}
-use Rattle.from_pddl.specs.declared.answer.TextsAnswer.the-variants.{PlanOutside, PlanDiffers, Refused}
-use Rattle.from_pddl.specs.FromTexts.{jobBytes, counted, planAnswer, bytesOf, written}
-use Rattle.from_pddl.specs.Answered.{Answered, Filed}
-use Rattle.from_pddl.proofs.Lines.{line-differs, no-line-differs}
+use Rattle.texts_answer.specs.declared.TextsAnswer.{TextsAnswer}
+use Rattle.texts_answer.specs.declared.TextsAnswer.the-variants.{PlanOutside, PlanDiffers, Refused}
+use Rattle.texts_answer.specs.FromTexts.{jobBytes, counted, planAnswer, bytesOf, written}
+use Rattle.job_filing.specs.Filed.{Filed}
+use Rattle.texts_answer.proofs.Lines.{line-differs, no-line-differs}
+use Rattle.from_pddl.specs.Answered.{Answered}
 
 -- a job has a step for each line, and 64 at most
 steps-are : (is plan : List Item) → suppliedJob is plan .steps ≡ length (linesOf plan)

@@ -19,7 +19,7 @@ use Rattle.text_reader.specs.Heard.{Heard}
 use Rattle.supplied.specs.Names.{withNames}
 use Rattle.naming.specs.declared.Names.{Names}
 use Rattle.naming.specs.Named.{Readable, Found}
-use Rattle.from_pddl.specs.FromTexts.{actionsRead}
+use Rattle.texts_answer.specs.FromTexts.{actionsRead}
 use Rattle.from_pddl.specs.Understood.{Understood}
 use Rattle.from_pddl.proofs.Named.{names-first}
 

@@ -8,14 +8,14 @@ use lib.ListN.{length, take}
 use lib.Seq.{length-take-le}
 use Rattle.grammar.specs.Reading.{planReading}
 use Rattle.notes.specs.Notes.{itemsIn}
+use Rattle.texts_answer.specs.declared.TextsAnswer.{TextsAnswer}
+use Rattle.texts_answer.specs.declared.TextsAnswer.the-variants.{ActionsOutside, ActionsTooDeep}
+use Rattle.texts_answer.specs.FromTexts.{actionsRead, textsAnswer, answerTo, bytesOf, written, bufferAfter}
+use Rattle.texts_answer.specs.Promise.{TextsPromise}
+use Rattle.texts_answer.proofs.Promised.{texts-promise}
 use Rattle.from_pddl.specs.declared.actions.Actions.{Actions}
-use Rattle.from_pddl.specs.declared.answer.TextsAnswer.{TextsAnswer}
-use Rattle.from_pddl.specs.declared.answer.TextsAnswer.the-variants.{ActionsOutside, ActionsTooDeep}
-use Rattle.from_pddl.specs.FromTexts.{actionsRead, textsAnswer, answerTo, bytesOf, written, bufferAfter}
 use Rattle.from_pddl.specs.Understood.{Understood}
 use Rattle.from_pddl.specs.Answered.{Answered}
-use Rattle.from_pddl.specs.Promise.{TextsPromise}
-use Rattle.from_pddl.proofs.Promised.{texts-promise}
 
 module _ (text plan out : List ℕ) where
   -- an answer of the definition, with the buffer that goes with it

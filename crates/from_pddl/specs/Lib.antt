@@ -1,7 +1,3 @@
--- Jobs from two texts: the answer, the buffer afterwards, what is promised of them.
-pub mod Answer
-pub mod FromTexts
-pub mod Derived
+-- Jobs from two texts: what is known from one to the other.
 pub mod Understood
 pub mod Answered
-pub mod Promise

@@ -11,8 +11,8 @@ use Rattle.notes.specs.Notes.{itemsIn}
 use Rattle.token_reader.specs.Reading.{Fault}
 use Rattle.text_reader.specs.Heard.{notesMost}
 use Rattle.naming.specs.Named.{AllNamed, Readable}
+use Rattle.texts_answer.specs.FromTexts.{actionsRead}
 use Rattle.from_pddl.specs.declared.actions.Actions.{Actions}
-use Rattle.from_pddl.specs.FromTexts.{actionsRead}
 
 -- the notes of the action text
 abbrev pub notesOf : List ℕ → Actions → List ℕ

@@ -1,15 +1,13 @@
 // Jobs from a supplier's two texts: the actions, then the plan, then the job.
-ghost use Rattle.from_pddl.specs.Promise.{TextsPromise};
+ghost use Rattle.texts_answer.specs.Promise.{TextsPromise};
 
 mod actions;
-pub mod answer;
-mod filing;
 mod plan;
 
 use actions::read_named;
-use answer::TextsAnswer;
 use plan::NOTES;
 use plan::file_plan;
+use texts_answer::TextsAnswer;
 
 // The slots of an index of names, and what stands in a free one.
 const INDEX: usize = 69632;

@@ -4,12 +4,12 @@ ghost use lib.ListN.{length};
 ghost use Rattle.notes.specs.Notes.{itemsIn};
 ghost use Rattle.naming.specs.Named.{Readable, AllNamed};
 ghost use Rattle.from_pddl.specs.Answered.{Answered};
-use crate::answer::TextsAnswer;
-use crate::filing::file_notes;
 use job::layout::Job;
+use job_filing::file_notes;
 use naming::Names;
 use plan_check::check_lines;
 use text_reader::read_plan;
+use texts_answer::TextsAnswer;
 use verdict::Verdict;
 
 // Most notes of a text, with a 0 behind them.

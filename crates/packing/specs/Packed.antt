@@ -11,8 +11,8 @@ use Rattle.pair_search.specs.declared.answer.PairsAnswer.{PairsAnswer}
 use Rattle.pair_search.specs.Answer as pairs
 use Rattle.partialize.specs.declared.answer.Answer.{Answer}
 use Rattle.partialize.specs.Answer as loosened
-use Rattle.from_pddl.specs.declared.answer.TextsAnswer.{TextsAnswer}
-use Rattle.from_pddl.specs.Answer as texts
+use Rattle.texts_answer.specs.declared.TextsAnswer.{TextsAnswer}
+use Rattle.texts_answer.specs.Answer as texts
 
 abbrev pub packed : ℕ → ℕ → ℕ → ℕ
 packed answer number place = answer * 2 ^ 32 + number * 2 ^ 16 + place

@@ -1,7 +1,6 @@
 // An answer as one number.
 ghost use mathlib.Core.Path.{_≡_};
 ghost use Rattle.packing.specs.Packed as spec;
-use from_pddl::answer::TextsAnswer;
 use order_answers::AlikeAnswer;
 use order_answers::HeaderRead;
 use order_answers::RecordRead;
@@ -9,6 +8,7 @@ use order_reader::numbers;
 use pair_search::answer::PairsAnswer;
 use partialize::answer;
 use partialize::answer::Answer;
+use texts_answer::TextsAnswer;
 use verdict::Verdict;
 
 // The length, the count or the yes above 32 bits, the refusal's number above 16, and the place.
@@ -37,9 +37,9 @@ pub fn packed_texts(a: TextsAnswer) -> u64
     ensures { λ r. ⌜ r ≡ spec.packedTexts a ⌝ }
 {
     packed(
-        from_pddl::answer::length(a),
-        from_pddl::answer::number(a),
-        from_pddl::answer::place(a),
+        texts_answer::length(a),
+        texts_answer::number(a),
+        texts_answer::place(a),
     )
 }
 

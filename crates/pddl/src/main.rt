@@ -2,17 +2,17 @@
 mod files;
 mod told;
 
-use from_pddl::answer::TextsAnswer;
 use from_pddl::job_from_texts;
 use job_from_notes::file::LONGEST_JOB;
+use texts_answer::TextsAnswer;
 
 // Writes the job that was made, or says why none was.
 fn finish(answer: TextsAnswer, job: &[u8]) {
-    if from_pddl::answer::number(answer) != 0 {
+    if texts_answer::number(answer) != 0 {
         told::refused(answer);
         return;
     }
-    let n = from_pddl::answer::length(answer) as usize;
+    let n = texts_answer::length(answer) as usize;
     if n <= job.len() {
         if files::write_file(3, &job[..n]) {
             told::made(n);

@@ -1,7 +1,6 @@
 // What the program says, in words.
-use from_pddl::answer;
-use from_pddl::answer::TextsAnswer;
 use libc::STDOUT_FILENO;
+use texts_answer::TextsAnswer;
 use verdict::Verdict;
 
 fn say(words: &[u8]) {
@@ -60,9 +59,9 @@ fn say_unsound(v: Verdict) {
 // The refusal's number and place, then what they mean.
 pub fn refused(a: TextsAnswer) {
     say(b"refused ");
-    say_number(answer::number(a) as u64);
+    say_number(texts_answer::number(a) as u64);
     say(b" place ");
-    say_number(answer::place(a) as u64);
+    say_number(texts_answer::place(a) as u64);
     say(b": ");
     match a {
         TextsAnswer::ActionsOutside(line) => at_line(

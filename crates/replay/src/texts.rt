@@ -5,13 +5,12 @@ use crate::buffers::LONGEST_BUFFER;
 use crate::fields::read_field;
 use crate::fields::read_number;
 use crate::lines;
-use from_pddl::answer;
 
 // Makes two texts into a job in a whole buffer, and prints the line.
 fn print_made(actions: &[u8], plan: &[u8], out: &mut [u8]) -> bool {
     let a = from_pddl::job_from_texts(actions, plan, out);
-    lines::begin(b"f", answer::number(a), answer::place(a));
-    lines::print_number(answer::length(a) as u64);
+    lines::begin(b"f", texts_answer::number(a), texts_answer::place(a));
+    lines::print_number(texts_answer::length(a) as u64);
     buffers::print_buffer(out);
     lines::end()
 }

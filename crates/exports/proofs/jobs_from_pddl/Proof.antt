@@ -1,6 +1,6 @@
 use borrow.Author.Needs.{needs}
 use denote.Ref.{now}
-use Rattle.from_pddl.specs.Promise.{TextsPromise}
+use Rattle.texts_answer.specs.Promise.{TextsPromise}
 use Rattle.packing.specs.Packed.{packedTexts}
 use Rattle.exports.proofs.Carried.{carried}
 use Rattle.exports.proofs.jobs_from_pddl.Statement.{statement}

@@ -25,11 +25,11 @@ use Rattle.validity.specs.Promise.{Sound}
 use Rattle.supplied.specs.Plan.{Line, linesOf, differs}
 use Rattle.supplied.specs.Names.{Kind}
 use Rattle.supplied.specs.Clash.{NoClash, NamesPromise, Numbering}
-use Rattle.from_pddl.specs.declared.answer.TextsAnswer.{TextsAnswer}
-use Rattle.from_pddl.specs.declared.answer.TextsAnswer.the-variants.{BufferTooShort}
-use Rattle.from_pddl.specs.Answer.{number, lengthOf}
-use Rattle.from_pddl.specs.FromTexts.{answerTo, bufferAfter}
-use Rattle.from_pddl.specs.Derived.{derivedJob}
+use Rattle.texts_answer.specs.declared.TextsAnswer.{TextsAnswer}
+use Rattle.texts_answer.specs.declared.TextsAnswer.the-variants.{BufferTooShort}
+use Rattle.texts_answer.specs.Answer.{number, lengthOf}
+use Rattle.texts_answer.specs.FromTexts.{answerTo, bufferAfter}
+use Rattle.texts_answer.specs.Derived.{derivedJob}
 
 -- no line of a plan differs from the actions
 abbrev pub Matching : List Item → List Line → Type 0

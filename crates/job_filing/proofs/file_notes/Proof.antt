@@ -4,9 +4,9 @@ use mathlib.Core.Path.{sym, _∙_}
 use native.Mathlib.Omega.{arith}
 use borrow.Author.Needs.{needs}
 use lib.ListN.{length-replicate}
-use Rattle.from_pddl.proofs.Counted.{low-fits, each-low, filed-high, writable, front-long, front-within, front-short, filed-checked}
-use Rattle.from_pddl.proofs.filing.file_notes.Statement.{statement}
-use Rattle.from_pddl.proofs.filing.file_notes.Tie as tie
+use Rattle.job_filing.proofs.Counted.{low-fits, each-low, filed-high, writable, front-long, front-within, front-short, filed-checked}
+use Rattle.job_filing.proofs.file_notes.Statement.{statement}
+use Rattle.job_filing.proofs.file_notes.Tie as tie
 
 pub file-notes-spec : {M : Type 1} → statement M
 file-notes-spec =

@@ -1,9 +1,9 @@
 -- The paper's numbers of what two texts are answered: "Accepted, this and m) return the job's length".
 use Prim.Native.Nat.{ℕ}
 use Rattle.verdict.specs.Verdict as verdict
-use Rattle.from_pddl.specs.declared.answer.TextsAnswer.{TextsAnswer}
-use Rattle.from_pddl.specs.declared.answer.TextsAnswer.the-variants.{Made, ActionsOutside, ActionsTooDeep, PlanOutside, PlanDiffers}
-use Rattle.from_pddl.specs.declared.answer.TextsAnswer.the-variants.{Refused, BufferTooShort}
+use Rattle.texts_answer.specs.declared.TextsAnswer.{TextsAnswer}
+use Rattle.texts_answer.specs.declared.TextsAnswer.the-variants.{Made, ActionsOutside, ActionsTooDeep, PlanOutside, PlanDiffers}
+use Rattle.texts_answer.specs.declared.TextsAnswer.the-variants.{Refused, BufferTooShort}
 
 -- the number of a refusal, 0 for accepted
 abbrev pub number : TextsAnswer → ℕ

@@ -5,11 +5,11 @@ use mathlib.Core.List.{List, _++_}
 use native.Mathlib.Nat.{zero-add}
 use lib.ListN.{length, take, drop}
 use lib.Seq.{sets, sets-eq, take-append-seam, drop-append-seam}
-use Rattle.from_pddl.specs.declared.answer.TextsAnswer.{TextsAnswer}
-use Rattle.from_pddl.specs.declared.answer.TextsAnswer.the-variants.{Made, ActionsOutside, ActionsTooDeep, PlanOutside, PlanDiffers}
-use Rattle.from_pddl.specs.declared.answer.TextsAnswer.the-variants.{Refused, BufferTooShort}
-use Rattle.from_pddl.specs.Answer.{number}
-use Rattle.from_pddl.specs.FromTexts.{written}
+use Rattle.texts_answer.specs.declared.TextsAnswer.{TextsAnswer}
+use Rattle.texts_answer.specs.declared.TextsAnswer.the-variants.{Made, ActionsOutside, ActionsTooDeep, PlanOutside, PlanDiffers}
+use Rattle.texts_answer.specs.declared.TextsAnswer.the-variants.{Refused, BufferTooShort}
+use Rattle.texts_answer.specs.Answer.{number}
+use Rattle.texts_answer.specs.FromTexts.{written}
 
 pub refusal-keeps : (r : TextsAnswer) (job out : List ℕ) → (number r ≡ 0 → ⊥) → written r job out ≡ out
 unfolding written

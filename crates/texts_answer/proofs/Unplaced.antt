@@ -9,7 +9,7 @@ use Rattle.supplied.specs.Names.{Kind, facts, levels, withSaid, appearing, name
 use Rattle.supplied.specs.Plan.{Line, linesOf, isAction, hasAction, behind, leading, differs}
 use Rattle.supplied.specs.Records.{inAction, body, conditionsIn, effectsIn, usesIn, byStep, goalsIn}
 use Rattle.supplied.specs.Job.{initially, amountOf, levelFrom, stepOf, listsFact, listsLevel, tablesOf, modelIn, suppliedJob}
-use Rattle.from_pddl.specs.Promise.{Matching}
+use Rattle.texts_answer.specs.Promise.{Matching}
 
 -- what is said, on line 0
 abbrev bare : List Item → List Item

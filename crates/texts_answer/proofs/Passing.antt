@@ -18,11 +18,11 @@ use Rattle.job_encoding.specs.Encode.{countsIn, encode}
 use Rattle.validity.specs.Checks.{jobCheck}
 use Rattle.supplied.specs.Plan.{Line, linesOf, differs}
 use Rattle.supplied.specs.Job.{suppliedJob}
-use Rattle.from_pddl.specs.declared.answer.TextsAnswer.{TextsAnswer}
-use Rattle.from_pddl.specs.declared.answer.TextsAnswer.the-variants.{Made, ActionsOutside, ActionsTooDeep, PlanDiffers, Refused, BufferTooShort}
-use Rattle.from_pddl.specs.Answer.{number}
-use Rattle.from_pddl.specs.FromTexts.{jobBytes, checked, counted, lined, planAnswer, textsAnswer}
-use Rattle.from_pddl.specs.Promise.{Matching}
+use Rattle.texts_answer.specs.declared.TextsAnswer.{TextsAnswer}
+use Rattle.texts_answer.specs.declared.TextsAnswer.the-variants.{Made, ActionsOutside, ActionsTooDeep, PlanDiffers, Refused, BufferTooShort}
+use Rattle.texts_answer.specs.Answer.{number}
+use Rattle.texts_answer.specs.FromTexts.{jobBytes, checked, counted, lined, planAnswer, textsAnswer}
+use Rattle.texts_answer.specs.Promise.{Matching}
 
 -- a job that the check passes and that finds room
 pub record Fitting (job : List ℕ) (room : ℕ) : Type 0 where

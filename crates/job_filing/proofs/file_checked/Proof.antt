@@ -1,9 +1,9 @@
 -- A job that is refused, one that finds no room, one that is written.
 use native.Mathlib.Omega.{arith}
 use borrow.Author.Needs.{needs}
-use Rattle.from_pddl.proofs.Checked.{refuses, too-short, makes}
-use Rattle.from_pddl.proofs.filing.file_checked.Statement.{statement}
-use Rattle.from_pddl.proofs.filing.file_checked.Tie as tie
+use Rattle.texts_answer.proofs.Checked.{refuses, too-short, makes}
+use Rattle.job_filing.proofs.file_checked.Statement.{statement}
+use Rattle.job_filing.proofs.file_checked.Tie as tie
 
 pub file-checked-spec : {M : Type 1} → statement M
 file-checked-spec =

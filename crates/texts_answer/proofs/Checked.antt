@@ -9,8 +9,8 @@ use lib.Seq.{sets-eq, take-length}
 use Rattle.verdict.specs.declared.Verdict.{Verdict}
 use Rattle.verdict.specs.Verdict.{number}
 use Rattle.validity.specs.Checks.{jobCheck}
-use Rattle.from_pddl.specs.declared.answer.TextsAnswer.the-variants.{Made, Refused, BufferTooShort}
-use Rattle.from_pddl.specs.FromTexts.{checked, written}
+use Rattle.texts_answer.specs.declared.TextsAnswer.the-variants.{Made, Refused, BufferTooShort}
+use Rattle.texts_answer.specs.FromTexts.{checked, written}
 
 module _ (job out : List ℕ) (v : Verdict) (e : v ≡ jobCheck job) where
   pub refuses :

@@ -20,7 +20,7 @@ use Rattle.supplied.specs.Names.{kindOf, sameKind, gives, clash, clashes, names
 use Rattle.supplied.specs.Plan.{numberIn, wordIn, linesOf, isAction, hasAction, behind, leading, differs}
 use Rattle.supplied.specs.Records.{inAction, body, conditionAt, conditionIn, conditionsIn, effectIn, effectsIn, useIn, usesIn, byStep, goalIn, goalsIn}
 use Rattle.supplied.specs.Job.{listsFact, initially, listsLevel, amountOf, tablesOf}
-use Rattle.from_pddl.specs.FromTexts.{actionsRead, jobBytes, bytesOf}
+use Rattle.texts_answer.specs.FromTexts.{actionsRead, jobBytes, bytesOf}
 
 -- a text, line by line
 abbrev lines : List String → List ℕ

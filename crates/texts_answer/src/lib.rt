@@ -1,6 +1,6 @@
 // What two texts are answered.
 ghost use mathlib.Core.Path.{_≡_};
-ghost use Rattle.from_pddl.specs.Answer as spec;
+ghost use Rattle.texts_answer.specs.Answer as spec;
 use verdict::NOWHERE;
 use verdict::Verdict;
 

@@ -8,9 +8,9 @@ use lib.ListN.{length, getD}
 use Rattle.grammar.specs.Said.{Item}
 use Rattle.supplied.specs.Plan.{Line, differs}
 use Rattle.job_notes.specs.Resolved.{noLine}
-use Rattle.from_pddl.specs.declared.answer.TextsAnswer.{TextsAnswer}
-use Rattle.from_pddl.specs.declared.answer.TextsAnswer.the-variants.{PlanDiffers}
-use Rattle.from_pddl.specs.FromTexts.{lined}
+use Rattle.texts_answer.specs.declared.TextsAnswer.{TextsAnswer}
+use Rattle.texts_answer.specs.declared.TextsAnswer.the-variants.{PlanDiffers}
+use Rattle.texts_answer.specs.FromTexts.{lined}
 
 module _ (is : List Item) (a : TextsAnswer) where
   pub line-differs :

@@ -31,16 +31,16 @@ use Rattle.supplied.specs.Clash.{NoClash}
 use Rattle.supplied.proofs.Numbering.{numbering}
 use Rattle.supplied.proofs.Clash.{names-promise}
 use Rattle.supplied.proofs.Fits.{fits}
-use Rattle.from_pddl.specs.declared.answer.TextsAnswer.{TextsAnswer}
-use Rattle.from_pddl.specs.declared.answer.TextsAnswer.the-variants.{Made, BufferTooShort}
-use Rattle.from_pddl.specs.Answer.{number, lengthOf}
-use Rattle.from_pddl.specs.FromTexts.{actionsRead, jobBytes, answerTo, bytesOf, written, bufferAfter}
-use Rattle.from_pddl.specs.Derived.{derivedJob}
-use Rattle.from_pddl.specs.Promise.{Matching, Derives, JobOfTexts, TextsPromise}
-use Rattle.from_pddl.proofs.Unplaced.{job-bare, matches-bare, matches-placed}
-use Rattle.from_pddl.proofs.Small.{SmallSaid, small-text, small-plan}
-use Rattle.from_pddl.proofs.Passing.{Passed, passed, accepted-or-short}
-use Rattle.from_pddl.proofs.Kept.{refusal-keeps, job-stands, rest-stays}
+use Rattle.texts_answer.specs.declared.TextsAnswer.{TextsAnswer}
+use Rattle.texts_answer.specs.declared.TextsAnswer.the-variants.{Made, BufferTooShort}
+use Rattle.texts_answer.specs.Answer.{number, lengthOf}
+use Rattle.texts_answer.specs.FromTexts.{actionsRead, jobBytes, answerTo, bytesOf, written, bufferAfter}
+use Rattle.texts_answer.specs.Derived.{derivedJob}
+use Rattle.texts_answer.specs.Promise.{Matching, Derives, JobOfTexts, TextsPromise}
+use Rattle.texts_answer.proofs.Unplaced.{job-bare, matches-bare, matches-placed}
+use Rattle.texts_answer.proofs.Small.{SmallSaid, small-text, small-plan}
+use Rattle.texts_answer.proofs.Passing.{Passed, passed, accepted-or-short}
+use Rattle.texts_answer.proofs.Kept.{refusal-keeps, job-stands, rest-stays}
 
 small-items : (is : List Item) → SmallSaid (saidOf is) → Small is
 unfolding saidOf

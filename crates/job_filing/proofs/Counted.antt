@@ -25,10 +25,10 @@ use Rattle.job_from_notes.specs.Counted.{tablesIn, Walked, Counted}
 use Rattle.job_from_notes.specs.Whole.{longestJob, Writable}
 use Rattle.job_from_notes.proofs.Encoded.{whole-fits}
 use Rattle.job_from_notes.specs.declared.tally.Totals.{Totals}
-use Rattle.from_pddl.specs.declared.answer.TextsAnswer.{TextsAnswer}
-use Rattle.from_pddl.specs.declared.answer.TextsAnswer.the-variants.{Refused}
-use Rattle.from_pddl.specs.FromTexts.{checked, counted, written}
-use Rattle.from_pddl.specs.Answered.{Filed}
+use Rattle.texts_answer.specs.declared.TextsAnswer.{TextsAnswer}
+use Rattle.texts_answer.specs.declared.TextsAnswer.the-variants.{Refused}
+use Rattle.texts_answer.specs.FromTexts.{checked, counted, written}
+use Rattle.job_filing.specs.Filed.{Filed}
 
 -- one element a part
 single-parts : {A : Type 0} (f : ℕ → A) (n : ℕ) → length (joined n (λ k. f k ∷ [])) ≡ n

@@ -17,9 +17,9 @@ use Rattle.validity.specs.Checks.{jobCheck}
 use Rattle.supplied.specs.Names.{withNames}
 use Rattle.supplied.specs.Plan.{Line, linesOf, differs}
 use Rattle.supplied.specs.Job.{suppliedJob}
-use Rattle.from_pddl.specs.declared.answer.TextsAnswer.{TextsAnswer}
-use Rattle.from_pddl.specs.declared.answer.TextsAnswer.the-variants.{Made, ActionsOutside, ActionsTooDeep, PlanOutside, PlanDiffers}
-use Rattle.from_pddl.specs.declared.answer.TextsAnswer.the-variants.{Refused, BufferTooShort}
+use Rattle.texts_answer.specs.declared.TextsAnswer.{TextsAnswer}
+use Rattle.texts_answer.specs.declared.TextsAnswer.the-variants.{Made, ActionsOutside, ActionsTooDeep, PlanOutside, PlanDiffers}
+use Rattle.texts_answer.specs.declared.TextsAnswer.the-variants.{Refused, BufferTooShort}
 
 -- the action text with its names, 18 and 19
 unfoldable pub actionsRead : List ℕ → Outcome

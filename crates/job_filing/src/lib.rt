@@ -8,9 +8,8 @@ ghost use Rattle.job.specs.Layout.{mostFacts, mostLevels, mostConditions, mostE
 ghost use Rattle.supplied.specs.Job.{modelIn};
 ghost use Rattle.job_from_notes.specs.Counted.{tablesIn, Walked};
 ghost use Rattle.job_from_notes.specs.Whole.{longestJob};
-ghost use Rattle.from_pddl.specs.FromTexts.{checked, written};
-ghost use Rattle.from_pddl.specs.Answered.{Filed};
-use crate::answer::TextsAnswer;
+ghost use Rattle.texts_answer.specs.FromTexts.{checked, written};
+ghost use Rattle.job_filing.specs.Filed.{Filed};
 use job::layout::Counts;
 use job::layout::Job;
 use job_from_notes::file::LONGEST_JOB;
@@ -19,6 +18,7 @@ use job_from_notes::tally::Totals;
 use job_from_notes::tally::count_goals;
 use job_from_notes::tally::count_records;
 use naming::Names;
+use texts_answer::TextsAnswer;
 use verdict::Verdict;
 
 // Checks a job, and writes it out if it is sound and there is room.

@@ -1,0 +1,2 @@
+-- The counts of a job that notes hold.
+pub mod Counted

@@ -1,0 +1,2 @@
+-- The job that notes hold: what it is answered.
+pub mod Filed
