@@ -13,7 +13,7 @@ use Rattle.grammar.specs.Reader.{name, literalBody, body, levelSymbols}
 use Rattle.grammar.specs.Said as say
 use Rattle.notes.specs.declared.Place as noted
 use Rattle.notes.specs.declared.Place.the-variants.{WantedAtStart, WantedOverAll, WantedAtEnd, SetAtStart, SetAtEnd, Reached, Given}
-use Rattle.notes.specs.Notes.{roles, roleOf, placeOf, factRole}
+use Rattle.notes.specs.Notes.{roles, actionRole, plannedRole, stockRole, riseRole, fallRole, wantedRole, roleOf, placeOf, factRole}
 use Rattle.notes.proofs.Notes.{fact-role-is}
 use Rattle.token_reader.specs.Reading.{cursorOf, faulty, Fault, Stands, Takes, Reads, Leads}
 use Rattle.token_reader.specs.declared.Reader.{Reader}
@@ -22,7 +22,7 @@ use Rattle.item_reader.specs.Kinds.{kindOf, pointOf, setPlace, later}
 use Rattle.item_reader.specs.declared.nested.Items.{Items}
 use Rattle.item_reader.proofs.Likeness.{and-deep}
 
-fact-from : (p : noted.Place) (v : Bool) → 8 ≤ factRole p v
+fact-from : (p : noted.Place) (v : Bool) → wantedRole ≤ factRole p v
 fact-from WantedAtStart v = omega arith
 fact-from WantedOverAll v = omega arith
 fact-from WantedAtEnd v = omega arith
@@ -53,24 +53,24 @@ module _ (first : ℕ) (last : Bool) {role : ℕ} (e : role ≡ later first last
   pub later-low : first < 21 → role < roles
   later-low h = let k = later-from first last in omega (arith, k .1)
 
-rise-role : (last : Bool) → roleOf (later 4 last) ≡ rise (pointOf last)
+rise-role : (last : Bool) → roleOf (later riseRole last) ≡ rise (pointOf last)
 unfolding roleOf
 rise-role true = refl
 rise-role false = refl
 
-fall-role : (last : Bool) → roleOf (later 6 last) ≡ fall (pointOf last)
+fall-role : (last : Bool) → roleOf (later fallRole last) ≡ fall (pointOf last)
 unfolding roleOf
 fall-role true = refl
 fall-role false = refl
 
 module _ (last : Bool) {text list list′ : List ℕ} {r a : Reader} where
   pub as-rise :
-      {role : ℕ} → role ≡ later 4 last → Leads false text list r (levelSymbols (roleOf role)) list′ a
+      {role : ℕ} → role ≡ later riseRole last → Leads false text list r (levelSymbols (roleOf role)) list′ a
       → Leads false text list r (levelSymbols (rise (pointOf last))) list′ a
   as-rise e q = rw (← rise-role last, ← e) q
 
   pub as-fall :
-      {role : ℕ} → role ≡ later 6 last → Leads false text list r (levelSymbols (roleOf role)) list′ a
+      {role : ℕ} → role ≡ later fallRole last → Leads false text list r (levelSymbols (roleOf role)) list′ a
       → Leads false text list r (levelSymbols (fall (pointOf last))) list′ a
   as-fall e q = rw (← fall-role last, ← e) q
 
@@ -87,15 +87,15 @@ module _ (last : Bool) {text list list′ : List ℕ} {r a : Reader} where
 
 -- the roles that one number has
 module _ {plan : Bool} {text list list′ : List ℕ} {r a : Reader} where
-  pub as-stock : Leads plan text list r (levelSymbols (roleOf 3)) list′ a → Leads plan text list r (levelSymbols stock) list′ a
+  pub as-stock : Leads plan text list r (levelSymbols (roleOf stockRole)) list′ a → Leads plan text list r (levelSymbols stock) list′ a
   unfolding roleOf
   as-stock q = q
 
-  pub as-action : Reads plan text list r (name (roleOf 1)) list′ a → Reads plan text list r (name action) list′ a
+  pub as-action : Reads plan text list r (name (roleOf actionRole)) list′ a → Reads plan text list r (name action) list′ a
   unfolding roleOf
   as-action q = q
 
-  pub as-planned : Reads plan text list r (name (roleOf 2)) list′ a → Reads plan text list r (name planned) list′ a
+  pub as-planned : Reads plan text list r (name (roleOf plannedRole)) list′ a → Reads plan text list r (name planned) list′ a
   unfolding roleOf
   as-planned q = q
 

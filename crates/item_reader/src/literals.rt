@@ -3,7 +3,7 @@ ghost use mathlib.Core.Path.{_≡_};
 ghost use mathlib.Core.Bool.{false};
 ghost use Prim.Native.Nat.{_+_, _≤_, _<_};
 ghost use Rattle.grammar.specs.Reader.{literal, literalBody, change, changeBody, levelSymbols};
-ghost use Rattle.notes.specs.Notes.{roles, roleOf, placeOf};
+ghost use Rattle.notes.specs.Notes.{roles, fallRole, roleOf, placeOf};
 ghost use Rattle.token_reader.specs.Reading.{Ready, Reads, Leads};
 ghost use Rattle.item_reader.specs.Kinds.{pointOf, setPlace, later};
 use notes::Place;
@@ -56,7 +56,7 @@ pub fn read_level(text: &[u8], said: &mut [u64], r: Reader, role: usize) -> Read
 
 // The role of a rise or a fall at the start, or the one more at the end.
 fn role_at(first: usize, end: bool) -> usize
-    requires { ⌜ first ≤ 6 ⌝ }
+    requires { ⌜ first ≤ fallRole ⌝ }
     ensures { λ role. ⌜ role ≡ later first end ⌝ }
 {
     if end { first + 1 } else { first }

@@ -8,7 +8,7 @@ use native.Mathlib.Omega.{arith}
 use lib.ListN.{length}
 use lib.Dec.{ltb, leb}
 use Rattle.job.specs.declared.records.Condition.{Condition}
-use Rattle.notes.specs.Notes.{roleIn}
+use Rattle.notes.specs.Notes.{roleIn, riseRole, wantedRole, overAllRole, wantedAtEndRole, setRole, reachedRole, givenRole}
 use Rattle.job_encoding.specs.Encode.{conditionRow, effectRow, useRow, goalRow, rows}
 use Rattle.job_notes.specs.Tables.{leadingNoted, inActionNoted, conditionNoted, conditionsNoted, effectNoted, effectsNoted, useNoted, usesNoted}
 use Rattle.job_notes.specs.Tables.{goalNoted, goalsNoted}
@@ -56,7 +56,7 @@ module _ (s d : ℕ) where
   condition-one : (w n : ℕ) → conditionNoted s d w n ≡ cond (brings Conditions d (roleIn w)) (wanted s d (roleIn w) n ∷ []) []
   unfolding conditionNoted
   condition-one w n =
-      let c = roleIn w in one-condition (ltb c 8) (ltb c 10) (ltb c 12) (ltb c 14) (ltb d 2) n (c % 2)
+      let c = roleIn w in one-condition (ltb c wantedRole) (ltb c overAllRole) (ltb c wantedAtEndRole) (ltb c setRole) (ltb d 2) n (c % 2)
 
   one-other : {A : Type 0} (b : Bool) (x : A) → cond b [] (x ∷ []) ≡ cond (not b) (x ∷ []) []
   one-other true x = refl
@@ -64,15 +64,15 @@ module _ (s d : ℕ) where
 
   effect-one : (w n : ℕ) → effectNoted s d w n ≡ cond (brings Effects d (roleIn w)) (set s d (roleIn w) n ∷ []) []
   unfolding effectNoted
-  effect-one w n = one-other (ltb (roleIn w) 14 || leb 18 (roleIn w)) (set s d (roleIn w) n)
+  effect-one w n = one-other (ltb (roleIn w) setRole || leb reachedRole (roleIn w)) (set s d (roleIn w) n)
 
   use-one : (w n a : ℕ) → useNoted s d w n a ≡ cond (brings Uses d (roleIn w)) (used s d (roleIn w) n a ∷ []) []
   unfolding useNoted
-  use-one w n a = one-other (ltb (roleIn w) 4 || leb 8 (roleIn w)) (used s d (roleIn w) n a)
+  use-one w n a = one-other (ltb (roleIn w) riseRole || leb wantedRole (roleIn w)) (used s d (roleIn w) n a)
 
   goal-one : (w n : ℕ) → goalNoted w n ≡ cond (brings Goals d (roleIn w)) (reached s d (roleIn w) n ∷ []) []
   unfolding goalNoted
-  goal-one w n = one-other (ltb (roleIn w) 18 || leb 20 (roleIn w)) (reached s d (roleIn w) n)
+  goal-one w n = one-other (ltb (roleIn w) reachedRole || leb givenRole (roleIn w)) (reached s d (roleIn w) n)
 
   -- so do the notes of a walk
   conditions-gathered : (ws ns : List ℕ) → conditionsNoted s d ws ns ≡ gathered Conditions d (λ c n a. wanted s d c n) ws ns

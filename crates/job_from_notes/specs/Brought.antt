@@ -15,18 +15,19 @@ use Rattle.job.specs.declared.records.Goal.{Goal}
 use Rattle.job.specs.Layout.{conditionWidth, effectWidth, useWidth, goalWidth}
 use Rattle.job.specs.Model.{noDeadline}
 use Rattle.job_encoding.specs.Encode.{conditionRow, effectRow, useRow, goalRow}
-use Rattle.notes.specs.Notes.{roleIn}
+use Rattle.notes.specs.Notes.{roleIn, riseRole, fallRole, wantedRole, overAllRole, wantedAtEndRole, setRole, setAtEndRole, reachedRole, givenRole}
 use Rattle.job_notes.specs.Tables.{leadingNoted, inActionNoted, lengthNoted}
 use Rattle.job_from_notes.specs.declared.brought.Kind.{Kind}
 use Rattle.job_from_notes.specs.declared.brought.Kind.the-variants.{Conditions, Effects, Uses, Goals}
 
--- whether a note of role c brings a record, where the step has a length: wanted facts have the roles from 8 to 13, of which 10 and 11 hold
--- over all
+-- whether a note of role c brings a record, where the step has a length
 abbrev pub brings : Kind → ℕ → ℕ → Bool
-brings Conditions duration c = not (ltb c 8) && (ltb c 10 || (ltb c 12 && not (ltb duration 2)) || (not (ltb c 12) && ltb c 14))
-brings Effects duration c = not (ltb c 14 || leb 18 c)
-brings Uses duration c = not (ltb c 4 || leb 8 c)
-brings Goals duration c = not (ltb c 18 || leb 20 c)
+brings Conditions duration c =
+    not (ltb c wantedRole)
+    && (ltb c overAllRole || (ltb c wantedAtEndRole && not (ltb duration 2)) || (not (ltb c wantedAtEndRole) && ltb c setRole))
+brings Effects duration c = not (ltb c setRole || leb reachedRole c)
+brings Uses duration c = not (ltb c riseRole || leb wantedRole c)
+brings Goals duration c = not (ltb c reachedRole || leb givenRole c)
 
 -- whether a walk goes on over a note: an action's to its end, that for goals over all notes
 abbrev pub within : Kind → ℕ → Bool
@@ -57,20 +58,20 @@ module _ (step duration : ℕ) where
   wanted c n = record {
     step = step;
     fact = n;
-    from = cond (ltb c 10) 0 (cond (ltb c 12) 1 duration);
-    to = cond (ltb c 10) 0 (cond (ltb c 12) (duration - 1) duration);
+    from = cond (ltb c overAllRole) 0 (cond (ltb c wantedAtEndRole) 1 duration);
+    to = cond (ltb c overAllRole) 0 (cond (ltb c wantedAtEndRole) (duration - 1) duration);
     value = c % 2;
   }
 
   abbrev pub set : ℕ → ℕ → Effect
-  set c n = record { step = step; fact = n; at = cond (ltb c 16) 0 duration; value = c % 2 }
+  set c n = record { step = step; fact = n; at = cond (ltb c setAtEndRole) 0 duration; value = c % 2 }
 
   abbrev pub used : ℕ → ℕ → ℕ → Use
   used c n amount = record {
     step = step;
     level = n;
     at = cond (eqb (c % 2) 0) 0 duration;
-    amount = cond (ltb c 6) (signBias + amount) (signBias - amount);
+    amount = cond (ltb c fallRole) (signBias + amount) (signBias - amount);
   }
 
   abbrev pub reached : ℕ → ℕ → Goal

@@ -6,15 +6,15 @@ use mathlib.Core.List.{List, [], _∷_}
 use lib.Dec.{eqb, leb}
 use lib.ListN.{length, getD}
 use lib.Seq.{slice}
-use Rattle.notes.specs.Notes.{roleIn}
+use Rattle.notes.specs.Notes.{roleIn, stockRole, givenRole}
 use Rattle.job_notes.specs.Tables.{leadingNoted}
 use Rattle.job_from_notes.specs.declared.opening.Opening.{Opening}
 use Rattle.job_from_notes.specs.declared.opening.Opening.the-variants.{Fact, Level}
 
 -- whether a note says something of it, and what: 1 of a fact, of a level the number behind
 abbrev pub states : Opening → ℕ → Bool
-states Fact w = leb 20 (roleIn w)
-states Level w = eqb (roleIn w) 3
+states Fact w = leb givenRole (roleIn w)
+states Level w = eqb (roleIn w) stockRole
 
 abbrev pub amountIn : Opening → List ℕ → ℕ
 amountIn Fact ws = 1

@@ -7,24 +7,14 @@ ghost use lib.Seq.{slice};
 ghost use Rattle.little_endian.specs.Bytes.{u32Values};
 ghost use Rattle.job_notes.specs.Tables.{numberNoted, leadingNoted, inActionNoted, lengthNoted};
 ghost use Rattle.job_from_notes.specs.Brought.{brings, within, goesOn};
+use notes::GIVEN;
 use notes::NUMBER;
+use notes::OVER_ALL;
+use notes::REACHED;
 use notes::RISE;
-
-// Facts that are wanted at the start, over all, and at the end; set at the start, and at the end; reached in the end; given at first.
-// Each has its role as 0, and one more as 1.
-pub const WANTED: usize = 8;
-
-pub const OVER_ALL: usize = 10;
-
-pub const WANTED_AT_END: usize = 12;
-
-pub const SET: usize = 14;
-
-pub const SET_AT_END: usize = 16;
-
-pub const REACHED: usize = 18;
-
-pub const GIVEN: usize = 20;
+use notes::SET;
+use notes::WANTED;
+use notes::WANTED_AT_END;
 
 // The tables whose records notes bring one by one.
 pub enum Kind {

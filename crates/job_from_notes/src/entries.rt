@@ -1,8 +1,5 @@
 // The records that notes bring, written one behind the other.
 use crate::brought::Kind;
-use crate::brought::OVER_ALL;
-use crate::brought::SET_AT_END;
-use crate::brought::WANTED_AT_END;
 use crate::brought::brings;
 use crate::brought::goes_on;
 use crate::brought::lasts;
@@ -23,6 +20,9 @@ use job_writer::write_goal;
 use job_writer::write_use;
 use little_endian::SIGN_BIAS;
 use notes::FALL;
+use notes::OVER_ALL;
+use notes::SET_AT_END;
+use notes::WANTED_AT_END;
 ghost use mathlib.Core.Path.{_≡_};
 ghost use mathlib.Core.Bool.{cond};
 ghost use Prim.Native.Nat.{_+_, _-_, _/_, _≤_, _<_};

@@ -1,6 +1,6 @@
 // What the text says of the beginning: which facts it gives, and the amounts of levels.
-use crate::brought::GIVEN;
 use crate::brought::leading;
+use notes::GIVEN;
 use notes::STOCK;
 ghost use mathlib.Core.Path.{_≡_};
 ghost use mathlib.Core.Bool.{cond};

@@ -9,7 +9,7 @@ use lib.Dec.{eqb, leb}
 use lib.ListN.{length, getD}
 use Rattle.spelling.specs.Keywords.{same}
 use Rattle.grammar.specs.Tree.{Word}
-use Rattle.notes.specs.Notes.{roleIn, roleOf, saidIn, itemIn, itemsIn}
+use Rattle.notes.specs.Notes.{roleIn, stockRole, givenRole, roleOf, saidIn, itemIn, itemsIn}
 use Rattle.notes.proofs.Notes.{by-role}
 use Rattle.supplied.specs.Names.{Kind, facts, levels, kindOf, isIn, numberOf}
 use Rattle.supplied.specs.Job.{listsFact, initially, listsLevel, amountOf}
@@ -28,10 +28,10 @@ module _ (text : List ℕ) (names : Kind → List Word) (k : Kind) (d : Distinct
       number-at (names k) (wordOf text w) f d a h ∙ ap (λ m. eqb m f) (sym c)
 
 module _ (text : List ℕ) (names : Kind → List Word) (d : Distinct (names facts)) (f : ℕ) (h : f < length (names facts)) where
-  lists-fact : (w n : ℕ) → Fits text names w n → listsFact (getD (names facts) f []) (saidIn text w) ≡ (leb 20 (roleIn w) && eqb n f)
+  lists-fact : (w n : ℕ) → Fits text names w n → listsFact (getD (names facts) f []) (saidIn text w) ≡ (leb givenRole (roleIn w) && eqb n f)
   unfolding saidIn roleOf kindOf listsFact
   lists-fact w n fits =
-      by-role (λ c. roleIn w ≡ c → listsFact (getD (names facts) f []) (saidIn text w) ≡ (leb 20 (roleIn w) && eqb n f))
+      by-role (λ c. roleIn w ≡ c → listsFact (getD (names facts) f []) (saidIn text w) ≡ (leb givenRole (roleIn w) && eqb n f))
       (λ e. rw e refl) (λ e. rw e refl) (λ e. rw e refl) (λ e. rw e refl) (λ e. rw e refl) (λ e. rw e refl) (λ e. rw e refl) (λ e. rw e refl)
       (λ e. rw e refl) (λ e. rw e refl) (λ e. rw e refl) (λ e. rw e refl) (λ e. rw e refl) (λ e. rw e refl) (λ e. rw e refl) (λ e. rw e refl)
       (λ e. rw e refl) (λ e. rw e refl) (λ e. rw e refl) (λ e. rw e refl)
@@ -47,10 +47,10 @@ module _ (text : List ℕ) (names : Kind → List Word) (d : Distinct (names fac
       ap₂ (λ b r. cond b 1 r) (sym (lists-fact w n (matched-first text names m))) (initial-noted ws ns (matched-rest text names m))
 
 module _ (text : List ℕ) (names : Kind → List Word) (d : Distinct (names levels)) (l : ℕ) (h : l < length (names levels)) where
-  lists-level : (w n : ℕ) → Fits text names w n → listsLevel (getD (names levels) l []) (saidIn text w) ≡ (eqb (roleIn w) 3 && eqb n l)
+  lists-level : (w n : ℕ) → Fits text names w n → listsLevel (getD (names levels) l []) (saidIn text w) ≡ (eqb (roleIn w) stockRole && eqb n l)
   unfolding saidIn roleOf kindOf listsLevel
   lists-level w n fits =
-      by-role (λ c. roleIn w ≡ c → listsLevel (getD (names levels) l []) (saidIn text w) ≡ (eqb (roleIn w) 3 && eqb n l))
+      by-role (λ c. roleIn w ≡ c → listsLevel (getD (names levels) l []) (saidIn text w) ≡ (eqb (roleIn w) stockRole && eqb n l))
       (λ e. rw e refl) (λ e. rw e refl) (λ e. rw e refl)
       (λ e. rw e (same-number text names levels d l h w n fits (λ z. omega arith) (ap (λ c. kindOf (roleOf c)) e)))
       (λ e. rw e refl) (λ e. rw e refl) (λ e. rw e refl) (λ e. rw e refl) (λ e. rw e refl) (λ e. rw e refl) (λ e. rw e refl) (λ e. rw e refl)

@@ -13,7 +13,8 @@ use Rattle.job.specs.declared.records.Condition.{Condition}
 use Rattle.job.specs.declared.records.Effect.{Effect}
 use Rattle.job.specs.declared.records.Use.{Use}
 use Rattle.job.specs.Model.{noDeadline}
-use Rattle.notes.specs.Notes.{valueIn, roleIn}
+use Rattle.notes.specs.Notes.{valueIn, roleIn, stockRole, riseRole, fallRole}
+use Rattle.notes.specs.Notes.{wantedRole, overAllRole, wantedAtEndRole, setRole, setAtEndRole, reachedRole, givenRole}
 use Rattle.supplied.specs.Job.{levelFrom, Tables}
 
 -- the number that a note holds
@@ -26,34 +27,39 @@ leadingNoted (w ∷ ws) = numberNoted w
 
 -- whether a note belongs to the action before it: a number, a rise or a fall, a fact that is wanted or set
 unfoldable pub inActionNoted : ℕ → Bool
-inActionNoted w = eqb (roleIn w) 0 || (leb 4 (roleIn w) && ltb (roleIn w) 18)
+inActionNoted w = eqb (roleIn w) 0 || (leb riseRole (roleIn w) && ltb (roleIn w) reachedRole)
 
 module _ (step length : ℕ) where
   abbrev wantedFrom : ℕ → ℕ → ℕ → ℕ → List Condition
   wantedFrom from to w n = record { step = step; fact = n; from = from; to = to; value = roleIn w % 2 } ∷ []
 
-  -- a note and the number of its name; facts that are wanted have the roles from 8 to 13, two for each time
+  -- a note and the number of its name: facts that are wanted
   unfoldable pub conditionNoted : ℕ → ℕ → List Condition
   conditionNoted w n =
       let c = roleIn w in
-      cond (ltb c 8) []
-      (cond (ltb c 10) (wantedFrom 0 0 w n)
-      (cond (ltb c 12) (cond (ltb length 2) [] (wantedFrom 1 (length - 1) w n))
-      (cond (ltb c 14) (wantedFrom length length w n) [])))
+      cond (ltb c wantedRole) []
+      (cond (ltb c overAllRole) (wantedFrom 0 0 w n)
+      (cond (ltb c wantedAtEndRole) (cond (ltb length 2) [] (wantedFrom 1 (length - 1) w n))
+      (cond (ltb c setRole) (wantedFrom length length w n) [])))
 
-  -- those that are set, from 14 to 17
+  -- those that are set
   unfoldable pub effectNoted : ℕ → ℕ → List Effect
   effectNoted w n =
       let c = roleIn w in
-      cond (ltb c 14 || leb 18 c) []
-      (record { step = step; fact = n; at = cond (ltb c 16) 0 length; value = c % 2 } ∷ [])
+      cond (ltb c setRole || leb reachedRole c) []
+      (record { step = step; fact = n; at = cond (ltb c setAtEndRole) 0 length; value = c % 2 } ∷ [])
 
-  -- rises are 4 and 5, falls 6 and 7
+  -- rises and falls
   unfoldable pub useNoted : ℕ → ℕ → ℕ → List Use
   useNoted w n amount =
       let c = roleIn w in
-      cond (ltb c 4 || leb 8 c) []
-      (record { step = step; level = n; at = cond (eqb (c % 2) 0) 0 length; amount = cond (ltb c 6) (signBias + amount) (signBias - amount) } ∷ [])
+      cond (ltb c riseRole || leb wantedRole c) []
+      (record {
+        step = step;
+        level = n;
+        at = cond (eqb (c % 2) 0) 0 length;
+        amount = cond (ltb c fallRole) (signBias + amount) (signBias - amount);
+      } ∷ [])
 
   -- those of an action, from a note of it on
   unfoldable pub conditionsNoted : List ℕ → List ℕ → List Condition
@@ -71,27 +77,27 @@ module _ (step length : ℕ) where
   usesNoted (w ∷ ws) [] = []
   usesNoted (w ∷ ws) (n ∷ ns) = cond (inActionNoted w) (useNoted w n (leadingNoted ws) ++ usesNoted ws ns) []
 
--- facts of the goal have the roles 18 and 19
+-- facts of the goal
 unfoldable pub goalNoted : ℕ → ℕ → List Goal
 goalNoted w n =
     let c = roleIn w in
-    cond (ltb c 18 || leb 20 c) [] (record { fact = n; value = c % 2; deadline = noDeadline } ∷ [])
+    cond (ltb c reachedRole || leb givenRole c) [] (record { fact = n; value = c % 2; deadline = noDeadline } ∷ [])
 
 unfoldable pub goalsNoted : List ℕ → List ℕ → List Goal
 goalsNoted [] ns = []
 goalsNoted (w ∷ ws) [] = []
 goalsNoted (w ∷ ws) (n ∷ ns) = goalNoted w n ++ goalsNoted ws ns
 
--- whether init lists fact f, 20 and 21, and what it gives level l, 3
+-- whether init lists fact f, and what it gives level l
 unfoldable pub initialNoted : List ℕ → List ℕ → ℕ → ℕ
 initialNoted [] ns f = 0
 initialNoted (w ∷ ws) [] f = 0
-initialNoted (w ∷ ws) (n ∷ ns) f = cond (leb 20 (roleIn w) && eqb n f) 1 (initialNoted ws ns f)
+initialNoted (w ∷ ws) (n ∷ ns) f = cond (leb givenRole (roleIn w) && eqb n f) 1 (initialNoted ws ns f)
 
 unfoldable pub amountNoted : List ℕ → List ℕ → ℕ → ℕ
 amountNoted [] ns l = 0
 amountNoted (w ∷ ws) [] l = 0
-amountNoted (w ∷ ws) (n ∷ ns) l = cond (eqb (roleIn w) 3 && eqb n l) (leadingNoted ws) (amountNoted ws ns l)
+amountNoted (w ∷ ws) (n ∷ ns) l = cond (eqb (roleIn w) stockRole && eqb n l) (leadingNoted ws) (amountNoted ws ns l)
 
 -- parts at the indexes below a count, one after the other
 unfoldable pub joined : {A : Type 0} → ℕ → (ℕ → List A) → List A

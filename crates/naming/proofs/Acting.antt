@@ -13,7 +13,7 @@ use Rattle.laws.proofs.Search.{either, contrary}
 use Rattle.spelling.proofs.Same.{same-refl, same-eq}
 use Rattle.grammar.specs.Said.{Role, action, fact, rise, fall, stock, planned, Said, name, number, Item}
 use Rattle.grammar.specs.Tree.{Word}
-use Rattle.notes.specs.Notes.{roleIn, roleOf, itemIn, itemsIn}
+use Rattle.notes.specs.Notes.{roleIn, actionRole, roleOf, itemIn, itemsIn}
 use Rattle.supplied.specs.Names.{actions, kindOf, kindNumber}
 use Rattle.supplied.specs.Plan.{isAction, hasAction, behind}
 use Rattle.naming.specs.Index.{saidAt, says, Indexed}
@@ -83,7 +83,7 @@ role-at text said j {r} {v} e =
     ]
 
 module _ (text said : List ℕ) (v : Word) (first : ℕ) (looked : Looked (itemsIn text said) (length said) v first) where
-  pub action-found : first < length said → roleIn (getD said first 0) ≡ 1 → ActionAt text said v first
+  pub action-found : first < length said → roleIn (getD said first 0) ≡ actionRole → ActionAt text said v first
   unfolding roleOf
   action-found l e =
       let o = says-name (saidAt (itemsIn text said) first) (looked .there l) in
@@ -114,7 +114,7 @@ module _ (text said : List ℕ) (v : Word) (first : ℕ) (looked : Looked (items
 
   pub action-other :
       (index : List ℕ) → Readable text said → Indexed (itemsIn text said) (length said) index → first < length said
-      → (roleIn (getD said first 0) ≡ 1 → ⊥) → ActionAt text said v (length said)
+      → (roleIn (getD said first 0) ≡ actionRole → ⊥) → ActionAt text said v (length said)
   unfolding kindOf
   action-other index sound indexed l ne =
       absent

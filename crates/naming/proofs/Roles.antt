@@ -6,44 +6,46 @@ use native.Mathlib.Decide.{decLt, ℕ-discrete}
 use native.Mathlib.Omega.{arith}
 use borrow.Author.Tests.{lt-ltb, le-ltb, ne-eqb}
 use lib.Dec.{eqb, ltb, leb}
-use Rattle.notes.specs.Notes.{roles, roleOf}
+use Rattle.notes.specs.Notes.{roles, actionRole, stockRole, wantedRole, givenRole, roleOf}
 use Rattle.notes.proofs.Notes.{by-role}
 use Rattle.supplied.specs.Names.{kindOf, kindNumber, gives}
 
-kind-number : (c : ℕ) → c < roles → kindNumber (kindOf (roleOf c)) ≡ cond (ltb 7 c) 1 (cond (ltb 2 c) 2 (cond (eqb c 1) 0 3))
+kind-number :
+    (c : ℕ) → c < roles
+    → kindNumber (kindOf (roleOf c)) ≡ cond (ltb c stockRole) (cond (eqb c actionRole) 0 3) (cond (ltb c wantedRole) 2 1)
 unfolding roleOf kindOf
 kind-number =
-    by-role (λ c. kindNumber (kindOf (roleOf c)) ≡ cond (ltb 7 c) 1 (cond (ltb 2 c) 2 (cond (eqb c 1) 0 3)))
+    by-role (λ c. kindNumber (kindOf (roleOf c)) ≡ cond (ltb c stockRole) (cond (eqb c actionRole) 0 3) (cond (ltb c wantedRole) 2 1))
     refl refl refl refl refl refl refl refl refl refl refl refl refl refl refl refl refl refl refl refl refl refl
 
 module _ (c : ℕ) (h : c < roles) where
-  pub kind-fact : 7 < c → 1 ≡ kindNumber (kindOf (roleOf c))
-  kind-fact l = sym (kind-number c h ∙ rw (lt-ltb 7 c l) refl)
+  pub kind-fact : wantedRole ≤ c → 1 ≡ kindNumber (kindOf (roleOf c))
+  kind-fact l = sym (kind-number c h ∙ rw (le-ltb c stockRole (omega arith), le-ltb c wantedRole l) refl)
 
-  pub kind-level : c ≤ 7 → 3 ≤ c → 2 ≡ kindNumber (kindOf (roleOf c))
-  kind-level l m = sym (kind-number c h ∙ rw (le-ltb 7 c l, lt-ltb 2 c m) refl)
+  pub kind-level : c < wantedRole → stockRole ≤ c → 2 ≡ kindNumber (kindOf (roleOf c))
+  kind-level l m = sym (kind-number c h ∙ rw (le-ltb c stockRole m, lt-ltb c wantedRole l) refl)
 
-  pub kind-action : c ≡ 1 → 0 ≡ kindNumber (kindOf (roleOf c))
+  pub kind-action : c ≡ actionRole → 0 ≡ kindNumber (kindOf (roleOf c))
   kind-action e = sym (kind-number c h ∙ rw e refl)
 
-  pub kind-line : c < 3 → (c ≡ 1 → ⊥) → 3 ≡ kindNumber (kindOf (roleOf c))
-  kind-line l e = sym (kind-number c h ∙ rw (le-ltb 7 c (omega arith), le-ltb 2 c (omega arith), ne-eqb c 1 e) refl)
+  pub kind-line : c < stockRole → (c ≡ actionRole → ⊥) → 3 ≡ kindNumber (kindOf (roleOf c))
+  kind-line l e = sym (kind-number c h ∙ rw (lt-ltb c stockRole l, ne-eqb c actionRole e) refl)
 
   -- only an action's role is of their kind
-  pub role-action : kindNumber (kindOf (roleOf c)) ≡ 0 → c ≡ 1
+  pub role-action : kindNumber (kindOf (roleOf c)) ≡ 0 → c ≡ actionRole
   role-action e =
-      elim (decLt 7 c) [
-        | yes l ↦ absurd (omega (arith, kind-fact l))
-        | no l ↦ go l (decLt 2 c) (ℕ-discrete c 1)
+      elim (decLt c wantedRole) [
+        | yes l ↦ go l (decLt c stockRole) (ℕ-discrete c actionRole)
+        | no l ↦ absurd (omega (arith, kind-fact (omega arith)))
       ]
     where
-      go : (7 < c → ⊥) → Dec (2 < c) → Dec (c ≡ 1) → c ≡ 1
-      go l (yes m) d = absurd (omega (arith, kind-level (omega arith) m))
-      go l (no m) (yes d) = d
-      go l (no m) (no d) = absurd (omega (arith, kind-line (omega arith) d))
+      go : c < wantedRole → Dec (c < stockRole) → Dec (c ≡ actionRole) → c ≡ actionRole
+      go l (yes m) (yes d) = d
+      go l (yes m) (no d) = absurd (omega (arith, kind-line m d))
+      go l (no m) d = absurd (omega (arith, kind-level l (omega arith)))
 
-pub gives-number : (c : ℕ) → c < roles → ((eqb c 1 || eqb c 3) || leb 20 c) ≡ gives (roleOf c)
+pub gives-number : (c : ℕ) → c < roles → ((eqb c actionRole || eqb c stockRole) || leb givenRole c) ≡ gives (roleOf c)
 unfolding roleOf gives
 gives-number =
-    by-role (λ c. ((eqb c 1 || eqb c 3) || leb 20 c) ≡ gives (roleOf c))
+    by-role (λ c. ((eqb c actionRole || eqb c stockRole) || leb givenRole c) ≡ gives (roleOf c))
     refl refl refl refl refl refl refl refl refl refl refl refl refl refl refl refl refl refl refl refl refl refl

@@ -13,9 +13,10 @@ use crate::lookup::KEYS;
 use crate::lookup::find;
 use crate::lookup::mix;
 use notes::ACTION;
-use notes::FALL;
+use notes::GIVEN;
 use notes::NUMBER;
 use notes::STOCK;
+use notes::WANTED;
 use notes::name_at;
 use notes::name_end;
 use notes::role;
@@ -34,15 +35,12 @@ pub const KINDS: usize = 4;
 // A mark an item: whether its name has been given, kept where the name first appears.
 pub const MARKS: usize = 65536;
 
-// The first role of a fact that is given.
-const GIVEN: usize = 20;
-
 // The kind of names in a role.
 fn kind_of(role: usize) -> usize
     requires { ⌜ role < roles ⌝ }
     ensures { λ r. ⌜ (r ≡ kindNumber (kindOf (roleOf role))) × (r < 4) ⌝ }
 {
-    if role > FALL + 1 {
+    if role >= WANTED {
         FACTS
     } else if role >= STOCK {
         LEVELS

@@ -33,10 +33,49 @@ numbered n line = n + 4294967296 * line
 unfoldable pub named : ℕ → ℕ → ℕ → ℕ → ℕ
 named at to line role = at + 65536 * (to - at) + 4294967296 * line + 281474976710656 * role
 
--- the roles by their numbers; 0 is that of a number
+-- how many roles there are; 0 is that of a number
 abbrev pub roles : ℕ
 roles = 22
 
+-- an action, a line of a plan, an amount that is given; a rise and a fall at the start, one more at the end
+abbrev pub actionRole : ℕ
+actionRole = 1
+
+abbrev pub plannedRole : ℕ
+plannedRole = 2
+
+abbrev pub stockRole : ℕ
+stockRole = 3
+
+abbrev pub riseRole : ℕ
+riseRole = 4
+
+abbrev pub fallRole : ℕ
+fallRole = 6
+
+-- a fact where it stands as 0, one more as 1
+abbrev pub wantedRole : ℕ
+wantedRole = 8
+
+abbrev pub overAllRole : ℕ
+overAllRole = 10
+
+abbrev pub wantedAtEndRole : ℕ
+wantedAtEndRole = 12
+
+abbrev pub setRole : ℕ
+setRole = 14
+
+abbrev pub setAtEndRole : ℕ
+setAtEndRole = 16
+
+abbrev pub reachedRole : ℕ
+reachedRole = 18
+
+abbrev pub givenRole : ℕ
+givenRole = 20
+
+-- the roles by their numbers
 abbrev pub roleList : List Role
 roleList =
     planned ∷ action ∷ planned ∷ stock ∷ rise start ∷ rise end ∷ fall start ∷ fall end
@@ -63,13 +102,13 @@ placeOf Reached = reached
 placeOf Given = given
 
 abbrev pub firstRole : noted.Place → ℕ
-firstRole WantedAtStart = 8
-firstRole WantedOverAll = 10
-firstRole WantedAtEnd = 12
-firstRole SetAtStart = 14
-firstRole SetAtEnd = 16
-firstRole Reached = 18
-firstRole Given = 20
+firstRole WantedAtStart = wantedRole
+firstRole WantedOverAll = overAllRole
+firstRole WantedAtEnd = wantedAtEndRole
+firstRole SetAtStart = setRole
+firstRole SetAtEnd = setAtEndRole
+firstRole Reached = reachedRole
+firstRole Given = givenRole
 
 abbrev pub factRole : noted.Place → Bool → ℕ
 factRole p value = firstRole p + cond value 1 0

@@ -3,8 +3,7 @@ ghost use mathlib.Core.Path.{_≡_};
 ghost use Prim.Native.Nat.{_+_, _≤_, _<_};
 ghost use Rattle.notes.specs.Notes.{valueIn, lineIn, roleIn, nameAt, nameEnd, roles, firstRole, factRole, numbered, named};
 
-// The role of a number, and those of names: a rise or a fall at the end has one more, and facts begin with one that is wanted at the
-// start as 0.
+// The role of a number, and those of names: a rise or a fall at the end has one more.
 pub const NUMBER: usize = 0;
 
 pub const ACTION: usize = 1;
@@ -17,7 +16,21 @@ pub const RISE: usize = 4;
 
 pub const FALL: usize = 6;
 
-const FACT: usize = 8;
+// Facts that are wanted at the start, over all, and at the end; set at the start, and at the end; reached in the end; given at first.
+// Each has its role as 0, and one more as 1.
+pub const WANTED: usize = 8;
+
+pub const OVER_ALL: usize = 10;
+
+pub const WANTED_AT_END: usize = 12;
+
+pub const SET: usize = 14;
+
+pub const SET_AT_END: usize = 16;
+
+pub const REACHED: usize = 18;
+
+pub const GIVEN: usize = 20;
 
 // Where a fact stands.
 pub enum Place {
@@ -35,13 +48,13 @@ fn first_role(place: Place) -> usize
     ensures { λ r. ⌜ (r ≡ firstRole place) × (r < 21) ⌝ }
 {
     match place {
-        Place::WantedAtStart => FACT,
-        Place::WantedOverAll => FACT + 2,
-        Place::WantedAtEnd => FACT + 4,
-        Place::SetAtStart => FACT + 6,
-        Place::SetAtEnd => FACT + 8,
-        Place::Reached => FACT + 10,
-        Place::Given => FACT + 12,
+        Place::WantedAtStart => WANTED,
+        Place::WantedOverAll => OVER_ALL,
+        Place::WantedAtEnd => WANTED_AT_END,
+        Place::SetAtStart => SET,
+        Place::SetAtEnd => SET_AT_END,
+        Place::Reached => REACHED,
+        Place::Given => GIVEN,
     }
 }
 
