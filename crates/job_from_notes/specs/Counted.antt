@@ -3,6 +3,7 @@ use Prim.Native.Nat.{ℕ, _/_, _≤_, _<_}
 use mathlib.Core.Path.{_≡_}
 use mathlib.Core.List.{List}
 use lib.ListN.{length, getD}
+use Rattle.spelling.specs.Tokens.{textMost}
 use Rattle.supplied.specs.Job.{Tables}
 use Rattle.job_notes.specs.Tables.{Sizes, tablesNoted}
 use Rattle.job_from_notes.specs.declared.tally.Totals.{Totals}
@@ -16,7 +17,7 @@ tablesIn facts levels said numbers plan acts = tablesNoted (sizesIn facts levels
 
 -- notes that can be walked: no more than a text can hold, at most 64 steps, and actions that begin among them
 pub record Walked (said plan acts : List ℕ) : Type 0 where
-  pub few : length said ≤ 65535
+  pub few : length said ≤ textMost
   pub steps : length plan < 195
   pub size : length acts ≡ 64
   pub inside : (s : ℕ) → s < length plan / 3 → getD acts s 0 ≤ length said

@@ -6,6 +6,7 @@ use native.Mathlib.Omega.{arith}
 use borrow.Author.Tests.{ne-eqb}
 use lib.ListN.{length, getD, take, List·getD-map}
 use lib.Seq.{slice, length-slice, getD-drop, getD-take}
+use Rattle.spelling.specs.Tokens.{textMost}
 use Rattle.grammar.specs.Said.{name, Item}
 use Rattle.grammar.specs.Tree.{Word}
 use Rattle.notes.specs.Notes.{valueIn, lineIn, roleIn, roleOf, saidIn, itemIn, itemsIn, nothing, Sound}
@@ -27,7 +28,7 @@ unfolding itemIn saidIn
 name-in text w x = rw (ne-eqb (roleIn w) 0 x) refl
 
 module _
-    (text said numbers : List ℕ) (sound : (k : ℕ) → k < length said → Sound text (getD said k 0)) (few : length said ≤ 65535)
+    (text said numbers : List ℕ) (sound : (k : ℕ) → k < length said → Sound text (getD said k 0)) (few : length said ≤ textMost)
     (numbered : Numbered (itemsIn text said) numbers) where
   fits-at : (k : ℕ) → k < length said → Fits text (namesIn text said) (getD said k 0) (getD numbers k 0)
   fits-at k l =

@@ -7,6 +7,7 @@ use native.Mathlib.Omega.{arith}
 use lib.ListN.{length, getD, drop}
 use lib.Seq.{slice, take-all}
 use Rattle.laws.specs.Listed.{tabulate}
+use Rattle.spelling.specs.Tokens.{textMost}
 use Rattle.grammar.specs.Said.{Item}
 use Rattle.grammar.specs.Tree.{Word}
 use Rattle.notes.specs.Notes.{itemIn, itemsIn, Sound}
@@ -35,7 +36,7 @@ slice-all l n a e = ap (drop a) (take-all n l (omega arith))
 
 module _
     (text plan said lines numbers acts : List ℕ) (z : Sizes) (sound : (k : ℕ) → k < length said → Sound text (getD said k 0))
-    (few : length said ≤ 65535) (numbered : Numbered (itemsIn text said) numbers)
+    (few : length said ≤ textMost) (numbered : Numbered (itemsIn text said) numbers)
     (acting : Acting (itemsIn text said) (linesOf (itemsIn plan lines)) acts) (items : z .items ≡ length said)
     (steps : z .steps ≡ length (linesOf (itemsIn plan lines))) where
   abbrev is : List Item

@@ -5,13 +5,13 @@ use mathlib.Core.List.{List, []}
 use lib.ListN.{length, getD, drop}
 use Rattle.grammar.specs.Said.{Role, name, Item}
 use Rattle.grammar.specs.Tree.{Word}
-use Rattle.notes.specs.Notes.{nothing}
+use Rattle.notes.specs.Notes.{notesMost, nothing}
 use Rattle.supplied.specs.Names.{kindOf, namesOf, numberOf}
 use Rattle.supplied.specs.Plan.{Line, behind}
 
 -- the number of each name among those of its kind
 pub record Numbered (is : List Item) (numbers : List ℕ) : Type 0 where
-  pub size : length numbers ≡ 65536
+  pub size : length numbers ≡ notesMost
   pub each :
       (k : ℕ) (r : Role) (w : Word) → getD is k nothing .said ≡ name r w → getD numbers k 0 ≡ numberOf w (namesOf (kindOf r) is)
 

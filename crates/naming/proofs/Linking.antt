@@ -23,7 +23,7 @@ use Rattle.naming.proofs.Firsts.{says-name, first-name, has-first}
 module _ (word : List ℕ) where
   pub mix-more :
       (h k b : ℕ) → k < length word → mixed 0 word ≡ mixed h (drop k word) → b ≡ getD word k 0
-      → mixed 0 word ≡ mixed ((h * 31 + b) % 4096) (drop (k + 1) word)
+      → mixed 0 word ≡ mixed ((h * 31 + b) % keyCount) (drop (k + 1) word)
   unfolding mixed
   mix-more h k b l e f = e ∙ rw (drop-cons word k 0 l, add-one k, f)
 
@@ -34,7 +34,7 @@ module _ (word : List ℕ) where
 pub mixed-low : (w : Word) (h : ℕ) → h < keyCount → mixed h w < keyCount
 unfolding mixed
 mixed-low [] h l = l
-mixed-low (b ∷ w) h l = mixed-low w ((h * 31 + b) % 4096) (omega arith)
+mixed-low (b ∷ w) h l = mixed-low w ((h * 31 + b) % keyCount) (omega arith)
 
 module _ (is : List Item) where
   pub key-first : (k : ℕ) {r : Role} {w : Word} → isFirst is k ≡ true → saidAt is k ≡ name r w → key is k ≡ mixed 0 w

@@ -12,6 +12,7 @@ use Rattle.laws.proofs.Search.{contrary, by-order}
 use Rattle.laws.proofs.Linked.{last-none}
 use Rattle.grammar.specs.Said.{Role, Said, name, number, Item}
 use Rattle.grammar.specs.Tree.{Word}
+use Rattle.notes.specs.Notes.{notesMost}
 use Rattle.supplied.specs.Names.{Kind, actions, facts, levels, lines, kindOf, kindNumber, appearing, numberOf}
 use Rattle.naming.specs.Index.{keyCount, unlinked, indexSize, saidAt, says, isFirst, key, Indexed}
 use Rattle.naming.specs.Passed.{Passed}
@@ -25,7 +26,7 @@ use Rattle.naming.proofs.Marks.{unmarked}
 -- nothing has been passed
 pub passed-start :
     (is : List Item) (index numbers : List ℕ) → length index ≡ indexSize → ((j : ℕ) → j < indexSize → getD index j 0 ≡ unlinked)
-    → length numbers ≡ 65536 → Passed is 0 index numbers (replicate 65536 0) (replicate 4 0)
+    → length numbers ≡ notesMost → Passed is 0 index numbers (replicate notesMost 0) (replicate 4 0)
 unfolding appearing
 passed-start is index numbers size empty long = record {
   indexed = record {
@@ -38,7 +39,7 @@ passed-start is index numbers size empty long = record {
   };
   fresh = λ j l h. empty (keyCount + j) (omega arith);
   numbersSize = long;
-  marksSize = length-replicate {A = ℕ} 65536 0;
+  marksSize = length-replicate {A = ℕ} notesMost 0;
   countsSize = refl;
   numbered = λ j r w h. absurd (not-suc-le-zero h);
   counted = λ κ. counts κ;

@@ -9,7 +9,7 @@ use Rattle.laws.specs.Linked.{LinkedBack}
 use Rattle.spelling.specs.Keywords.{same}
 use Rattle.grammar.specs.Said.{Role, Said, name, number, Item}
 use Rattle.grammar.specs.Tree.{Word}
-use Rattle.notes.specs.Notes.{nothing}
+use Rattle.notes.specs.Notes.{notesMost, nothing}
 use Rattle.supplied.specs.Names.{kindOf}
 use Rattle.supplied.specs.Plan.{wordIn}
 
@@ -22,7 +22,7 @@ unlinked = 65535
 
 -- an entry a key, then one an item
 abbrev pub indexSize : ℕ
-indexSize = 69632
+indexSize = keyCount + notesMost
 
 abbrev pub saidAt : List Item → ℕ → Said
 saidAt is k = getD is k nothing .said

@@ -11,7 +11,7 @@ use Rattle.notes.specs.Notes.{nothing, itemsIn, Sound}
 use Rattle.supplied.specs.Names.{actions, facts, levels, namesFrom, namesOf}
 use Rattle.supplied.specs.Plan.{hasAction, behind}
 use Rattle.job_notes.specs.Resolved.{Numbered}
-use Rattle.naming.specs.Index.{Indexed}
+use Rattle.naming.specs.Index.{unlinked, Indexed}
 use Rattle.naming.specs.declared.Names.{Names}
 
 -- where no item is refused: the numbers of names, how many there are, and an index of all
@@ -39,5 +39,5 @@ pub record ActionAt (text said : List ℕ) (v : Word) (r : ℕ) : Type 0 where
 
 -- notes that lie in their text, few enough for an index
 pub record Readable (text said : List ℕ) : Type 0 where
-  pub few : length said ≤ 65535
+  pub few : length said ≤ unlinked
   pub each : (k : ℕ) → k < length said → Sound text (getD said k 0)

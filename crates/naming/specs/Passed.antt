@@ -10,7 +10,7 @@ use Rattle.spelling.specs.Keywords.{same}
 use Rattle.grammar.specs.Said.{Role, Said, name, number, Item}
 use Rattle.grammar.specs.Tree.{Word}
 use Rattle.grammar.specs.Reader.{Outcome}
-use Rattle.notes.specs.Notes.{roleIn, roleOf, nothing}
+use Rattle.notes.specs.Notes.{notesMost, roleIn, roleOf, nothing}
 use Rattle.supplied.specs.Names.{Kind, kindOf, kindNumber, gives, clashes, namesFrom, namesOf, numberOf}
 use Rattle.naming.specs.Index.{keyCount, unlinked, saidAt, says, isFirst, Indexed}
 
@@ -29,9 +29,9 @@ givesName v (number n) = false
 -- items that passed below k; the first appearance of a name is marked if some of these gives it
 pub record Passed (is : List Item) (k : ℕ) (index numbers marks counts : List ℕ) : Type 0 where
   pub indexed : Indexed is k index
-  pub fresh : (j : ℕ) → k ≤ j → j < 65536 → getD index (keyCount + j) 0 ≡ unlinked
-  pub numbersSize : length numbers ≡ 65536
-  pub marksSize : length marks ≡ 65536
+  pub fresh : (j : ℕ) → k ≤ j → j < notesMost → getD index (keyCount + j) 0 ≡ unlinked
+  pub numbersSize : length numbers ≡ notesMost
+  pub marksSize : length marks ≡ notesMost
   pub countsSize : length counts ≡ 4
   pub numbered :
       (j : ℕ) (r : Role) (w : Word) → j < k → saidAt is j ≡ name r w → getD numbers j 0 ≡ numberOf w (namesOf (kindOf r) (take k is))

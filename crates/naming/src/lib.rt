@@ -4,7 +4,7 @@ ghost use mathlib.Core.Path.{_≡_};
 ghost use Prim.Native.Nat.{ℕ, _≤_, _<_};
 ghost use lib.ListN.{length, getD};
 ghost use lib.Seq.{slice};
-ghost use Rattle.notes.specs.Notes.{itemsIn};
+ghost use Rattle.notes.specs.Notes.{notesMost, itemsIn};
 ghost use Rattle.naming.specs.Index.{unlinked, indexSize, Indexed};
 ghost use Rattle.naming.specs.Named.{Readable, Found, ActionAt};
 
@@ -34,7 +34,7 @@ pub struct Names {
 // Numbers the names of each kind as they first appear, up to the first item that may not stand behind those before it.
 pub fn number_names(text: &[u8], said: &[u64], index: &mut [u16], numbers: &mut [u16]) -> Names
     requires { ⌜ Readable (now text) (now said) × (length (now index) ≡ indexSize)
-        × ((j : ℕ) → j < indexSize → getD (now index) j 0 ≡ unlinked) × (length (now numbers) ≡ 65536) ⌝ }
+        × ((j : ℕ) → j < indexSize → getD (now index) j 0 ≡ unlinked) × (length (now numbers) ≡ notesMost) ⌝ }
     ensures { λ r. ⌜ Found (now (text .entry)) (now (said .entry)) (now (numbers .exit)) (now (index .exit)) r ⌝ }
 {
     let n = said.len();

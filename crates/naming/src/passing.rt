@@ -3,10 +3,10 @@ ghost use mathlib.Core.Path.{_≡_};
 ghost use mathlib.Core.Bool.{cond};
 ghost use Prim.Native.Nat.{_+_, _≤_, _<_};
 ghost use lib.ListN.{length, getD, set};
-ghost use Rattle.notes.specs.Notes.{roleIn, roles, roleOf, itemsIn};
+ghost use Rattle.notes.specs.Notes.{notesMost, roleIn, roles, roleOf, itemsIn};
 ghost use Rattle.supplied.specs.Names.{kindOf, kindNumber};
 ghost use Rattle.supplied.specs.Names as supplied;
-ghost use Rattle.naming.specs.Index.{keyCount, indexSize};
+ghost use Rattle.naming.specs.Index.{keyCount, unlinked, indexSize};
 ghost use Rattle.naming.specs.Named.{Readable};
 ghost use Rattle.naming.specs.Passed.{Repeated, Passed, Stepped};
 use crate::lookup::KEYS;
@@ -14,6 +14,7 @@ use crate::lookup::find;
 use crate::lookup::mix;
 use notes::ACTION;
 use notes::GIVEN;
+use notes::NOTES_MOST;
 use notes::NUMBER;
 use notes::STOCK;
 use notes::WANTED;
@@ -33,7 +34,7 @@ const LINES: usize = 3;
 pub const KINDS: usize = 4;
 
 // A mark an item: whether its name has been given, kept where the name first appears.
-pub const MARKS: usize = 65536;
+pub const MARKS: usize = NOTES_MOST;
 
 // The kind of names in a role.
 fn kind_of(role: usize) -> usize
@@ -100,8 +101,8 @@ fn enter(
     marks: &mut [u8],
     counts: &mut [u16],
 )
-    requires { ⌜ (key < keyCount) × (role < roles) × (k < 65535) × (length (now index) ≡ indexSize) × (length (now numbers) ≡ 65536)
-        × (length (now marks) ≡ 65536) × (length (now counts) ≡ 4) × (getD (now counts) (kindNumber (kindOf (roleOf role))) 0 ≤ k) ⌝ }
+    requires { ⌜ (key < keyCount) × (role < roles) × (k < unlinked) × (length (now index) ≡ indexSize) × (length (now numbers) ≡ notesMost)
+        × (length (now marks) ≡ notesMost) × (length (now counts) ≡ 4) × (getD (now counts) (kindNumber (kindOf (roleOf role))) 0 ≤ k) ⌝ }
     ensures { λ _. ⌜ now (index .exit) ≡ set (set (now (index .entry)) (keyCount + k) (getD (now (index .entry)) key 0)) key k ⌝ }
     ensures { λ _. ⌜ now (numbers .exit) ≡ set (now (numbers .entry)) k (getD (now (counts .entry)) (kindNumber (kindOf (roleOf role))) 0) ⌝ }
     ensures { λ _. ⌜ now (marks .exit) ≡ set (now (marks .entry)) k (cond (supplied.gives (roleOf role)) 1 0) ⌝ }

@@ -120,6 +120,10 @@ saidIn text w = cond (eqb (roleIn w) 0) (number (valueIn w)) (name (roleOf (role
 unfoldable pub itemIn : List ℕ → ℕ → Item
 itemIn text w = record { said = saidIn text w; line = lineIn w }
 
+-- room for a note of each byte of the longest text, and a 0 behind the last
+abbrev pub notesMost : ℕ
+notesMost = 65536
+
 -- what notes of a text say
 abbrev pub itemsIn : List ℕ → List ℕ → List Item
 itemsIn text list = map (itemIn text) list

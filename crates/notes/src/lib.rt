@@ -32,6 +32,9 @@ pub const REACHED: usize = 18;
 
 pub const GIVEN: usize = 20;
 
+// Room for a note of each byte of the longest text, and a 0 behind the last.
+pub const NOTES_MOST: usize = 65536;
+
 // Where a fact stands.
 pub enum Place {
     WantedAtStart,

@@ -15,12 +15,12 @@ use Rattle.spelling.specs.declared.Cursor.{Cursor}
 use Rattle.grammar.specs.Allowed.{depthMost}
 use Rattle.grammar.specs.Reader.{Symbol, text, lines, refused, run, Outcome}
 use Rattle.grammar.specs.Reading.{actionReading, planReading}
-use Rattle.notes.specs.Notes.{nothing, itemIn, numbered, Sound, Noted}
+use Rattle.notes.specs.Notes.{notesMost, nothing, itemIn, numbered, Sound, Noted}
 use Rattle.notes.proofs.Notes.{number-says, number-sound}
 use Rattle.token_reader.specs.Reading.{readerAt, heard, outcome, answer, Listed, Ready, Ends}
 use Rattle.token_reader.specs.declared.Reader.{Reader}
 use Rattle.token_reader.proofs.Steps.{outcome-clear}
-use Rattle.text_reader.specs.Heard.{notesMost, Heard}
+use Rattle.text_reader.specs.Heard.{Heard}
 
 zero-says : (t : List ℕ) → itemIn t 0 ≡ nothing
 unfolding numbered

@@ -7,12 +7,9 @@ use lib.ListN.{length}
 use Rattle.spelling.specs.Tokens.{textMost}
 use Rattle.grammar.specs.Reader.{Outcome}
 use Rattle.notes.specs.Notes.{Noted}
+pub use Rattle.notes.specs.Notes.{notesMost}
 use Rattle.token_reader.specs.Reading.{heard, answer, Fault}
 use Rattle.token_reader.specs.declared.Reader.{Reader}
-
--- room for a note of each byte of the longest text, and a 0 behind the last
-abbrev pub notesMost : ℕ
-notesMost = 65536
 
 pub record Heard (plan : Bool) (reading : Outcome) (text list : List ℕ) (r : Reader) : Type 0 where
   pub same : reading ≡ answer text list r

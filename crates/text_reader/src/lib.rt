@@ -7,7 +7,8 @@ ghost use Prim.Native.Nat.{ℕ};
 ghost use mathlib.Core.Bool.{true, false};
 ghost use lib.ListN.{length, getD};
 ghost use Rattle.grammar.specs.Reading.{actionReading, planReading};
-ghost use Rattle.text_reader.specs.Heard.{notesMost, Heard};
+ghost use Rattle.notes.specs.Notes.{notesMost};
+ghost use Rattle.text_reader.specs.Heard.{Heard};
 use token_reader::Reader;
 use token_reader::reader_at;
 

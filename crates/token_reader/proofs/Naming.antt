@@ -8,7 +8,7 @@ use lib.ListN.{length}
 use lib.Seq.{slice, length-slice}
 use borrow.Author.Tests.{leb-true, not-true, not-false}
 use Rattle.laws.proofs.Search.{and-l}
-use Rattle.spelling.specs.Tokens.{Token, mark, word, stop}
+use Rattle.spelling.specs.Tokens.{textMost, Token, mark, word, stop}
 use Rattle.spelling.specs.Names.{isName}
 use Rattle.spelling.specs.Cursor.{here, isSuch}
 use Rattle.spelling.specs.declared.Cursor.{Cursor}
@@ -32,8 +32,8 @@ pub record Bounds (plan : Bool) (text : List ℕ) (r : Reader) : Type 0 where
   pub inside : r .at < length text
   pub spelt : here plan text (cursorOf r) ≡ word (slice (r .at) (r .end) text)
   pub short : r .end ≤ r .at + 31
-  pub within : r .at ≤ 65535
-  pub lined : r .line ≤ 65535
+  pub within : r .at ≤ textMost
+  pub lined : r .line ≤ textMost
 
 module _ (plan : Bool) (text : List ℕ) {r : Reader} {c : Cursor} {y : Bool} (p : Stands plan text r) (e : c ≡ cursorOf r)
     (n : y ≡ isSuch isName (here plan text c)) where

@@ -5,7 +5,7 @@ use mathlib.Core.Bool.{Bool, true, false, cond}
 use mathlib.Core.List.{List, [], _∷_}
 use native.Mathlib.Omega.{arith}
 use lib.ListN.{length}
-use Rattle.spelling.specs.Tokens.{Token, mark, word, stop}
+use Rattle.spelling.specs.Tokens.{textMost, Token, mark, word, stop}
 use Rattle.spelling.specs.Numbers.{isWhole, isTime, spelled, ticks, wholeOf, timeOf}
 use Rattle.spelling.specs.Cursor.{here, isSuch, wholeAt, timeAt}
 use Rattle.spelling.specs.declared.Cursor.{Cursor}
@@ -55,7 +55,7 @@ whole-none (word w) e = spelt-none (isWhole w) (spelled w) e
 whole-none (mark m) e = refl
 whole-none stop e = refl
 
-pub lines-fit : {plan : Bool} {text : List ℕ} {r : Reader} → Stands plan text r → r .line ≤ 65535
+pub lines-fit : {plan : Bool} {text : List ℕ} {r : Reader} → Stands plan text r → r .line ≤ textMost
 lines-fit p = let s = p .standing in omega (arith, p .short, s .lines, s .onward, s .within)
 
 -- a number has been noted

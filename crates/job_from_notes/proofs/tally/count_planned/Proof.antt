@@ -4,13 +4,14 @@ use mathlib.Core.Path.{_≡_, refl}
 use native.Mathlib.Omega.{arith}
 use borrow.Author.Needs.{needs}
 use Rattle.laws.specs.Fold.{sum}
+use Rattle.spelling.specs.Tokens.{textMost}
 use Rattle.job_from_notes.specs.Brought.{countOfStep}
 use Rattle.job_from_notes.proofs.Walk.{planned-more, planned-end}
 use Rattle.job_from_notes.proofs.tally.count_planned.Statement.{statement}
 use Rattle.job_from_notes.proofs.tally.count_planned.Tie as tie
 
 abbrev Inv-loop : tie.InvT-loop
-Inv-loop kind said plan acts steps count₀ s₀ count s = (s ≤ steps) × (count ≤ 65535 * s) × (count ≡ sum s (countOfStep kind said plan acts))
+Inv-loop kind said plan acts steps count₀ s₀ count s = (s ≤ steps) × (count ≤ textMost * s) × (count ≡ sum s (countOfStep kind said plan acts))
 
 abbrev μ-loop : tie.MeasureT-loop
 μ-loop kind said plan acts steps count₀ s₀ count s = steps - s

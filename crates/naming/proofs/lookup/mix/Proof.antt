@@ -4,7 +4,7 @@ use mathlib.Core.Path.{_≡_, refl}
 use lib.ListN.{length, drop}
 use native.Mathlib.Omega.{arith}
 use borrow.Author.Needs.{needs}
-use Rattle.naming.specs.Index.{mixed}
+use Rattle.naming.specs.Index.{keyCount, mixed}
 use Rattle.naming.proofs.Linking.{mix-more, mix-end}
 use Rattle.naming.proofs.lookup.mix.Statement.{statement}
 use Rattle.naming.proofs.lookup.mix.Tie as tie
@@ -13,7 +13,7 @@ pub mix-spec : {M : Type 1} → statement M
 mix-spec =
     tie.close
     (tie.spec
-    (λ word h₀ k₀ h k. (h < 4096) × (mixed 0 word ≡ mixed h (drop k word)))
+    (λ word h₀ k₀ h k. (h < keyCount) × (mixed 0 word ≡ mixed h (drop k word)))
     (λ word h₀ k₀ h k. length word - k)
     (λ c. (omega arith, refl))
     (λ c. search needs)

@@ -6,6 +6,7 @@ use lib.ListN.{length, getD, set}
 use lib.Seq.{lt-length-set}
 use native.Mathlib.Omega.{arith}
 use borrow.Author.Needs.{needs}
+use Rattle.naming.specs.Index.{keyCount}
 use Rattle.naming.proofs.passing.enter.Statement.{statement}
 use Rattle.naming.proofs.passing.enter.Tie as tie
 
@@ -24,7 +25,7 @@ enter-spec =
     (λ c.
     let s = c .before .before .before .before .before .before in
     let h : s .args .key < length (s .args .index .now) = omega (arith, s .pre .0, s .pre .3) in
-    lt-length-set (s .args .index .now) (4096 + s .args .k) (getD (s .args .index .now) (s .args .key) 0) h)
+    lt-length-set (s .args .index .now) (keyCount + s .args .k) (getD (s .args .index .now) (s .args .key) 0) h)
     (λ c. search needs)
     (λ c. omega (arith, c .before .before .kind-of .ensures .1, c .before .before .before .before .before .before .before .pre .6))
     (λ c. search needs)
