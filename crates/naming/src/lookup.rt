@@ -8,7 +8,7 @@ ghost use Rattle.naming.specs.Named.{Readable};
 ghost use Rattle.naming.specs.Passed.{Looked};
 use notes::name_at;
 use notes::name_end;
-use spelling::names::word_is;
+use spelled_names::word_is;
 
 // The keys of the index.
 pub const KEYS: usize = 4096;

@@ -1,19 +1,19 @@
--- Testing every byte of a part of a text, and the tests of a name.
+-- Testing every byte of a part of a text.
 use Prim.Native.Nat.{ℕ, _+_, _-_, _≤_, _<_}
 use mathlib.Core.Path.{_≡_, refl, sym, ap, _∙_}
-use mathlib.Core.Bool.{Bool, true, false, not, _&&_}
+use mathlib.Core.Bool.{Bool, true, false, not}
 use mathlib.Core.List.{List}
 use native.Mathlib.Omega.{arith}
 use native.Mathlib.Decide.{decLt}
-use native.Mathlib.Nat.{add-zero}
-use lib.Dec.{leb}
-use lib.ListN.{length, getD}
-use lib.Seq.{slice, length-slice}
+use lib.ListN.{getD, take}
+use lib.Seq.{slice, getD-drop, getD-take}
 use borrow.Author.Tests.{not-true, not-false}
 use Rattle.laws.specs.Search.{all}
 use Rattle.laws.proofs.Search.{contrary, all-intro, all-elim}
-use Rattle.spelling.specs.Names.{nameMost, isLetter, isNameByte, isReserved, isName}
-use Rattle.spelling.proofs.Same.{part-at}
+
+-- a byte of a part of a text
+pub part-at : (text : List ℕ) (at end k : ℕ) → at + k < end → getD (slice at end text) k 0 ≡ getD text (at + k) 0
+part-at text at end k l = rw (getD-drop at (take end text) k 0, getD-take end text (at + k) 0 l)
 
 -- every byte passed passes the test
 pub record Each (text : List ℕ) (p : ℕ → Bool) (at end k : ℕ) : Type 0 where
@@ -64,13 +64,3 @@ module _ (text : List ℕ) (p : ℕ → Bool) (at end : ℕ) where
       (λ j b.
       let m : at + j < end = omega arith in
       ap p (part-at text at end j m) ∙ s .each (at + j) (omega arith) (omega arith)))
-
--- the tests of a name, taken at its place in the text
-pub name-is :
-    (text : List ℕ) (at end : ℕ) {l s r : Bool} → at < end → end ≤ length text → l ≡ isLetter (getD text at 0) →
-    s ≡ all (end - at) (λ k. isNameByte (getD (slice at end text) k 0)) → r ≡ isReserved (slice at end text) →
-    (((leb (end - at) nameMost && l) && s) && not r) ≡ isName (slice at end text)
-unfolding isName
-name-is text at end h k e f g =
-    let m : at + 0 < end = omega arith in
-    rw (e, f, g, length-slice at end text k, part-at text at end 0 m, add-zero at)

@@ -1,4 +1,4 @@
--- The laws of tokens and their spelling, of the loops that find and test them, and of numbers; cases by computing.
+-- The laws of tokens and their spelling, of the loops that find them, and of the bytes of a word; cases by computing.
 pub mod Tokens
 pub mod Spelling
 pub mod Scan

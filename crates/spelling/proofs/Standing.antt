@@ -8,37 +8,15 @@ use native.Mathlib.Decide.{decLt}
 use lib.Dec.{eqb}
 use lib.ListN.{length, getD}
 use lib.Seq.{slice}
-use borrow.Author.Tests.{lt-ltb, le-ltb, eq-eqb, ne-eqb, not-true, not-false}
+use borrow.Author.Tests.{lt-ltb, le-ltb, eq-eqb, ne-eqb, not-false}
 use Rattle.laws.proofs.Search.{contrary}
 use Rattle.spelling.specs.Tokens.{Token, mark, word, stop, isMark}
-use Rattle.spelling.specs.Numbers.{wholeOf, timeOf}
-use Rattle.spelling.specs.Cursor.{here, Standing, isBracket, isSuch, isStop, wholeAt, timeAt}
+use Rattle.spelling.specs.Cursor.{here, Standing, isBracket, isSuch, isStop}
 use Rattle.spelling.specs.declared.Cursor.{Cursor}
-use Rattle.spelling.specs.declared.numbers.Spelt.{Spelt}
-use Rattle.spelling.specs.declared.numbers.Spelt.the-variants.{Nothing}
 
 -- a word of any kind
 abbrev pub some : Token → Bool
 some t = isSuch (λ w. true) t
-
--- what is no word is no such word and no number
-such-none : (p : List ℕ → Bool) (t : Token) → some t ≡ false → false ≡ isSuch p t
-unfolding isSuch
-such-none p (mark m) e = refl
-such-none p (word w) e = contrary refl e
-such-none p stop e = refl
-
-whole-none : (t : Token) → some t ≡ false → Nothing ≡ wholeAt t
-unfolding isSuch wholeAt
-whole-none (mark m) e = refl
-whole-none (word w) e = contrary refl e
-whole-none stop e = refl
-
-time-none : (t : Token) → some t ≡ false → Nothing ≡ timeAt t
-unfolding isSuch timeAt
-time-none (mark m) e = refl
-time-none (word w) e = contrary refl e
-time-none stop e = refl
 
 module _ (plan : Bool) (text : List ℕ) (c : Cursor) where
   here-stop : length text ≤ c .at → here plan text c ≡ stop
@@ -106,38 +84,7 @@ module _ (plan : Bool) (text : List ℕ) (c : Cursor) where
       go true f h = contrary e (rw (here-mark h f, isSuch))
       go false f h = (h, here-word h f)
 
-  pub such-is :
-      (p : List ℕ → Bool) {r y : Bool} → r ≡ some (here plan text c) → y ≡ p (slice (c .at) (c .end) text) →
-      (r && y) ≡ isSuch p (here plan text c)
-  unfolding isSuch
-  such-is p {r = true} {y} e f = f ∙ sym (rw (word-here (sym e) .1, isSuch))
-  such-is p {r = false} {y} e f = such-none p (here plan text c) (sym e)
-
-  pub whole-is : {r : Bool} → r ≡ some (here plan text c) → not r ≡ true → Nothing ≡ wholeAt (here plan text c)
-  whole-is e f = whole-none (here plan text c) (sym e ∙ not-true _ f)
-
-  pub time-is : {r : Bool} → r ≡ some (here plan text c) → not r ≡ true → Nothing ≡ timeAt (here plan text c)
-  time-is e f = time-none (here plan text c) (sym e ∙ not-true _ f)
-
-  pub such-not : (p : List ℕ → Bool) {r : Bool} → r ≡ some (here plan text c) → not r ≡ true → false ≡ isSuch p (here plan text c)
-  such-not p e f = such-none p (here plan text c) (sym e ∙ not-true _ f)
-
   -- a word there is told from its bytes
   module _ {r : Bool} (e : r ≡ some (here plan text c)) (f : not r ≡ false) where
-    there : (c .at < length text) × (here plan text c ≡ word (slice (c .at) (c .end) text))
+    pub there : (c .at < length text) × (here plan text c ≡ word (slice (c .at) (c .end) text))
     there = word-here (sym e ∙ not-false _ f)
-
-    pub longer : Standing plan text c → c .at < c .end
-    longer s = s .grows (there .0)
-
-    pub such-word : (p : List ℕ → Bool) {y : Bool} → y ≡ p (slice (c .at) (c .end) text) → y ≡ isSuch p (here plan text c)
-    unfolding isSuch
-    such-word p g = rw (there .1, isSuch) g
-
-    pub whole-word : {s : Spelt} → s ≡ wholeOf (slice (c .at) (c .end) text) → s ≡ wholeAt (here plan text c)
-    unfolding wholeAt
-    whole-word g = rw (there .1, wholeAt) g
-
-    pub time-word : {s : Spelt} → s ≡ timeOf (slice (c .at) (c .end) text) → s ≡ timeAt (here plan text c)
-    unfolding timeAt
-    time-word g = rw (there .1, timeAt) g

@@ -1,7 +1,6 @@
 // Words, brackets and lines of a text, one after the other, at a cursor. In a plan a colon is like a bracket and a line end stands for
 // itself.
 pub mod here;
-pub mod names;
 pub mod numbers;
 
 ghost use mathlib.Core.Path.{_≡_};

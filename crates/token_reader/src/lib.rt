@@ -7,13 +7,13 @@ ghost use Rattle.spelling.specs.Cursor.{here, isBracket, isWord, isStop};
 ghost use Rattle.grammar.specs.Reader.{bracket, keyword, name, time, amount};
 ghost use Rattle.notes.specs.Notes.{roles, roleOf, Sound};
 ghost use Rattle.token_reader.specs.Reading.{cursorOf, readerAt, faulty, Stands, Ready, Advanced, Takes, Reads, Notes};
+use spelled_names::at_name;
+use spelled_names::at_word;
+use spelled_numbers::time_at;
+use spelled_numbers::whole_at;
 use spelling::Cursor;
 use spelling::here::at_bracket;
 use spelling::here::at_end;
-use spelling::here::at_name;
-use spelling::here::at_word;
-use spelling::here::time_at;
-use spelling::here::whole_at;
 use spelling::numbers::Spelt;
 
 // The token [at, end) on a line at which the reader stands, the items noted so far, and a fault's number, 0 for none.

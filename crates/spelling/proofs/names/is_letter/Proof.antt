@@ -1,8 +1,0 @@
-use mathlib.Core.Path.{refl}
-use Rattle.spelling.specs.Names.{isLetter}
-use Rattle.spelling.proofs.names.is_letter.Statement.{statement}
-use Rattle.spelling.proofs.names.is_letter.Tie as tie
-
-pub is-letter-spec : {M : Type 1} → statement M
-unfolding isLetter
-is-letter-spec = tie.close (tie.spec (λ c. refl))

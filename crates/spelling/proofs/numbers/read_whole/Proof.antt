@@ -1,8 +1,0 @@
-use borrow.Author.Needs.{needs}
-use Rattle.spelling.specs.Numbers.{isWhole, wholeOf, digitsOf}
-use Rattle.spelling.proofs.numbers.read_whole.Statement.{statement}
-use Rattle.spelling.proofs.numbers.read_whole.Tie as tie
-
-pub read-whole-spec : {M : Type 1} → statement M
-unfolding isWhole wholeOf digitsOf
-read-whole-spec = tie.close (tie.spec (λ c κs. search needs) (λ c. c .digits .ensures .0))
