@@ -17,8 +17,11 @@ word-is-spec =
     (k ≤ length word) × (end - at ≡ length word) × ((j : ℕ) → j < k → getD text (at + j) 0 ≡ getD word j 0))
     (λ text at end word k₀ k. length word - k)
     (λ c. search needs)
-    (λ c. same-longer _ _ _ _ (c .before .pre .1) (c .if1 .taken))
-    (λ c. (omega arith, c .if1 .left, λ j l. absurd (omega arith)))
+    (λ c.
+    let s = c .before in
+    let other : s .args .end - s .args .at ≡ length (s .args .word .now) → ⊥ = λ e. omega (arith, c .if1 .taken) in
+    same-longer _ _ _ _ (s .pre .1) other)
+    (λ c. (omega arith, omega (arith, c .if1 .left), λ j l. absurd (omega arith)))
     (λ c. search needs)
     (λ c. search needs)
     (λ c. search needs)
