@@ -9,12 +9,12 @@ use borrow.Author.Tests.{eq-eqb, ne-eqb, le-ltb, le-leb}
 use lib.Dec.{ltb, eqb}
 use lib.ListN.{length}
 use Rattle.little_endian.specs.Bytes.{u32Values, u32At, u16At, u16Bytes, u32Bytes}
+use Rattle.little_endian.proofs.Stands.{stands-u32}
 use Rattle.verdict.specs.declared.Verdict.the-variants.{FileTooShort, UnknownEdition, MarkOutOfRange, CountTooHigh, LayoutDisagrees}
 use Rattle.verdict.specs.Verdict.{_then_, refuseIf}
 use Rattle.job.specs.Layout.{latestEdition, timedEdition, shortestHeader, longestHeader, headerWidth, tableAt, positionsOf, countTooHigh}
 use Rattle.job.specs.Model.{Model}
 use Rattle.header_check.specs.Header.{editionKnown, marksWrong, layoutAgrees, headerCheck}
-use Rattle.order_file.proofs.Stands.{stands-u32}
 use Rattle.job_encoding.specs.Encode.{countsIn, headerBytes, encode}
 use Rattle.job_encoding.specs.Fits.{Fits}
 use Rattle.job_encoding.proofs.Places.{startOf, length-header, header-width, length-encode, header-stands}

@@ -9,10 +9,10 @@ use borrow.Author.Tests.{eq-eqb, ne-eqb}
 use lib.ListN.{length, getD, length-append}
 use Rattle.laws.specs.Listed.{concatenate}
 use Rattle.little_endian.specs.Bytes.{u16Bytes, u32Bytes}
+use Rattle.little_endian.proofs.Stands.{Stands, stands-behind, stands-longer, stands-within, stands-part, length-parts}
 use Rattle.job.specs.declared.layout.Counts.{Counts}
 use Rattle.job.specs.Layout.{timedEdition, shortestHeader, longestHeader, headerWidth, widths, countList, tableAt}
 use Rattle.job.specs.Model.{Model}
-use Rattle.order_file.proofs.Stands.{Stands, stands-behind, stands-longer, stands-within, stands-part, length-parts}
 use Rattle.job_encoding.specs.Encode.{countsIn, levelRow, stepRow, conditionRow, effectRow, useRow, goalRow, timedRow, recordBytes}
 use Rattle.job_encoding.specs.Encode.{headerBytes, upToTable, encode}
 

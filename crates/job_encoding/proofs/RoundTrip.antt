@@ -5,10 +5,10 @@ use native.Mathlib.Nat.{zero-add, add-zero}
 use native.Mathlib.Omega.{arith}
 use lib.ListN.{getD}
 use Rattle.little_endian.specs.Bytes.{signBias, u16Values, u32Values, byteAt, u16At, u32At, biasedAt, u16Bytes, u32Bytes}
+use Rattle.little_endian.proofs.Stands.{stands-u16, stands-u32}
 use Rattle.job.specs.declared.layout.Job.{Job}
 use Rattle.job.specs.Layout.{shortestHeader, headerWidth, widths, countsOf, positionsOf, jobOf}
 use Rattle.job.specs.Model.{Model, view, modelOf, levelOf, stepOf, conditionOf, effectOf, useOf, goalOf, timedOf}
-use Rattle.order_file.proofs.Stands.{stands-u16, stands-u32}
 use Rattle.job_encoding.specs.Encode.{countsIn, bits, levelRow, stepRow, conditionRow, effectRow, useRow, goalRow, timedRow, recordBytes}
 use Rattle.job_encoding.specs.Encode.{headerBytes, encode}
 use Rattle.job_encoding.specs.Fits.{Fits}

@@ -1,3 +1,4 @@
 -- Their laws.
 pub mod Sets
 pub mod Bytes
+pub mod Stands

@@ -4,10 +4,10 @@ use mathlib.Core.Path.{_≡_, refl, ap₂, _∙_}
 use lib.ListN.{length, length-append}
 use Rattle.laws.specs.Listed.{concatenate}
 use Rattle.little_endian.specs.Bytes.{u16Bytes, u32Bytes}
+use Rattle.little_endian.proofs.Stands.{length-parts}
 use Rattle.order_file.specs.Contents.{Contents}
 use Rattle.order_file.specs.Layout.{windowsAt, windowAt, orderAt, linkAt, fileLength}
 use Rattle.order_file.specs.Encode.{headerWith, headerBytes, windowBytes, orderBytes, linkBytes, upToWindow, upToOrder, upToLink, encode}
-use Rattle.order_file.proofs.Stands.{length-parts}
 
 pub length-header-with : (steps orders links rounds : ℕ) → length (headerWith steps orders links rounds) ≡ windowsAt
 unfolding u32Bytes u16Bytes

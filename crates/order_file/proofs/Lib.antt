@@ -1,5 +1,4 @@
 -- What is encoded reads back whole, and what is written is what is encoded.
-pub mod Stands
 pub mod Encode
 pub mod RoundTrip
 pub mod Put

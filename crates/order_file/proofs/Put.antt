@@ -14,10 +14,10 @@ use Rattle.laws.specs.Nth.{count}
 use Rattle.laws.proofs.Listed.{concatenate-more}
 use Rattle.laws.proofs.Nth.{count-more, count-same, count-below, nth-is}
 use Rattle.little_endian.proofs.Sets.{sets-behind}
+use Rattle.little_endian.proofs.Stands.{length-parts}
 use Rattle.order_file.specs.Contents.{gapBias}
 use Rattle.order_file.specs.Encode.{headerWith, windowWith, gapBits}
 use Rattle.order_file.specs.Layout.{fileEdition, windowsAt, ordersAt, linksAt}
-use Rattle.order_file.proofs.Stands.{length-parts}
 use Rattle.order_file.specs.Table.{rowWidth, tableSize, entryBias, tableBias, noOrder, gapOfEntry, gapAt, startIn}
 use Rattle.order_file.specs.Held.{entered, windowIn, entryBytes, orderIn, linkIn, NoneBeyond, OrdersPut}
 

@@ -8,12 +8,12 @@ use native.Mathlib.Omega.{arith}
 use lib.ListN.{length, getD}
 use Rattle.laws.specs.Listed.{concatenate}
 use Rattle.little_endian.specs.Bytes.{u16Values, u32Values, u16At, u32At, biasedAt, u16Bytes, u32Bytes}
+use Rattle.little_endian.proofs.Stands.{Stands, stands-behind, stands-longer, stands-within, stands-part, length-parts, stands-u16, stands-u32}
 use Rattle.order_file.specs.Contents.{Contents, lastLink, initialState}
 use Rattle.order_file.specs.Layout.{windowsAt, windowAt, ordersAt, orderAt, linksAt, linkAt, gapRead, contentsOf}
 use Rattle.order_file.specs.Encode.{headerBytes, windowBytes, orderBytes, linkBytes, gapBits, upToWindow, upToOrder, upToLink, encode}
 use Rattle.order_file.specs.Within.{Within}
 use Rattle.order_file.specs.Agree.{Agree}
-use Rattle.order_file.proofs.Stands.{Stands, stands-behind, stands-longer, stands-within, stands-part, length-parts, stands-u16, stands-u32}
 use Rattle.order_file.proofs.Encode.{length-header, length-window, length-order, length-link, length-up-to-window, length-up-to-order}
 
 -- the bytes of a number give the number

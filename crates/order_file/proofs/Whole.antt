@@ -7,6 +7,7 @@ use native.Mathlib.Omega.{arith}
 use lib.ListN.{length, length-append}
 use lib.Seq.{sets}
 use Rattle.little_endian.proofs.Sets.{sets-behind, sets-first}
+use Rattle.little_endian.proofs.Stands.{length-parts}
 use Rattle.laws.specs.Listed.{concatenate}
 use Rattle.laws.specs.Nth.{count}
 use Rattle.laws.proofs.Search.{contrary}
@@ -16,7 +17,6 @@ use Rattle.order_file.specs.Contents.{Contents}
 use Rattle.order_file.specs.Layout.{windowsAt, ordersAt, linksAt}
 use Rattle.order_file.specs.Table.{tableSize}
 use Rattle.order_file.specs.Encode.{headerWith, headerBytes, windowBytes, orderBytes, linkBytes, upToWindow, upToOrder, upToLink, encode}
-use Rattle.order_file.proofs.Stands.{length-parts}
 use Rattle.order_file.proofs.Encode.{length-header-with, length-encode}
 use Rattle.order_file.specs.Held.{entered, heldIn, windowIn, entryBytes, orderIn, linkIn, over, Roomy}
 use Rattle.order_file.proofs.Put.{length-window, length-order}
