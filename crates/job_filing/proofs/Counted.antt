@@ -86,11 +86,11 @@ low-fits m l h = record { fits = omega arith }
 
 -- where the test fails, each count is at most its highest
 pub each-low :
-    (facts levels goals : ℕ) (t : Totals) → high facts levels t goals ≡ false
+    {b : Bool} (facts levels goals : ℕ) (t : Totals) → b ≡ high facts levels t goals → b ≡ false
     → (facts ≤ mostFacts) × (levels ≤ mostLevels) × (t .conditions ≤ mostConditions) × (t .effects ≤ mostEffects) × (t .uses ≤ mostUses)
     × (goals ≤ mostGoals)
-each-low facts levels goals t e =
-    let g = or-both _ (ltb mostGoals goals) e in
+each-low facts levels goals t e h =
+    let g = or-both _ (ltb mostGoals goals) (sym e ∙ h) in
     let u = or-both _ (ltb mostUses (t .uses)) (g .0) in
     let f = or-both _ (ltb mostEffects (t .effects)) (u .0) in
     let c = or-both _ (ltb mostConditions (t .conditions)) (f .0) in
@@ -123,7 +123,10 @@ module _
     unfolding counted written
     filed-high out e h = record { answer = rw (test ∙ sym e ∙ h); buffer = refl }
 
-    module _ (low : high facts levels t goals ≡ false) where
+    module _ {b : Bool} (e : b ≡ high facts levels t goals) (h : b ≡ false) where
+      low : high facts levels t goals ≡ false
+      low = sym e ∙ h
+
       pub writable : (out : List ℕ) → longestJob ≤ length out → Writable said numbers plan acts (found facts levels (length plan / 3) t goals) out
       writable out r = record {
         walked = w;
@@ -133,15 +136,15 @@ module _
         room = r;
       }
 
-      module _ (n : ℕ) (before bytes : List ℕ) (e : n ≡ length (encode 1 job)) (f : bytes ≡ over (encode 1 job) before) where
+      module _ (n : ℕ) (before bytes : List ℕ) (i : n ≡ length (encode 1 job)) (f : bytes ≡ over (encode 1 job) before) where
         front-is : take n bytes ≡ encode 1 job
-        front-is = ap₂ take e f ∙ take-append-seam (encode 1 job) (drop (length (encode 1 job)) before)
+        front-is = ap₂ take i f ∙ take-append-seam (encode 1 job) (drop (length (encode 1 job)) before)
 
         pub front-long : n ≡ length (take n bytes)
-        front-long = e ∙ sym (ap length front-is)
+        front-long = i ∙ sym (ap length front-is)
 
         pub front-within : n ≤ length bytes
-        front-within = omega (arith, e, ap length f, length-append (encode 1 job) (drop (length (encode 1 job)) before))
+        front-within = omega (arith, i, ap length f, length-append (encode 1 job) (drop (length (encode 1 job)) before))
 
         pub front-short : length (take n bytes) ≤ longestJob
         front-short = omega (arith, ap length front-is, whole-fits facts levels said numbers plan acts (test ∙ low))

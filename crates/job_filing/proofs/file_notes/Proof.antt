@@ -1,6 +1,5 @@
 -- Too many records, or the job's bytes checked.
 use Prim.Native.Nat.{ℕ}
-use mathlib.Core.Path.{sym, _∙_}
 use native.Mathlib.Omega.{arith}
 use borrow.Author.Needs.{needs}
 use lib.ListN.{length-replicate}
@@ -24,71 +23,66 @@ file-notes-spec =
     let e = c .before in
     let names = e .before .before .before .before .before .before .before .before .before .args .names in
     let counts = each-low (names .facts) (names .levels) (e .before .before .count-goals .result) (e .before .before .before .count-records .result) in
-    low-fits 256 (counts (sym (e .before .too-many .ensures) ∙ e .if1 .left) .0) (omega arith))
+    low-fits 256 (counts (e .before .too-many .ensures) (e .if1 .left) .0) (omega arith))
     (λ c.
     let e = c .before .before in
     let names = e .before .before .before .before .before .before .before .before .before .args .names in
     let counts = each-low (names .facts) (names .levels) (e .before .before .count-goals .result) (e .before .before .before .count-records .result) in
-    low-fits 16 (counts (sym (e .before .too-many .ensures) ∙ e .if1 .left) .1) (omega arith))
+    low-fits 16 (counts (e .before .too-many .ensures) (e .if1 .left) .1) (omega arith))
     (λ c. search needs)
     (λ c.
     let e = c .before .before .before in
     let names = e .before .before .before .before .before .before .before .before .before .args .names in
     let counts = each-low (names .facts) (names .levels) (e .before .before .count-goals .result) (e .before .before .before .count-records .result) in
-    low-fits 512 (counts (sym (e .before .too-many .ensures) ∙ e .if1 .left) .2) (omega arith))
+    low-fits 512 (counts (e .before .too-many .ensures) (e .if1 .left) .2) (omega arith))
     (λ c.
     let e = c .before .before .before .before in
     let names = e .before .before .before .before .before .before .before .before .before .args .names in
     let counts = each-low (names .facts) (names .levels) (e .before .before .count-goals .result) (e .before .before .before .count-records .result) in
-    low-fits 512 (counts (sym (e .before .too-many .ensures) ∙ e .if1 .left) .3) (omega arith))
+    low-fits 512 (counts (e .before .too-many .ensures) (e .if1 .left) .3) (omega arith))
     (λ c.
     let e = c .before .before .before .before .before in
     let names = e .before .before .before .before .before .before .before .before .before .args .names in
     let counts = each-low (names .facts) (names .levels) (e .before .before .count-goals .result) (e .before .before .before .count-records .result) in
-    low-fits 256 (counts (sym (e .before .too-many .ensures) ∙ e .if1 .left) .4) (omega arith))
+    low-fits 256 (counts (e .before .too-many .ensures) (e .if1 .left) .4) (omega arith))
     (λ c.
     let e = c .before .before .before .before .before in
     let names = e .before .before .before .before .before .before .before .before .before .args .names in
     let counts = each-low (names .facts) (names .levels) (e .before .before .count-goals .result) (e .before .before .before .count-records .result) in
-    low-fits 32 (counts (sym (e .before .too-many .ensures) ∙ e .if1 .left) .5) (omega arith))
+    low-fits 32 (counts (e .before .too-many .ensures) (e .if1 .left) .5) (omega arith))
     (λ c. search needs)
     (λ c κs.
     let e = c .before .before .before .before .before .before in
     let p = e .before .before .before .before .before .before .before .before .before .pre in
     let records = e .before .before .before .count-records .ensures in
     let goals = e .before .before .count-goals .ensures in
-    let low = sym (e .before .too-many .ensures) ∙ e .if1 .left in
-    writable _ _ _ _ _ _ _ _ (p .0) (p .1) records goals low _ (omega (arith, length-replicate {A = ℕ} 16752 0)))
+    writable _ _ _ _ _ _ _ _ (p .0) (p .1) records goals (e .before .too-many .ensures) (e .if1 .left) _ (omega (arith, length-replicate {A = ℕ} 16752 0)))
     (λ c.
     let e = c .before .before .before .before .before .before .before .before in
     let p = e .before .before .before .before .before .before .before .before .before .pre in
     let records = e .before .before .before .count-records .ensures in
     let goals = e .before .before .count-goals .ensures in
-    let low = sym (e .before .too-many .ensures) ∙ e .if1 .left in
     let w = c .before .write-job .ensures in
-    front-within _ _ _ _ _ _ _ _ (p .0) (p .1) records goals low _ _ _ (w .0) (w .1))
+    front-within _ _ _ _ _ _ _ _ (p .0) (p .1) records goals (e .before .too-many .ensures) (e .if1 .left) _ _ _ (w .0) (w .1))
     (λ c.
     let e = c .before .before .before .before .before .before .before .before .before in
     let p = e .before .before .before .before .before .before .before .before .before .pre in
     let records = e .before .before .before .count-records .ensures in
     let goals = e .before .before .count-goals .ensures in
-    let low = sym (e .before .too-many .ensures) ∙ e .if1 .left in
     let w = c .before .before .write-job .ensures in
-    front-long _ _ _ _ _ _ _ _ (p .0) (p .1) records goals low _ _ _ (w .0) (w .1))
+    front-long _ _ _ _ _ _ _ _ (p .0) (p .1) records goals (e .before .too-many .ensures) (e .if1 .left) _ _ _ (w .0) (w .1))
     (λ c κs.
     let e = c .before .before .before .before .before .before .before .before .before .before in
     let p = e .before .before .before .before .before .before .before .before .before .pre in
     let records = e .before .before .before .count-records .ensures in
     let goals = e .before .before .count-goals .ensures in
-    let low = sym (e .before .too-many .ensures) ∙ e .if1 .left in
     let w = c .before .before .before .write-job .ensures in
-    front-short _ _ _ _ _ _ _ _ (p .0) (p .1) records goals low _ _ _ (w .0) (w .1))
+    front-short _ _ _ _ _ _ _ _ (p .0) (p .1) records goals (e .before .too-many .ensures) (e .if1 .left) _ _ _ (w .0) (w .1))
     (λ c. search needs)
     (λ c.
     let e = c .before .before .before .before .before .before .before .before .before .before .before .before .before in
     let p = e .before .before .before .before .before .before .before .before .before .pre in
     let records = e .before .before .before .count-records .ensures in
     let goals = e .before .before .count-goals .ensures in
-    let low = sym (e .before .too-many .ensures) ∙ e .if1 .left in
     let w = c .before .before .before .before .before .before .write-job .ensures in
-    filed-checked _ _ _ _ _ _ _ _ (p .0) (p .1) records goals low _ _ _ (w .0) (w .1) (c .before .before .file-checked .ensures)))
+    filed-checked _ _ _ _ _ _ _ _ (p .0) (p .1) records goals (e .before .too-many .ensures) (e .if1 .left) _ _ _ (w .0) (w .1) (c .before .before .file-checked .ensures)))
