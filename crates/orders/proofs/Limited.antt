@@ -157,7 +157,7 @@ module _ (m : Model) (x : ℕ → ℕ) (w : WellFormed m) (v : Valid (clocked m)
   after-gap k point T b (supportedAfter c j o f) =
       let h = o .known .0 in
       let q : conditionLink M x c ≡ m .effects + j =
-      linked-once M x _ _ _ (conditionLink M x c) (m .effects + j) (condition-supported M x form v c h) (o .linked)
+      linked-once M x _ _ _ _ (conditionLink M x c) (m .effects + j) (condition-supported M x form v c h) (o .linked)
       in
       let g =
       support-ge M x n k c h (λ (z : conditionLink M x c ≡ initialState). omega (arith, q, w .effectCount, w .timedCount, o .known .1))
@@ -179,7 +179,7 @@ module _ (m : Model) (x : ℕ → ℕ) (w : WellFormed m) (v : Valid (clocked m)
       by-link c l i s t =
           let e = conditionLink M x c in
           let p = condition-supported M x form v c l in
-          let known : e < M .effects = ⊎-elim (λ (q : e < M .effects). q) (λ (q : e ≡ initialState). absurd (i q)) (link-known M x _ _ _ e p) in
+          let known : e < M .effects = ⊎-elim (λ (q : e < M .effects). q) (λ (q : e ≡ initialState). absurd (i q)) (link-known M x _ _ _ _ e p) in
           let z = of-clock e known s in
           let j = z .0 in
           let o : ConditionTimed m x k (m .timedTick j) c j =
@@ -308,7 +308,7 @@ module _ (m : Model) (x : ℕ → ℕ) (w : WellFormed m) (v : Valid (clocked m)
       let e = goalLink M x g in
       let p = goal-supported M x form v g l in
       let known : e < M .effects =
-      ⊎-elim (λ (q : e < M .effects). q) (λ (q : e ≡ initialState). absurd (eqb-false _ _ (not-true _ (c .1)) q)) (link-known M x _ _ _ e p)
+      ⊎-elim (λ (q : e < M .effects). q) (λ (q : e ≡ initialState). absurd (eqb-false _ _ (not-true _ (c .1)) q)) (link-known M x _ _ _ _ e p)
       in
       let r = of-step e k known b (eqb-true _ _ (a .1)) in
       let due : GoalDue m x k (m .effectAt e) g e =
@@ -328,7 +328,7 @@ module _ (m : Model) (x : ℕ → ℕ) (w : WellFormed m) (v : Valid (clocked m)
       (k point g e : ℕ) → k < n → (m .fixed k ≡ 1 → ⊥) → GoalDue m x k point g e → latestOf M x k + point ≤ m .goalDeadline g
   limited-due k point g e b f o =
       let h = o .known .1 in
-      let q : goalLink M x g ≡ e = linked-once M x _ _ _ (goalLink M x g) e (goal-supported M x form v g (o .known .0)) (o .linked) in
+      let q : goalLink M x g ≡ e = linked-once M x _ _ _ _ (goalLink M x g) e (goal-supported M x form v g (o .known .0)) (o .linked) in
       let i : goalLink M x g ≡ initialState → ⊥ = λ z. omega (arith, q, z, h, w .effectCount) in
       let s : M .effectStep (goalLink M x g) ≡ k = ap (M .effectStep) q ∙ own-step e h ∙ o .ofStep in
       let a : M .effectAt (goalLink M x g) ≡ point = ap (M .effectAt) q ∙ own-at e h ∙ o .at in

@@ -14,7 +14,7 @@ use Rattle.validity.specs.Valid.{Valid}
 use Rattle.validity.proofs.Seen.{Giver, LaterGiver, lastGiven-ge, seen-other, seen-why-apart}
 use Rattle.order_file.specs.Contents.{initialState}
 use Rattle.orders.specs.Links.{goalLink}
-use Rattle.orders.specs.Supporter.{byInitialState, byEffect, GoalLinkedTo}
+use Rattle.orders.specs.Supporter.{TieTo, byInitialState, byEffect, GoalLinkedTo}
 use Rattle.orders.proofs.Supporter.{giver-gives, opposes-giver, apart, goal-supported}
 
 module _ (m : Model) (x : ℕ → ℕ) (w : ClockedForm m) (s : Valid m x) where
@@ -52,7 +52,7 @@ module _ (m : Model) (x : ℕ → ℕ) (w : ClockedForm m) (s : Valid m x) where
           (λ (e : LaterGiver m x fact v t).
           ⊎-elim
           (λ (l : effectTick m x (goalLink m x g) < effectTick m x (e .0)). omega (arith, e .2))
-          (λ (l : (effectTick m x (goalLink m x g) ≡ effectTick m x (e .0)) × (goalLink m x g ≤ e .0)). omega (arith, l .0, e .2))
+          (λ (l : (effectTick m x (goalLink m x g) ≡ effectTick m x (e .0)) × TieTo (λ f. ⊥) (goalLink m x g) (e .0)). omega (arith, l .0, e .2))
           (p .earliest (e .0)
           (record {
             known = e .1 .known;

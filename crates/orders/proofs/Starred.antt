@@ -1,4 +1,4 @@
--- The starred table, and that of timed facts, by computing. To find each order by its number takes a search among 4,096 pairs of steps, itself with counting at
+-- The starred table, and those of timed facts and of ties, by computing. To find each order by its number takes a search among 4,096 pairs of steps, itself with counting at
 -- each pair. So the orders are first proved to be the pairs that pass, listed in one pass that looks at the gaps of counted steps only.
 use Prim.Native.Nat.{ℕ, zero, suc, _+_, _/_, _%_, _<_}
 use mathlib.Core.Path.{_≡_, refl, sym, ap, ap₂, _∙_, fun-ext}
@@ -35,7 +35,7 @@ use Rattle.validity.specs.Seen.{givenAt, lastGiven, seen, afterAll}
 use Rattle.validity.specs.Levels.{risesBefore, fallsBefore}
 use Rattle.validity.specs.Checks.{meets, conflicts, breaks, conditionFails, passes, levelFails, undoes, late, goalFails, overlaps, crowded, ruleCheck}
 use Rattle.validity.specs.Checks.{timingCheck, jobCheck}
-use Rattle.orders.specs.Links.{producer, earliestProduced, supporter, linkOf, conditionLink, goalLink, nthLink}
+use Rattle.orders.specs.Links.{producer, earliestProduced, tied, favours, supporter, linkOf, conditionLink, goalLink, nthLink}
 use Rattle.orders.specs.Gaps.{supportOrder, supportGap, opposingOrder, opposingGap, beforeOrder, afterOrder, conditionGap, levelOrder, levelGap}
 use Rattle.orders.specs.Gaps.{serialGap, gapOf}
 use Rattle.orders.specs.Windows.{clockGap, clockLimit, limitOf, clockLatest, allowed, latestOf}
@@ -44,7 +44,8 @@ use Rattle.orders.specs.File.{linkNumber, ordered, fileWith, fileOf}
 use Rattle.orders.specs.Starred.{fact, level, step, condition, effect, usage, goal, timedFact, joined, offsets, timedTable, tablesOf}
 use Rattle.orders.specs.Starred.{editionOf, jobBytes, Window, window, Order, order}
 use Rattle.orders.specs.Starred.{contentsWith, Expected, refused, accepted, Answers, Case, AllAnswer}
-use Rattle.orders.specs.Starred.{small, nothing, levelled, serially, starred, withTimed, tied, timedCases}
+use Rattle.orders.specs.Starred.{small, nothing, levelled, serially, starred, withTimed, givenWithClock, timedCases}
+use Rattle.orders.specs.Ties.{givenAtFive, wants, givesOwn, givesOther, givesClock, free, tieCases}
 use Rattle.order_file.specs.Contents.{Contents}
 use Rattle.order_file.specs.Agree.{Agree}
 use Rattle.order_file.specs.Table.{rowWidth, tableSize}
@@ -215,7 +216,7 @@ unfolding AllAnswerBy AnswersBy starred small nothing levelled serially jobBytes
     opposesOwn setBefore usedBefore opposesAny bothWaysStep usesTwiceStep opposesOwnStep headerCheck tableCheck recordCheck
     againstStep stepCheck timedBothWays timedConflicts timedCheck formCheck givenAt lastGiven seen afterAll risesBefore fallsBefore meets
     conflicts breaks conditionFails passes levelFails undoes late goalFails overlaps crowded ruleCheck timingCheck jobCheck producer earliestProduced
-    supporter linkOf conditionLink goalLink supportOrder supportGap opposingOrder opposingGap beforeOrder afterOrder
+    tied favours supporter linkOf conditionLink goalLink supportOrder supportGap opposingOrder opposingGap beforeOrder afterOrder
     conditionGap levelOrder levelGap serialGap gapOf clockGap clockLimit limitOf clockLatest allowed latestOf demand raised after unchanged rounds earliest
 starred-computed =
     (refl, refl, refl, refl, refl)
@@ -237,14 +238,14 @@ pub starred-answers : AllAnswer starred
 starred-answers = all-answer-by starred starred-computed
 
 timed-computed : AllAnswerBy timedCases
-unfolding AllAnswerBy AnswersBy timedCases withTimed tied jobBytes timedTable tablesOf editionOf joined offsets fact level step condition effect
+unfolding AllAnswerBy AnswersBy timedCases withTimed givenWithClock jobBytes timedTable tablesOf editionOf joined offsets fact level step condition effect
     usage goal timedFact u16Bytes u32Bytes listed windowOf ordersOf orderAt orderedPair orderedIf passing extend fileWith fileOf linkNumber nthLink u16At
     u32At biasedAt largest least sum tabulate any all lowest lowestOwner headerWidth countsOf tableAt positionsOf jobOf countTooHigh
     editionKnown marksWrong layoutAgrees _then_ refuseIf refuseLowest factOk levelOk stepOk conditionOk effectOk useOk goalOk timedOk bothWays usesTwice
     opposesOwn setBefore usedBefore opposesAny bothWaysStep usesTwiceStep opposesOwnStep headerCheck tableCheck recordCheck
     againstStep stepCheck timedBothWays timedConflicts timedCheck formCheck givenAt lastGiven seen afterAll risesBefore fallsBefore meets
     conflicts breaks conditionFails passes levelFails undoes late goalFails overlaps crowded ruleCheck timingCheck jobCheck producer earliestProduced
-    supporter linkOf conditionLink goalLink supportOrder supportGap opposingOrder opposingGap beforeOrder afterOrder
+    tied favours supporter linkOf conditionLink goalLink supportOrder supportGap opposingOrder opposingGap beforeOrder afterOrder
     conditionGap levelOrder levelGap serialGap gapOf clockGap clockLimit limitOf clockLatest allowed latestOf demand raised after unchanged rounds earliest
 timed-computed =
     (refl, refl, refl, refl, refl)
@@ -266,3 +267,27 @@ timed-computed =
 -- and that of timed facts
 pub timed-answers : AllAnswer timedCases
 timed-answers = all-answer-by timedCases timed-computed
+
+tie-computed : AllAnswerBy tieCases
+unfolding AllAnswerBy AnswersBy tieCases givenAtFive wants givesOwn givesOther givesClock free jobBytes timedTable tablesOf editionOf joined offsets fact level step condition effect
+    usage goal timedFact u16Bytes u32Bytes listed windowOf ordersOf orderAt orderedPair orderedIf passing extend fileWith fileOf linkNumber nthLink u16At
+    u32At biasedAt largest least sum tabulate any all lowest lowestOwner headerWidth countsOf tableAt positionsOf jobOf countTooHigh
+    editionKnown marksWrong layoutAgrees _then_ refuseIf refuseLowest factOk levelOk stepOk conditionOk effectOk useOk goalOk timedOk bothWays usesTwice
+    opposesOwn setBefore usedBefore opposesAny bothWaysStep usesTwiceStep opposesOwnStep headerCheck tableCheck recordCheck
+    againstStep stepCheck timedBothWays timedConflicts timedCheck formCheck givenAt lastGiven seen afterAll risesBefore fallsBefore meets
+    conflicts breaks conditionFails passes levelFails undoes late goalFails overlaps crowded ruleCheck timingCheck jobCheck producer earliestProduced
+    tied favours supporter linkOf conditionLink goalLink supportOrder supportGap opposingOrder opposingGap beforeOrder afterOrder
+    conditionGap levelOrder levelGap serialGap gapOf clockGap clockLimit limitOf clockLatest allowed latestOf demand raised after unchanged rounds earliest
+tie-computed =
+    (refl, refl, refl, refl, refl)
+    also (refl, refl, refl, refl, refl)
+    also (refl, refl, refl, refl, refl)
+    also (refl, refl, refl, refl, refl)
+    also (refl, refl, refl, refl, refl)
+    also (refl, refl, refl, refl, refl)
+    also (refl, refl, refl, refl, refl)
+    also tt
+
+-- and that of ties
+pub tie-answers : AllAnswer tieCases
+tie-answers = all-answer-by tieCases tie-computed

@@ -67,10 +67,10 @@ near x i k j n p q c h g =
 
 -- a link is an effect's number, or stands for the initial state
 pub link-known :
-    (m : Model) (x : ℕ → ℕ) (fact v : ℕ) (before : ℕ → Type 0) (link : ℕ) → LinkedTo m x fact v before link
+    (m : Model) (x : ℕ → ℕ) (fact v : ℕ) (before own : ℕ → Type 0) (link : ℕ) → LinkedTo m x fact v before own link
     → (link < m .effects) ⊎ (link ≡ initialState)
-link-known m x fact v before link (byInitialState z i) = inr z
-link-known m x fact v before link (byEffect n p) = inl (p .candidate .known)
+link-known m x fact v before own link (byInitialState z i) = inr z
+link-known m x fact v before own link (byEffect n p) = inl (p .candidate .known)
 
 module _ (m : Model) (x : ℕ → ℕ) (w : ClockedForm m) (s : Valid m x) where
   -- of two steps, not of the clock
@@ -91,7 +91,7 @@ module _ (m : Model) (x : ℕ → ℕ) (w : ClockedForm m) (s : Valid m x) where
           ⊎-elim
               (λ (r : e < m .effects). own-near e i r h (eqb-true _ _ (b .1)))
               (λ (z : e ≡ initialState). absurd (n z))
-              (link-known m x _ _ _ e (condition-supported m x w s c l)),
+              (link-known m x _ _ _ _ e (condition-supported m x w s c l)),
           from-near m w c l,
         )))
 
@@ -180,10 +180,10 @@ pub nth-known :
 unfolding nthLink
 nth-known m x w s j h =
     elim (decLt j (m .conditions)) [
-      | yes l ↦ rw (lt-ltb _ _ l) (link-known m x _ _ _ _ (condition-supported m x w s j l))
+      | yes l ↦ rw (lt-ltb _ _ l) (link-known m x _ _ _ _ _ (condition-supported m x w s j l))
       | no l ↦
           rw (le-ltb j (m .conditions) (omega arith))
-          (link-known m x _ _ _ _ (goal-supported m x w s (j - m .conditions) (omega arith)))
+          (link-known m x _ _ _ _ _ (goal-supported m x w s (j - m .conditions) (omega arith)))
     ]
 
 -- of a schedule within the range of starts

@@ -1,6 +1,6 @@
 -- Orders from a sound job, rule 1: the link of a condition or goal is its supporter. x is the schedule by whose ticks it is found.
 use Prim.Native.Nat.{ℕ, _-_}
-use mathlib.Core.Bool.{Bool, _&&_, cond}
+use mathlib.Core.Bool.{Bool, false, _&&_, cond}
 use lib.Dec.{ltb, leb, eqb}
 use Rattle.laws.specs.Search.{lowest}
 use Rattle.laws.specs.Fold.{least}
@@ -26,24 +26,38 @@ unfoldable pub earliestProduced : Model → (ℕ → ℕ) → ℕ → ℕ → �
 earliestProduced m x fact value t =
     least (m .effects) (afterAll m x) (λ e. cond (producer m x fact value t e) (effectTick m x e) (afterAll m x))
 
--- "ties go to the lower effect number"
-unfoldable pub supporter : Model → (ℕ → ℕ) → ℕ → ℕ → ℕ → ℕ
-supporter m x fact value t =
-    lowest (m .effects)
-    (λ e. producer m x fact value t e && eqb (effectTick m x e) (earliestProduced m x fact value t))
+-- an earliest producer
+unfoldable pub tied : Model → (ℕ → ℕ) → ℕ → ℕ → ℕ → ℕ → Bool
+tied m x fact value t e = producer m x fact value t e && eqb (effectTick m x e) (earliestProduced m x fact value t)
+
+-- whom a tie goes to first: a step or, as for goals, nobody
+pub data Favoured : Type 0 where
+  nobody : Favoured
+  theStep : ℕ → Favoured
+
+unfoldable pub favours : Model → Favoured → ℕ → Bool
+favours m nobody e = false
+favours m (theStep k) e = eqb (m .effectStep e) k
+
+-- "A condition's tie now goes first to the condition's own step, then to the lower effect number, then to a timed fact": these have the
+-- numbers after all effects
+unfoldable pub supporter : Model → (ℕ → ℕ) → Favoured → ℕ → ℕ → ℕ → ℕ
+supporter m x own fact value t =
+    let first = lowest (m .effects) (λ e. tied m x fact value t e && favours m own e) in
+    cond (ltb first (m .effects)) first (lowest (m .effects) (tied m x fact value t))
 
 -- "With no opposing effect before, and the initial value as wanted, the initial state supports"
-unfoldable pub linkOf : Model → (ℕ → ℕ) → ℕ → ℕ → ℕ → ℕ
-linkOf m x fact value t =
-    cond (eqb (lastOpposing m x fact value t) 0 && eqb (m .initial fact) value) initialState (supporter m x fact value t)
+unfoldable pub linkOf : Model → (ℕ → ℕ) → Favoured → ℕ → ℕ → ℕ → ℕ
+linkOf m x own fact value t =
+    cond (eqb (lastOpposing m x fact value t) 0 && eqb (m .initial fact) value) initialState (supporter m x own fact value t)
 
 -- the link of a condition: before its first tick
 unfoldable pub conditionLink : Model → (ℕ → ℕ) → ℕ → ℕ
-conditionLink m x c = linkOf m x (m .conditionFact c) (m .conditionValue c) (firstTick m x c)
+conditionLink m x c = linkOf m x (theStep (m .conditionStep c)) (m .conditionFact c) (m .conditionValue c) (firstTick m x c)
 
--- the link of a goal: of all effects
+-- the link of a goal: of all effects. "Goals keep the old tie"
 unfoldable pub goalLink : Model → (ℕ → ℕ) → ℕ → ℕ
-goalLink m x g = linkOf m x (m .goalFact g) (m .goalValue g) (afterAll m x)
+goalLink m x g = linkOf m x nobody (m .goalFact g) (m .goalValue g) (afterAll m x)
 
 -- "one for each condition, then each goal": all links in one list
 unfoldable pub nthLink : Model → (ℕ → ℕ) → ℕ → ℕ

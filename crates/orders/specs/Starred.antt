@@ -269,8 +269,8 @@ withTimed fixed conditions effects goals timed =
     })
 
 -- two steps, of which the first gives fact 1 at tick 7, at which the clock gives it as well, and the second wants it
-unfoldable pub tied : List ℕ
-tied =
+unfoldable pub givenWithClock : List ℕ
+givenWithClock =
     jobBytes
     (record {
       serial = 0;
@@ -294,7 +294,7 @@ timedCases =
     }
     -- "A tie goes to a step's effect"
     ∷ record {
-      job = tied;
+      job = givenWithClock;
       expected = accepted 2 (window 0 noLatest 0 ∷ window 0 noLatest 6 ∷ []) (order 0 1 (plus 6) ∷ []) (0 ∷ []);
     }
     -- "then to the lower timed fact"
