@@ -11,86 +11,111 @@ use lib.ListN.{length, getD, set}
 use Rattle.job.specs.Model.{Model}
 use Rattle.job.specs.Clocked.{ClockedForm}
 use Rattle.timeline.specs.declared.walk.Cursor.{Cursor}
-use Rattle.timeline.specs.Words.{numberAt, tickAt, valueAt}
+use Rattle.timeline.specs.Words.{stepSpan, stepAt, numberAt, tickAt, valueAt}
 use Rattle.timeline.specs.Placed.{Parted, Run}
 use Rattle.timeline.proofs.Walking.{run-none}
-use Rattle.points.specs.Points.{Wanting, wantedGroup}
+use Rattle.points.specs.Points.{PointsKnown, Wanting, wantedGroup}
 use Rattle.orders.specs.Links.{nthLink}
-use Rattle.links.specs.Linkable.{Linkable, LinksFound}
-use Rattle.links.specs.Linking.{runLink, LinkIs, LinksPut, Below, FromTo, Linking}
-use Rattle.links.proofs.Supported.{condition-some, condition-is}
-use Rattle.links.proofs.Putting.{put-none, put-one, put-then, put-as, put-filled, links-room}
+use Rattle.links.specs.Linkable.{LinksFound}
+use Rattle.links.specs.Linking.{runLink, LinkIs, LinksPut, Below, FromTo, Beside, Linking}
+use Rattle.links.specs.declared.tie.Tie.{Tie}
+use Rattle.links.specs.Tied.{TieAt, OwnPlace}
+use Rattle.links.proofs.Tied.{tie-empty}
+use Rattle.links.proofs.Supported.{TakenAt, taken-own, condition-some, condition-is}
+use Rattle.links.proofs.Putting.{put-none, put-one, put-then, put-as, put-filled, links-size, links-room}
 
 -- Along the conditions of fact f.
-module _ {m : Model} {points begins before : List ℕ} (f : ℕ) {low high end : ℕ} where
+module _ {points begins before : List ℕ} (f : ℕ) {initial low high first end : ℕ} where
   pub linking-start :
-      {p : ℕ} → Linkable m points begins before → f < m .facts → low ≡ getD begins f 0 → high ≡ getD begins (f + 1) 0
-      → end ≡ getD begins (wantedGroup m f + 1) 0
-      → p ≡ getD begins (wantedGroup m f) 0
-      → Linking m points begins f low high end p (record { place = low; run = low }) before before
-  linking-start {p} can h begin next last at =
-      let group = can .some .1 .setters f h in
+      {m : Model} {firsts : List ℕ} → Beside m points begins f initial low high first end before → length firsts ≡ stepSpan
+      → Linking points begins f initial low high first end first (record { place = low; run = low }) (record { from = low; end = low }) firsts
+      before before
+  linking-start {m} beside size =
+      let known = beside .can .some .1 in
+      let group = known .setters f (beside .fact) in
       record {
-        can = can;
-        fact = h;
-        begin = begin;
-        next = next;
-        last = last;
+        some = (m, beside);
         from = omega arith;
-        to = omega (arith, can .some .1 .wanted f h .begins);
+        to = omega (arith, beside .wanted, beside .last, known .wanted f (beside .fact) .begins);
         walking = λ _.
             record {
-              ends = rw next (group .ends);
-              rises = rw (begin, next) (group .rises);
+              ends = rw (beside .next .0) (group .ends);
+              rises = rw (beside .begin, beside .next .0) (group .rises);
               from = omega arith;
-              to = omega (arith, group .begins);
+              to = omega (arith, beside .begin, beside .next .0, group .begins);
               before = λ q l i. absurd (omega arith);
               run = run-none (omega arith) (omega arith) refl;
             };
-        put = λ x known valid. put-none before (λ k q. let from = q .1 in let to = q .2 in omega arith);
+        tied = tie-empty size (omega (arith, beside .begin, group .begins, group .ends));
+        put = λ n _ x known valid. put-none before (λ k q. let from = q .1 in let to = q .2 in omega arith);
       }
 
-  module _ {p : ℕ} {cursor : Cursor} {list : List ℕ} (so : Linking m points begins f low high end p cursor before list) where
+  module _ {p : ℕ} {cursor : Cursor} {tie : Tie} {firsts list : List ℕ}
+      (so : Linking points begins f initial low high first end p cursor tie firsts before list) where
     -- at one more condition: what is known of it, and that there is room for its link
     module _ (l : p < end) where
-      within : p < getD begins (wantedGroup m f + 1) 0
-      within = omega (arith, so .last)
-
       pub linking-there : p < length points
-      linking-there = omega (arith, so .can .some .1 .wanted f (so .fact) .ends, within)
+      linking-there =
+          let beside = so .some .1 in omega (arith, beside .last, beside .can .some .1 .wanted f (beside .fact) .ends)
 
       pub linking-room : numberAt points p < length list
       linking-room =
-          omega (arith, so .can .some .1 .wanted f (so .fact) .holds p (so .from) within .0, links-room (so .can) (so .put) .room)
+          let beside = so .some .1 in
+          let from : first ≤ p = so .from in
+          let is = beside .can .some .1 .wanted f (beside .fact) .holds p (omega (arith, beside .wanted)) (omega (arith, beside .last)) in
+          omega (arith, is .0, links-room (beside .can) (so .put (so .some .0) beside) .room)
 
-      module _ {t value place run : ℕ} (tick : t ≡ tickAt points p) (is : value ≡ valueAt points p) (parts : Parted points low high t place)
-          (ran : Run points low place run) where
-        parted : Parted points (getD begins f 0) (getD begins (f + 1) 0) (tickAt points p) place
-        parted = rw (so .begin, so .next, tick) at parts
+      module _ {t value step place run at : ℕ} {found : Tie} {noted : List ℕ} (tick : t ≡ tickAt points p) (is : value ≡ valueAt points p)
+          (parts : Parted points low high t place) (ran : Run points low place run) (own : step ≡ stepAt points p)
+          (tied : TieAt points high run found noted) (goes : OwnPlace points (found .from) (found .end) step at) where
+        -- what a job says of it whose points these are
+        module _ {m : Model} (beside : Beside m points begins f initial low high first end before) where
+          from : getD begins (wantedGroup m f) 0 ≤ p
+          from = omega (arith, so .from, beside .wanted)
 
-        pub linking-some : (eqb run low && eqb (m .initial f) value) ≡ false → run < length points
-        linking-some q =
-            let x = so .can .some in
-            omega (
-              arith,
-              condition-some (x .1) (so .can .form) (x .2) f p (so .fact) (so .from) within parted (rw (so .begin) at ran)
-                  (rw (so .begin, is) at q),
-              x .1 .setters f (so .fact) .ends,
-            )
+          within : p < getD begins (wantedGroup m f + 1) 0
+          within = omega (arith, beside .last)
+
+          parted : Parted points (getD begins f 0) (getD begins (f + 1) 0) (tickAt points p) place
+          parted = rw (beside .begin, beside .next .0, tick) at parts
+
+          takes :
+              {x : ℕ → ℕ} → PointsKnown m x points begins → run < getD begins (f + 1) 0
+              → TakenAt points (λ e. m .effectStep e ≡ stepAt points p) (getD begins (f + 1) 0) run at
+          takes known some =
+              let whole = tied .known .whole (omega (arith, tied .begins, tied .some (omega (arith, beside .next .0)))) in
+              taken-own known f (beside .fact) (omega (arith, ran .from, beside .begin)) (rw (tied .begins, beside .next .0) at whole)
+              (rw (tied .begins, own) at goes)
+
+          some : (eqb run low && eqb initial value) ≡ false → at < length points
+          some q =
+              let x = beside .can .some in
+              omega (
+                arith,
+                condition-some (x .1) (beside .can .form) (x .2) f p (beside .fact) from within parted (rw (beside .begin) at ran) (takes (x .1))
+                    (rw (beside .begin, beside .initially, is) at q),
+                x .1 .setters f (beside .fact) .ends,
+              )
+
+          one : {link : ℕ} → link ≡ runLink points initial value low run at → LinkIs m points begins (numberAt points p) link
+          one linked x known valid =
+              (rw (beside .begin, beside .initially, is) at linked)
+              ∙ condition-is known (beside .can .form) valid f p (beside .fact) from within parted (rw (beside .begin) at ran) (takes known)
+
+          later : p + 1 < end → tickAt points p ≤ tickAt points (p + 1)
+          later i = beside .can .some .1 .wanted f (beside .fact) .rises p (p + 1) from (omega arith) (omega (arith, beside .last))
+
+        pub linking-some : (eqb run low && eqb initial value) ≡ false → at < length points
+        linking-some q = some (so .some .1) q
 
         pub linking-more :
-            {c link : ℕ} → c ≡ numberAt points p → link ≡ runLink m points f value low run
-            → Linking m points begins f low high end (p + 1) (record { place = place; run = run }) before (set list c link)
-        linking-more {c} {link} number found =
-            let from = so .from in
+            {c link : ℕ} → c ≡ numberAt points p → link ≡ runLink points initial value low run at
+            → Linking points begins f initial low high first end (p + 1) (record { place = place; run = run }) found noted before (set list c link)
+        linking-more {c} {link} number linked =
             let walking = so .walking l in
             record {
-              can = so .can;
-              fact = so .fact;
-              begin = so .begin;
-              next = so .next;
-              last = so .last;
-              from = omega arith;
+              some = so .some;
+              from = omega (arith, so .from);
               to = omega arith;
               walking = λ i.
                   record {
@@ -98,21 +123,15 @@ module _ {m : Model} {points begins before : List ℕ} (f : ℕ) {low high end :
                     rises = walking .rises;
                     from = parts .from;
                     to = parts .to;
-                    before = λ q j k.
-                        let early : tickAt points q < t = parts .before q j k in
-                        let up : tickAt points p ≤ tickAt points (p + 1) =
-                        so .can .some .1 .wanted f (so .fact) .rises p (p + 1) from (omega arith) (omega (arith, so .last)) in
-                        omega arith;
+                    before = λ q j k. omega (arith, parts .before q j k, later (so .some .1) i);
                     run = ran;
                   };
-              put = λ x known valid.
-                  put-then (so .put x known valid)
-                  (put-one list c link (rw number linking-room)
-                  ((rw (so .begin, is) at found)
-                  ∙ condition-is known (so .can .form) valid f p (so .fact) from within parted (rw (so .begin) at ran)
-                  ∙ ap (nthLink m x) (sym number)))
+              tied = tied .known;
+              put = λ m beside x known valid.
+                  put-then (so .put m beside x known valid)
+                  (put-one list c link (rw number linking-room) (one beside linked x known valid ∙ ap (nthLink m x) (sym number)))
                   (λ k q. (q .0, q .1, omega (arith, q .2), q .3))
-                  (λ k q. (p, from, omega arith, sym number ∙ sym q))
+                  (λ k q. (p, so .from, omega arith, sym number ∙ sym q))
                   (λ k q.
                   elim (ℕ-discrete k c) [
                     | yes e ↦ inl e
@@ -126,15 +145,20 @@ module _ {m : Model} {points begins before : List ℕ} (f : ℕ) {low high end :
                   ]);
             }
 
+    pub linking-size : length list ≡ length before
+    linking-size = links-size (so .some .1 .can) (so .put (so .some .0) (so .some .1))
+
     -- all conditions of the fact have been passed
-    pub linking-end : end ≤ p → LinksPut m points begins (Wanting m f) before list
-    linking-end l x known valid =
-        let group = known .wanted f (so .fact) in
-        put-as (so .put x known valid)
+    pub linking-end :
+        {m : Model} → Beside m points begins f initial low high first end before → end ≤ p
+        → LinksPut m points begins (Wanting m f) before list
+    linking-end {m} beside l x known valid =
+        let group = known .wanted f (beside .fact) in
+        put-as (so .put m beside x known valid)
         (λ k q.
-        let is = group .holds (q .0) (q .1) (omega (arith, q .2, so .to, so .last)) in
+        let is = group .holds (q .0) (omega (arith, q .1, beside .wanted)) (omega (arith, q .2, so .to, beside .last)) in
         (rw (q .3) at (is .0), ap (m .conditionFact) (sym (q .3)) ∙ is .1))
-        (λ k q. let at = group .found k q in (at .0, at .1, omega (arith, at .2, so .last), at .3))
+        (λ k q. let at = group .found k q in (at .0, omega (arith, at .1, beside .wanted), omega (arith, at .2, beside .last), at .3))
 
 module _ {m : Model} {points begins before : List ℕ} where
   -- Fact by fact.

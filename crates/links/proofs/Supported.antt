@@ -1,6 +1,7 @@
--- The link by the run of a value: what gives it after all that opposes it is, in the order of ticks, the run that ends where it is seen.
+-- The link by the run of a value: what gives it after all that opposes it is, in the order of ticks, the run that ends where it is seen, and
+-- the supporter is the point to which the tie goes with which the run begins.
 use Prim.Native.Nat.{ℕ, _+_, _-_, _≤_, _<_}
-use mathlib.Core.Path.{_≡_, sym, ap, ap₂, _∙_}
+use mathlib.Core.Path.{_≡_, refl, sym, ap, ap₂, subst, _∙_}
 use mathlib.Core.Bool.{true, false, _&&_, cond}
 use mathlib.Core.List.{List}
 use mathlib.Core.Logic.{⊎-elim}
@@ -9,11 +10,11 @@ use native.Mathlib.Omega.{arith}
 use borrow.Author.Tests.{leb-true, le-leb, eqb-true, eq-eqb, ne-eqb, lt-ltb, le-ltb}
 use lib.Dec.{eqb}
 use lib.ListN.{length, getD}
-use Rattle.laws.proofs.Search.{either, contrary, and-both, lowest-is}
+use Rattle.laws.proofs.Search.{either, contrary, and-both}
 use Rattle.laws.proofs.Fold.{least-le, least-ge}
 use Rattle.job.specs.Model.{Model}
 use Rattle.job.specs.Clocked.{ClockedForm}
-use Rattle.timeline.specs.Words.{numberAt, tickAt, valueAt}
+use Rattle.timeline.specs.Words.{stepAt, numberAt, tickAt, valueAt}
 use Rattle.timeline.specs.Placed.{Parted, Run}
 use Rattle.validity.specs.Ticks.{effectTick, firstTick}
 use Rattle.validity.specs.Seen.{seen, afterAll}
@@ -23,8 +24,90 @@ use Rattle.points.specs.Points.{PointsKnown, OneValue, wantedGroup}
 use Rattle.points.proofs.ClockedRange.{form-range}
 use Rattle.points.proofs.Placed.{valid-one-value, placed-giver, giver-placed, placed-apart, seen-first, seen-before}
 use Rattle.order_file.specs.Contents.{initialState}
-use Rattle.orders.specs.Links.{lastOpposing, producer, earliestProduced, supporter, linkOf, conditionLink, goalLink, nthLink}
+use Rattle.orders.specs.Links.{lastOpposing, producer, earliestProduced, tied, Favoured, nobody, theStep, supporter, linkOf, conditionLink}
+use Rattle.orders.specs.Links.{goalLink, nthLink}
+use Rattle.orders.specs.Supporter.{TieTo, ownStep, lowerNumber}
+use Rattle.orders.proofs.Supporter.{Own, supporter-is}
+use Rattle.links.specs.Tied.{Tied, OwnPlace}
 use Rattle.links.specs.Linking.{runLink}
+
+-- the point at place `at`, of those below high the one to which the tie of the point at place `run` goes
+pub record TakenAt (points : List ℕ) (own : ℕ → Type 0) (high run at : ℕ) : Type 0 where
+  begins : run ≤ at
+  ends : at < high
+  tick : tickAt points at ≡ tickAt points run
+  first :
+      (p : ℕ) → run ≤ p → p < high → tickAt points p ≡ tickAt points run → TieTo own (numberAt points at) (numberAt points p)
+
+-- Of the setters of fact f.
+module _ {m : Model} {x : ℕ → ℕ} {points begins : List ℕ} (known : PointsKnown m x points begins) (f : ℕ) (h : f < m .facts) {run : ℕ}
+    (from : getD begins f 0 ≤ run) where
+  -- at one tick they stand by number
+  numbered :
+      (p q : ℕ) → run ≤ p → p ≤ q → q < getD begins (f + 1) 0 → tickAt points p ≡ tickAt points q → numberAt points p ≤ numberAt points q
+  numbered p q l i j e =
+      elim (decLt p q) [
+        | yes k ↦ omega (arith, known .setters f h .ordered p q (omega arith) k j e)
+        | no k ↦ omega (arith, ap (numberAt points) (let same : p ≡ q = omega arith in same))
+      ]
+
+  -- where nobody comes first the tie goes to the first of them
+  taken-first : run < getD begins (f + 1) 0 → TakenAt points (Own m nobody) (getD begins (f + 1) 0) run run
+  taken-first some =
+      record {
+        begins = omega arith;
+        ends = some;
+        tick = refl;
+        first = λ p l i e. lowerNumber (λ o. o) (numbered run p (omega arith) l i (sym e));
+      }
+
+  module _ {end step at : ℕ} (tie : Tied points run (getD begins (f + 1) 0) end) (goes : OwnPlace points run end step at) where
+    -- what has the tick of a tie belongs to it
+    together : (p : ℕ) → p < getD begins (f + 1) 0 → tickAt points p ≡ tickAt points run → p < end
+    together p i e =
+        elim (decLt p end) [
+          | yes j ↦ j
+          | no j ↦
+              let group = known .setters f h in
+              let up : tickAt points run ≤ tickAt points end = group .rises run end from (tie .some) (omega arith) in
+              absurd (tie .other (omega arith) (omega (arith, on p (omega arith) i)))
+        ]
+      where
+        on : (p : ℕ) → end ≤ p → p < getD begins (f + 1) 0 → tickAt points end ≤ tickAt points p
+        on p l i =
+            elim (decLt end p) [
+              | yes j ↦ known .setters f h .rises end p (omega (arith, tie .some)) j i
+              | no j ↦ omega (arith, ap (tickAt points) (let same : p ≡ end = omega arith in same))
+            ]
+
+    -- a tie by places and steps is one by numbers
+    by-number :
+        (p : ℕ) → run ≤ p → p < getD begins (f + 1) 0 → tickAt points p ≡ tickAt points run → TieTo (λ q. stepAt points q ≡ step) at p
+        → TieTo (λ e. m .effectStep e ≡ step) (numberAt points at) (numberAt points p)
+    by-number p l i e w = go w
+      where
+        steps : (q : ℕ) → run ≤ q → q < getD begins (f + 1) 0 → stepAt points q ≡ m .effectStep (numberAt points q)
+        steps q j k = known .setters f h .steps q (omega arith) k
+
+        here : stepAt points at ≡ m .effectStep (numberAt points at)
+        here = steps at (goes .begins) (omega (arith, goes .ends (tie .some), tie .to))
+
+        go : TieTo (λ q. stepAt points q ≡ step) at p → TieTo (λ e. m .effectStep e ≡ step) (numberAt points at) (numberAt points p)
+        go (ownStep o n) = ownStep (sym here ∙ o) (λ k. n (steps p l i ∙ k))
+        go (lowerNumber o n) =
+            lowerNumber (λ k. sym here ∙ o (steps p l i ∙ k))
+            (numbered at p (goes .begins) n i (tie .alike .same at (goes .begins) (goes .ends (tie .some)) ∙ sym e))
+
+    -- the place that a condition takes
+    pub taken-own : TakenAt points (λ e. m .effectStep e ≡ step) (getD begins (f + 1) 0) run at
+    taken-own =
+        let within : at < end = goes .ends (tie .some) in
+        record {
+          begins = goes .begins;
+          ends = omega (arith, tie .to);
+          tick = tie .alike .same at (goes .begins) within;
+          first = λ p l i e. by-number p l i e (goes .first p l (together p i e));
+        }
 
 module _ {m : Model} {x : ℕ → ℕ} {points begins : List ℕ} (known : PointsKnown m x points begins) (form : ClockedForm m) (valid : Valid m x)
     (f : ℕ) (h : f < m .facts) {t place run : ℕ} (parts : Parted points (getD begins f 0) (getD begins (f + 1) 0) t place)
@@ -94,65 +177,76 @@ module _ {m : Model} {x : ℕ → ℕ} {points begins : List ℕ} (known : Point
             eq-eqb (lastOpposing m x f v t) 0 (omega arith) ∙ sym (eq-eqb run low (omega arith))
       ]
 
-  -- where the run has a point, its first is the earliest producer, of these the lowest
-  module _ (some : run < place) where
-    gives-it : Giver m f v (numberAt points run)
+  -- where the run has a point, the one at place `at`, to which the tie of its first goes, supports
+  module _ (own : Favoured) (at : ℕ) (takes : TakenAt points (Own m own) high run at) (some : run < place) where
+    -- it belongs to the run
+    inside : at < place
+    inside =
+        let early : tickAt points run < t = parts .before run (so .from) some in
+        let tick : tickAt points at ≡ tickAt points run = takes .tick in
+        elim (decLt at place) [
+          | yes i ↦ i
+          | no i ↦ let late : t ≤ tickAt points at = parts .after at (omega arith) (takes .ends) in absurd (omega arith)
+        ]
+
+    gives-it : Giver m f v (numberAt points at)
     gives-it =
         let from : low ≤ run = so .from in
-        let end : place ≤ high = parts .to in
+        let begins : run ≤ at = takes .begins in
         let last : valueAt points (place - 1) ≡ v = last-is (omega arith) in
-        let g = placed-giver known f h run (omega arith) (omega arith) in
-        record { known = g .known; ofFact = g .ofFact; ofValue = g .ofValue ∙ so .alike run (omega arith) some ∙ last }
+        let g = placed-giver known f h at (omega arith) (takes .ends) in
+        record { known = g .known; ofFact = g .ofFact; ofValue = g .ofValue ∙ so .alike at begins inside ∙ last }
 
-    tick-first : tickAt points run ≡ effectTick m x (numberAt points run)
+    tick-first : tickAt points run ≡ effectTick m x (numberAt points at)
     tick-first =
         let from : low ≤ run = so .from in
-        let end : place ≤ high = parts .to in
-        known .setters f h .ticks run from (omega arith)
+        let begins : run ≤ at = takes .begins in
+        sym (takes .tick) ∙ known .setters f h .ticks at (omega arith) (takes .ends)
 
     late : lastOpposing m x f v t ≤ tickAt points run
     late =
+        let from : low ≤ run = so .from in
         let end : place ≤ high = parts .to in
-        let value : valueAt points run ≡ v = known .setters f h .values run (so .from) (omega arith) ∙ gives-it .ofValue in
+        let value : valueAt points run ≡ v = so .alike run (omega arith) some ∙ last-is (omega arith) in
         lastGiven-le m x f (1 - v) t (tickAt points run)
         (λ e g early.
-        let at = opposed e g early in
-        let tick : tickAt points (at .0) ≡ effectTick m x e = at .3 in
-        let other : valueAt points (at .0) ≡ 1 - v = at .4 in
-        rw (sym tick) (placed-apart known f h one (at .0) run (at .1) (at .2) (omega arith) (λ e. omega arith)))
+        let p = opposed e g early in
+        let tick : tickAt points (p .0) ≡ effectTick m x e = p .3 in
+        let other : valueAt points (p .0) ≡ 1 - v = p .4 in
+        rw (sym tick) (placed-apart known f h one (p .0) run (p .1) (p .2) (omega arith) (λ e. omega arith)))
 
-    produces : producer m x f v t (numberAt points run) ≡ true
+    produces : producer m x f v t (numberAt points at) ≡ true
     unfolding producer
     produces =
         ap₂ _&&_ (ap₂ _&&_ (eq-eqb _ _ (gives-it .ofFact)) (eq-eqb _ _ (gives-it .ofValue)))
-        (le-leb (lastOpposing m x f v t) (effectTick m x (numberAt points run)) (omega (arith, late, tick-first)))
+        (le-leb (lastOpposing m x f v t) (effectTick m x (numberAt points at)) (omega (arith, late, tick-first)))
 
     none-before :
         (k : ℕ) → k < m .effects → producer m x f v t k ≡ true
-        → (tickAt points run ≤ effectTick m x k) × (tickAt points run ≡ effectTick m x k → numberAt points run ≤ k)
+        → (tickAt points run ≤ effectTick m x k) × (tickAt points run ≡ effectTick m x k → TieTo (Own m own) (numberAt points at) k)
     unfolding producer
     none-before k l q =
         let both = and-both _ _ q in
         let is = and-both _ _ (both .0) in
         let after : lastOpposing m x f v t ≤ effectTick m x k = leb-true _ _ (both .1) in
-        let at = giver-placed known f h v k (record { known = l; ofFact = eqb-true _ _ (is .0); ofValue = eqb-true _ _ (is .1) }) in
-        let p : ℕ = at .0 in
-        let tick : tickAt points p ≡ effectTick m x k = at .4 in
-        let number : numberAt points p ≡ k = at .3 in
-        elim (decLt run p) [
-          | yes i ↦ (
-            omega (arith, known .setters f h .rises run p (so .from) i (at .2)),
-            λ e. omega (arith, known .setters f h .ordered run p (so .from) i (at .2) (e ∙ sym tick)),
+        let found = giver-placed known f h v k (record { known = l; ofFact = eqb-true _ _ (is .0); ofValue = eqb-true _ _ (is .1) }) in
+        let p : ℕ = found .0 in
+        let tick : tickAt points p ≡ effectTick m x k = found .4 in
+        elim (decLt p run) [
+          | yes i ↦ absurd (omega (arith, turned (omega (arith, found .1)), up p (found .1) i))
+          | no i ↦ (
+            omega (arith, later p (omega arith) (found .2)),
+            λ e. subst (TieTo (Own m own) (numberAt points at)) (found .3) (takes .first p (omega arith) (found .2) (tick ∙ sym e)),
           )
-          | no i ↦
-              elim (decLt p run) [
-                | yes j ↦ absurd (omega (arith, turned (omega (arith, at .1)), up p (at .1) j))
-                | no j ↦
-                    let same : p ≡ run = omega arith in
-                    (omega (arith, ap (tickAt points) same), λ e. omega (arith, ap (numberAt points) same))
-              ]
         ]
       where
+        later : (p : ℕ) → run ≤ p → p < high → tickAt points run ≤ tickAt points p
+        later p l i =
+            elim (decLt run p) [
+              | yes j ↦ known .setters f h .rises run p (so .from) j i
+              | no j ↦ let same : p ≡ run = omega arith in omega (arith, ap (tickAt points) same)
+            ]
+
         up : (p : ℕ) → low ≤ p → p < run → tickAt points p ≤ tickAt points (run - 1)
         up p from i =
             let end : place ≤ high = parts .to in
@@ -165,10 +259,10 @@ module _ {m : Model} {x : ℕ → ℕ} {points begins : List ℕ} (known : Point
     unfolding earliestProduced
     earliest =
         let tick : ℕ → ℕ = λ e. cond (producer m x f v t e) (effectTick m x e) (afterAll m x) in
-        let le = least-le tick (m .effects) (afterAll m x) (numberAt points run) (gives-it .known) in
-        let here : tick (numberAt points run) ≡ effectTick m x (numberAt points run) =
-        ap (λ c. cond c (effectTick m x (numberAt points run)) (afterAll m x)) produces in
-        let ends : effectTick m x (numberAt points run) < afterAll m x = afterAll-ge m x (numberAt points run) (gives-it .known) in
+        let le = least-le tick (m .effects) (afterAll m x) (numberAt points at) (gives-it .known) in
+        let here : tick (numberAt points at) ≡ effectTick m x (numberAt points at) =
+        ap (λ c. cond c (effectTick m x (numberAt points at)) (afterAll m x)) produces in
+        let ends : effectTick m x (numberAt points at) < afterAll m x = afterAll-ge m x (numberAt points at) (gives-it .known) in
         let ge = least-ge tick (m .effects) (afterAll m x) (tickAt points run) (omega (arith, tick-first))
         (λ k l.
         ⊎-elim
@@ -181,19 +275,13 @@ module _ {m : Model} {x : ℕ → ℕ} {points begins : List ℕ} (known : Point
         (either (producer m x f v t k))) in
         omega (arith, le, ge, tick-first)
 
-    supports : supporter m x f v t ≡ numberAt points run
-    unfolding supporter
+    supports : supporter m x own f v t ≡ numberAt points at
+    unfolding tied
     supports =
-        lowest-is _ (m .effects) (numberAt points run) (omega (arith, gives-it .known))
-        (λ j l.
-        ⊎-elim
-        (λ (q : (producer m x f v t j && eqb (effectTick m x j) (earliestProduced m x f v t)) ≡ true).
+        supporter-is m x f v t own (numberAt points at) (gives-it .known) (ap₂ _&&_ produces (eq-eqb _ _ (sym tick-first ∙ sym earliest)))
+        (λ k l q.
         let both = and-both _ _ q in
-        let tied : effectTick m x j ≡ tickAt points run = eqb-true _ _ (both .1) ∙ earliest in
-        absurd (let least : numberAt points run ≤ j = none-before j (omega (arith, gives-it .known)) (both .0) .1 (sym tied) in omega arith))
-        (λ q. q)
-        (either (producer m x f v t j && eqb (effectTick m x j) (earliestProduced m x f v t))))
-        (λ _. ap₂ _&&_ produces (eq-eqb _ _ (sym tick-first ∙ sym earliest)))
+        none-before k l (both .0) .1 (sym (eqb-true _ _ (both .1) ∙ earliest)))
 
   -- where the initial state does not support, the run has a point
   run-some : (eqb run low && eqb (m .initial f) v) ≡ false → run < place
@@ -208,19 +296,21 @@ module _ {m : Model} {x : ℕ → ℕ} {points begins : List ℕ} (known : Point
             no-initial
       ]
 
-  run-linked : runLink m points f v low run ≡ linkOf m x f v t
+  run-linked :
+      (own : Favoured) (at : ℕ) → (run < high → TakenAt points (Own m own) high run at)
+      → runLink points (m .initial f) v low run at ≡ linkOf m x own f v t
   unfolding runLink linkOf
-  run-linked =
+  run-linked own at takes =
       let initially = eqb run low && eqb (m .initial f) v in
       ⊎-elim
       (λ (q : initially ≡ true).
-      ap (λ c. cond c initialState (numberAt points run)) q ∙ sym (ap (λ c. cond c initialState (supporter m x f v t)) q))
+      ap (λ c. cond c initialState (numberAt points at)) q ∙ sym (ap (λ c. cond c initialState (supporter m x own f v t)) q))
       (λ (q : initially ≡ false).
-      ap (λ c. cond c initialState (numberAt points run)) q
-      ∙ sym (supports (run-some q))
-      ∙ sym (ap (λ c. cond c initialState (supporter m x f v t)) q))
+      ap (λ c. cond c initialState (numberAt points at)) q
+      ∙ sym (supports own at (takes (omega (arith, run-some q, parts .to))) (run-some q))
+      ∙ sym (ap (λ c. cond c initialState (supporter m x own f v t)) q))
       (either initially)
-      ∙ ap (λ c. cond (c && eqb (m .initial f) v) initialState (supporter m x f v t)) (sym unopposed)
+      ∙ ap (λ c. cond (c && eqb (m .initial f) v) initialState (supporter m x own f v t)) (sym unopposed)
 
 module _ {m : Model} {x : ℕ → ℕ} {points begins : List ℕ} (known : PointsKnown m x points begins) (form : ClockedForm m) (valid : Valid m x) where
   -- The condition at place p among those of fact f.
@@ -240,27 +330,31 @@ module _ {m : Model} {x : ℕ → ℕ} {points begins : List ℕ} (known : Point
         let group = known .wanted f h in
         rw (group .values p from to) (form .conditionValue (numberAt points p) (group .holds p from to .0))
 
-    module _ {place run : ℕ} (parts : Parted points (getD begins f 0) (getD begins (f + 1) 0) (tickAt points p) place)
-        (so : Run points (getD begins f 0) place run) where
-      pub condition-some : (eqb run (getD begins f 0) && eqb (m .initial f) (valueAt points p)) ≡ false → run < getD begins (f + 1) 0
+    module _ {place run at : ℕ} (parts : Parted points (getD begins f 0) (getD begins (f + 1) 0) (tickAt points p) place)
+        (so : Run points (getD begins f 0) place run)
+        (takes : run < getD begins (f + 1) 0
+        → TakenAt points (λ e. m .effectStep e ≡ stepAt points p) (getD begins (f + 1) 0) run at) where
+      pub condition-some : (eqb run (getD begins f 0) && eqb (m .initial f) (valueAt points p)) ≡ false → at < getD begins (f + 1) 0
       condition-some q =
-          omega (arith, run-some known form valid f h parts so (valueAt points p) condition-bit condition-sees q, parts .to)
+          takes (omega (arith, run-some known form valid f h parts so (valueAt points p) condition-bit condition-sees q, parts .to)) .ends
 
       pub condition-is :
-          runLink m points f (valueAt points p) (getD begins f 0) run ≡ nthLink m x (numberAt points p)
+          runLink points (m .initial f) (valueAt points p) (getD begins f 0) run at ≡ nthLink m x (numberAt points p)
       unfolding nthLink conditionLink
       condition-is =
           let group = known .wanted f h in
           let c = numberAt points p in
           let is = group .holds p from to in
-          run-linked known form valid f h parts so (valueAt points p) condition-bit condition-sees
-          ∙ ap (λ n. linkOf m x n (valueAt points p) (tickAt points p)) (sym (is .1))
-          ∙ ap₂ (linkOf m x (m .conditionFact c)) (group .values p from to) (group .ticks p from to)
+          run-linked known form valid f h parts so (valueAt points p) condition-bit condition-sees (theStep (stepAt points p)) at takes
+          ∙ ap (λ k. linkOf m x (theStep k) f (valueAt points p) (tickAt points p)) (group .steps p from to)
+          ∙ ap (λ n. linkOf m x (theStep (m .conditionStep c)) n (valueAt points p) (tickAt points p)) (sym (is .1))
+          ∙ ap₂ (linkOf m x (theStep (m .conditionStep c)) (m .conditionFact c)) (group .values p from to) (group .ticks p from to)
           ∙ ap (λ b. cond b (conditionLink m x c) (goalLink m x (c - m .conditions))) (sym (lt-ltb c (m .conditions) (is .0)))
 
   -- Goal g: all setters of its fact lie before the tick after all.
   module _ (g : ℕ) (h : g < m .goals) {f v low high run : ℕ} (ofFact : f ≡ m .goalFact g) (ofValue : v ≡ m .goalValue g)
-      (begin : low ≡ getD begins f 0) (next : high ≡ getD begins (f + 1) 0) (so : Run points low high run) where
+      {initial : ℕ} (initially : initial ≡ m .initial f) (begin : low ≡ getD begins f 0) (next : high ≡ getD begins (f + 1) 0)
+      (so : Run points low high run) where
     there : f < m .facts
     there = rw ofFact (form .goalFact g h)
 
@@ -281,18 +375,19 @@ module _ {m : Model} {x : ℕ → ℕ} {points begins : List ℕ} (known : Point
     goal-sees : seen m x f (afterAll m x) ≡ v
     goal-sees = rw (ofFact, ofValue) (valid .goalReached g h)
 
-    pub goal-some : (eqb run low && eqb (m .initial f) v) ≡ false → run < length points
+    pub goal-some : (eqb run low && eqb initial v) ≡ false → run < length points
     goal-some q =
-        let l : run < high = run-some known form valid f there all-before (rw begin at so) v goal-bit goal-sees (rw begin at q) in
+        let l : run < high = run-some known form valid f there all-before (rw begin at so) v goal-bit goal-sees (rw (begin, initially) at q) in
         omega (arith, known .setters f there .ends)
 
-    pub goal-is : runLink m points f v low run ≡ nthLink m x (m .conditions + g)
+    pub goal-is : runLink points initial v low run run ≡ nthLink m x (m .conditions + g)
     unfolding nthLink goalLink
     goal-is =
         let k = m .conditions + g in
         let e : k - m .conditions ≡ g = omega arith in
-        ap (λ n. runLink m points f v n run) begin
-        ∙ run-linked known form valid f there all-before (rw begin at so) v goal-bit goal-sees
-        ∙ ap₂ (λ n u. linkOf m x n u (afterAll m x)) ofFact ofValue
+        let from : getD begins f 0 ≤ run = omega (arith, so .from) in
+        ap₂ (λ i n. runLink points i v n run run) initially begin
+        ∙ run-linked known form valid f there all-before (rw begin at so) v goal-bit goal-sees nobody run (taken-first known f there from)
+        ∙ ap₂ (λ n u. linkOf m x nobody n u (afterAll m x)) ofFact ofValue
         ∙ sym (ap (goalLink m x) e)
         ∙ ap (λ b. cond b (conditionLink m x k) (goalLink m x (k - m .conditions))) (sym (le-ltb k (m .conditions) (omega arith)))

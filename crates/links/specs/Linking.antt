@@ -7,18 +7,21 @@ use lib.Dec.{eqb}
 use lib.ListN.{length, getD}
 use Rattle.timeline.specs.declared.walk.Cursor.{Cursor}
 use Rattle.timeline.specs.Words.{numberAt, tickAt}
+use Rattle.timeline.specs.Placed.{placeLimit}
 use Rattle.timeline.specs.Walking.{Walking}
 use Rattle.job.specs.Model.{Model}
 use Rattle.validity.specs.Valid.{Valid}
 use Rattle.points.specs.Points.{PointsKnown, wantedGroup}
 use Rattle.order_file.specs.Contents.{initialState}
 use Rattle.orders.specs.Links.{nthLink}
+use Rattle.links.specs.declared.tie.Tie.{Tie}
 use Rattle.links.specs.Linkable.{Linkable}
+use Rattle.links.specs.Tied.{TieKnown}
 
--- the link of a value of fact f whose run begins at place `run`, where the fact's points begin at place low: the first of the run, or
--- the initial state where nothing stands before the run and the value is the initial one
-unfoldable pub runLink : Model → List ℕ → ℕ → ℕ → ℕ → ℕ → ℕ
-runLink m points f value low run = cond (eqb run low && eqb (m .initial f) value) initialState (numberAt points run)
+-- the link of a value of a fact whose points begin at place low, where the run of that value begins at place `run`: the point at place `at`,
+-- or the initial state where nothing stands before the run and the value is the initial one
+unfoldable pub runLink : List ℕ → ℕ → ℕ → ℕ → ℕ → ℕ → ℕ
+runLink points initial value low run at = cond (eqb run low && eqb initial value) initialState (numberAt points at)
 
 -- the link of condition k, or past the conditions that of a goal, of every valid schedule that has these points
 abbrev pub LinkIs : Model → List ℕ → List ℕ → ℕ → ℕ → Type 0
@@ -45,14 +48,23 @@ Passed points low p c = (q : ℕ) × (low ≤ q) × (q < p) × (numberAt points 
 abbrev pub FromTo : ℕ → ℕ → ℕ → Type 0
 FromTo low high k = (low ≤ k) × (k < high)
 
--- at place p of the conditions of fact f, which end at place `end`, with the cursor among its setters, which stand from low to high
-pub record Linking (m : Model) (points begins : List ℕ) (f low high end p : ℕ) (cursor : Cursor) (before list : List ℕ) : Type 0 where
+-- what stays along the conditions of fact f, which stand from place `first` up to `end`, beside its setters, from low to high
+pub record Beside (m : Model) (points begins : List ℕ) (f initial low high first end : ℕ) (before : List ℕ) : Type 0 where
   pub can : Linkable m points begins before
   pub fact : f < m .facts
+  pub initially : initial ≡ m .initial f
   pub begin : low ≡ getD begins f 0
-  pub next : high ≡ getD begins (f + 1) 0
+  pub next : (high ≡ getD begins (f + 1) 0) × (high < placeLimit)
+  pub wanted : first ≡ getD begins (wantedGroup m f) 0
   pub last : end ≡ getD begins (wantedGroup m f + 1) 0
-  pub from : getD begins (wantedGroup m f) 0 ≤ p
+
+-- at place p of these conditions, with the cursor among the setters and the tie found last, of some job and for every one that they are of
+pub record Linking (points begins : List ℕ) (f initial low high first end p : ℕ) (cursor : Cursor) (tie : Tie) (firsts before list : List ℕ)
+    : Type 0 where
+  pub some : (m : Model) × Beside m points begins f initial low high first end before
+  pub from : first ≤ p
   pub to : p ≤ end
   pub walking : p < end → Walking points low high (tickAt points p) cursor
-  pub put : LinksPut m points begins (Passed points (getD begins (wantedGroup m f) 0) p) before list
+  pub tied : TieKnown points high tie firsts
+  pub put :
+      (m : Model) → Beside m points begins f initial low high first end before → LinksPut m points begins (Passed points first p) before list
