@@ -1,4 +1,4 @@
-//! The second program: the literal meaning of every rule of document 01 and of requests a) to c)
+//! The second program: the literal meaning of every rule of document 01 and of requests a) to d)
 //! of document 02, one function a rule, with made jobs and the answers expected of them.
 
 pub mod brute;

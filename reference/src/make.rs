@@ -1,5 +1,12 @@
 //! Made jobs, made timings and made order files: the same for the same seed.
 
+/// Jobs with the names of the functions that make them.
+macro_rules! by_name {
+    ($($name:ident),* $(,)?) => {
+        vec![$((stringify!($name), $name())),*]
+    };
+}
+
 pub mod bench_jobs;
 pub mod checking_order;
 pub mod crowded;
@@ -15,6 +22,7 @@ pub mod ranges;
 pub mod scribbled;
 pub mod sound;
 pub mod telling;
+pub mod ties;
 pub mod timed_edges;
 pub mod timed_nudges;
 pub mod timed_telling;

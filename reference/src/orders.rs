@@ -44,22 +44,45 @@ pub fn orders_of(job: &Job) -> OrderFile {
 // ---------------------------------------------------------------------------------------------
 // Rule 1: support
 
-/// One link for each condition, then each goal.
+/// Whom a tie goes to before the lower number decides.
+#[derive(Clone, Copy)]
+enum TieFirst {
+    Step(usize),
+    Nobody,
+}
+
+impl TieFirst {
+    fn is(self, setter: &Setter) -> bool {
+        match self {
+            TieFirst::Step(step) => setter.is_of(step),
+            TieFirst::Nobody => false,
+        }
+    }
+}
+
+/// One link for each condition, then each goal. A condition's tie goes first to its own step.
 fn links(job: &Job, starts: &[i64]) -> Vec<Link> {
-    let conditions = job
-        .conditions
-        .iter()
-        .map(|c| supporter(job, starts, c.fact, c.wanted, c.first_tick(starts)));
+    let conditions = job.conditions.iter().map(|c| {
+        let own = TieFirst::Step(c.step);
+        supporter(job, starts, c.fact, c.wanted, c.first_tick(starts), own)
+    });
     // Everything is set before the end of time, so for a goal all of it counts.
     let goals = job
         .goals
         .iter()
-        .map(|g| supporter(job, starts, g.fact, g.value, i64::MAX));
+        .map(|g| supporter(job, starts, g.fact, g.value, i64::MAX, TieFirst::Nobody));
     conditions.chain(goals).collect()
 }
 
 /// The supporter of a value wanted from a tick on.
-fn supporter(job: &Job, starts: &[i64], fact: usize, wanted: u16, first: i64) -> Link {
+fn supporter(
+    job: &Job,
+    starts: &[i64],
+    fact: usize,
+    wanted: u16,
+    first: i64,
+    tie_first: TieFirst,
+) -> Link {
     let last_opposing = setters(job, starts)
         .filter(|s| s.opposes(fact, wanted) && s.tick < first)
         .map(|s| s.tick)
@@ -69,8 +92,8 @@ fn supporter(job: &Job, starts: &[i64], fact: usize, wanted: u16, first: i64) ->
     }
     let after_that = |s: &Setter| last_opposing.is_none_or(|tick| tick < s.tick);
     let giving = setters(job, starts).filter(|s| s.gives(fact, wanted) && after_that(s));
-    // Of several at one tick the first.
-    let earliest = giving.min_by_key(|s| s.tick);
+    // Of several at one tick whom the tie goes to first, and of those the first.
+    let earliest = giving.min_by_key(|s| (s.tick, !tie_first.is(s)));
     let supporter = earliest.expect("in a sound job something gives the wanted value");
     supporter.link
 }

@@ -29,8 +29,8 @@ impl Setter {
     }
 }
 
-/// All of a job under a timing. Of two at one tick the one that comes first here supports: a step's
-/// effect before a timed fact, and of either the lower number.
+/// All of a job under a timing. Where a tie goes to nobody first, it goes to the one that comes first
+/// here: a step's effect before a timed fact, and of either the lower number.
 pub fn setters<'a>(job: &'a Job, starts: &'a [i64]) -> impl Iterator<Item = Setter> + 'a {
     let effects = job.effects.iter().enumerate();
     let effects = effects.map(|(number, effect)| Setter {

@@ -13,6 +13,7 @@ use crate::make::order_files::{
 };
 use crate::make::own_conflicts::own_conflicts;
 use crate::make::telling::{empty_job, small_job, telling_jobs};
+use crate::make::ties::largest_ties;
 use crate::make::timings::telling_timings;
 use crate::make::{checking_order, damage, ranges};
 use crate::order_file::OrderFile;
@@ -220,15 +221,13 @@ fn loosening_cases() -> Vec<Case> {
     }
     let broken = checking_order::one_of_each(1).into_iter();
     cases.extend(broken.map(|file| Case::loosening(file, 16)));
-    for job in [
+    let largest = [
         every_pair_ordered_both_ways(),
         chain_of_all_steps(),
         highest_job(5, 8),
-    ] {
-        let file = job.to_file();
-        let length = length_for(&file);
-        cases.push(Case::loosening(file, length));
-    }
+    ];
+    let ties = largest_ties().into_iter().map(|(_, job)| job);
+    cases.extend(largest.into_iter().chain(ties).map(|job| loosened(&job)));
     cases.push(Case::loosening(highest_job(6, 256).to_file(), 24));
     cases.extend(long_buffers());
     cases.extend(made('l', 500));
@@ -255,6 +254,13 @@ fn long_buffers() -> Vec<Case> {
     }
     cases.push(Case::loosening(file, LONGEST_FIELD));
     cases
+}
+
+/// A buffer of just the length.
+pub fn loosened(job: &Job) -> Case {
+    let file = job.to_file();
+    let length = length_for(&file);
+    Case::loosening(file, length)
 }
 
 /// A buffer of just the length, and one a byte too short; a refused job says so even to none.

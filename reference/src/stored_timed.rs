@@ -7,6 +7,7 @@ use crate::make::highest::{highest_timed_job, longest_sheet};
 use crate::make::near_miss::{near_miss, nearly_missed};
 use crate::make::order_files::{files_with_timed_links, plain_file};
 use crate::make::telling::empty_job;
+use crate::make::ties::largest_timed_ties;
 use crate::make::timed_edges::timed_edges;
 use crate::make::timed_telling::timed_telling_jobs;
 use crate::make::timed_timings::timed_timings;
@@ -14,7 +15,7 @@ use crate::make::{checking_order, damage, ranges};
 use crate::random::Random;
 use crate::samples::barriers;
 use crate::stored::{
-    at_written_starts, length_for, list, loosened_into_buffers_around, made_of, order_files,
+    at_written_starts, list, loosened, loosened_into_buffers_around, made_of, order_files,
     timings_at_the_earliest, to_files,
 };
 use crate::stored_pairs;
@@ -150,15 +151,13 @@ fn loosening_cases() -> Vec<Case> {
     }
     let broken = checking_order::one_of_each(2).into_iter();
     cases.extend(broken.map(|file| Case::loosening(file, 16)));
-    for job in [
+    let largest = [
         highest_timed_job(5, 1),
         highest_timed_job(5, 8),
         longest_sheet(),
-    ] {
-        let file = job.to_file();
-        let length = length_for(&file);
-        cases.push(Case::loosening(file, length));
-    }
+    ];
+    let ties = largest_timed_ties().into_iter().map(|(_, job)| job);
+    cases.extend(largest.into_iter().chain(ties).map(|job| loosened(&job)));
     cases.push(Case::loosening(highest_timed_job(6, 256).to_file(), 24));
     cases.extend(made_of(2, 'l', 300));
     cases

@@ -11,6 +11,7 @@ mod nearest;
 mod points;
 mod rounds;
 mod sound;
+mod ties;
 mod write;
 
 use crate::refusal::{number_and_place, refuse_if, Refusal, Verdict};
@@ -32,7 +33,8 @@ fn check_into(job: &[u8], links: &mut Links) -> Verdict {
     let mut points = Points::NONE;
     points.gather(&form);
     let clock = Clock::of(&form, &points);
-    sound::link(&form, &points, clock.as_ref(), links)
+    sound::link(&form, &points, clock.as_ref(), links)?;
+    Ok(())
 }
 
 /// The number, place and length of loosening. A refusal changes no byte of the buffer.
@@ -47,7 +49,8 @@ fn partialize_into(job: &[u8], out: &mut [u8]) -> Result<usize, Refusal> {
     let (mut points, mut links) = (Points::NONE, UNLINKED);
     points.gather(&form);
     let clock = Clock::of(&form, &points);
-    sound::link(&form, &points, clock.as_ref(), &mut links)?;
+    let tied = sound::link(&form, &points, clock.as_ref(), &mut links)?;
+    ties::settle(&tied, &points, &mut links);
     let mut nearest = Nearest::NONE;
     nearest.find(&form, &points, &links);
     let length = write::length(&form, &nearest);

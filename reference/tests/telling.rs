@@ -76,20 +76,6 @@ fn supporters() {
 }
 
 #[test]
-fn ties_between_supporters() {
-    // The lower step would be effect 1.
-    assert_eq!(links(tie_goes_to_the_lower_effect()), [0, 0]);
-    assert_eq!(orders(tie_goes_to_the_lower_effect()), [(1, 2, 5)]);
-    assert_eq!(latest(tie_goes_to_the_lower_effect()), [-1, 4, -1]);
-    // The own step first would leave no order.
-    let job = tie_with_the_own_step_goes_to_the_other;
-    assert_eq!((links(job()), orders(job())), (vec![0], vec![(0, 1, -3)]));
-    // The other step first would give order (0, 1, −3).
-    let job = tie_with_the_own_step_goes_to_it;
-    assert_eq!((links(job()), orders(job())), (vec![0], vec![]));
-}
-
-#[test]
 fn gaps() {
     // Whole steps would give 6, points without the + 1 would give −3.
     assert_eq!(orders(condition_late_in_its_step()), [(0, 1, -2)]);

@@ -60,7 +60,7 @@ fn choices_that_obey_their_files_are_sound_and_end_alike() {
             try_anywhere(&job, &mut random, &mut tried).unwrap_or_else(|broken| panic!("{broken}"));
         }
     }
-    assert_eq!(tried.choices, 39 * 5 * 60);
+    assert_eq!(tried.choices, 47 * 5 * 60);
 }
 
 #[test]

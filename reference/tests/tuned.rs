@@ -14,6 +14,7 @@ use reference::make::near_miss::{near_miss, nearly_missed};
 use reference::make::own_conflicts::own_conflicts;
 use reference::make::sound::{sound_job, Shape};
 use reference::make::telling::telling_jobs;
+use reference::make::ties::{largest_ties, largest_timed_ties};
 use reference::make::timed_edges::timed_edges;
 use reference::make::timed_telling::timed_telling_jobs;
 use reference::make::{checking_order, damage, ranges};
@@ -115,6 +116,7 @@ fn on_jobs_crowded_into_few_ticks() {
             last_start: 40,
             longest: 20,
             fixed_percent: 5,
+            tied_percent: random.pick(&[0, 40]),
         };
         let mut job = sound_job(&mut random, &shape);
         assert_eq!(compare(&job.to_file()), 0);
@@ -127,6 +129,8 @@ fn on_jobs_crowded_into_few_ticks() {
 #[test]
 fn on_jobs_as_large_as_jobs_can_be() {
     compare_all(&[every_pair_ordered_both_ways(), chain_of_all_steps()]);
+    let ties = [largest_ties(), largest_timed_ties()].concat();
+    compare_all(ties.iter().map(|(_, job)| job));
     compare_all(&[1, 8, 256].map(|facts| highest_job(3, facts)));
     compare_all(&[1, 8, 256].map(|facts| highest_timed_job(3, facts)));
 }

@@ -96,5 +96,6 @@ fn shape(spread: Spread, steps: usize) -> Shape {
         last_start: 900_000,
         longest: 10_000,
         fixed_percent: 5,
+        tied_percent: 0,
     }
 }

@@ -23,6 +23,9 @@ pub struct Shape {
     pub last_start: i64,
     pub longest: i64,
     pub fixed_percent: u64,
+    /// How often an effect goes where a fact is set anyway, and a condition wants a fact that its
+    /// own step sets.
+    pub tied_percent: u64,
 }
 
 impl Shape {
@@ -51,6 +54,7 @@ impl Shape {
             last_start,
             longest,
             fixed_percent: random.pick(&[0, 0, 15, 40]),
+            tied_percent: random.pick(&[0, 60]),
         }
     }
 
@@ -109,7 +113,13 @@ impl Shape {
             last_start: 1_000_000,
             longest: random.pick(&[2_000, 100_000]),
             fixed_percent: 5,
+            tied_percent: 0,
         }
+    }
+
+    /// Where nothing is to be tied no number is drawn for it.
+    fn is_tied(&self, random: &mut Random) -> bool {
+        self.tied_percent > 0 && random.chance(self.tied_percent)
     }
 
     /// The same in edition 2, with as many timed facts as there can be.
@@ -148,7 +158,7 @@ pub fn sound_job(random: &mut Random, shape: &Shape) -> Job {
     };
     set_facts(random, &mut job, shape);
     if !job.steps.is_empty() {
-        job.conditions = conditions(random, &job, shape.conditions);
+        job.conditions = conditions(random, &job, shape);
         job.uses = uses(random, &job, shape);
     }
     job.levels = levels(random, &job, shape.levels);
@@ -211,7 +221,7 @@ struct Settings {
 fn set_facts(random: &mut Random, job: &mut Job, shape: &Shape) {
     let mut settings: BTreeMap<(i64, usize), Settings> = BTreeMap::new();
     if !job.steps.is_empty() {
-        settings_of_effects(random, job, shape.effects, &mut settings);
+        settings_of_effects(random, job, shape, &mut settings);
     }
     for _ in 0..shape.timed {
         let place = place_of_a_timed_fact(random, shape, &settings);
@@ -239,17 +249,35 @@ fn set_facts(random: &mut Random, job: &mut Job, shape: &Shape) {
 fn settings_of_effects(
     random: &mut Random,
     job: &Job,
-    wished: usize,
+    shape: &Shape,
     settings: &mut BTreeMap<(i64, usize), Settings>,
 ) {
-    for _ in 0..wished {
-        let step = random.below(job.steps.len());
-        let fact = random.below(job.facts.len());
-        let at = point(random, job.steps[step].length);
-        let tick = job.steps[step].start + at;
+    for _ in 0..shape.effects {
+        let number = random.below(job.steps.len());
+        let step = &job.steps[number];
+        let (tick, fact) = place_of_an_effect(random, shape, step, settings);
         let place = settings.entry((tick, fact)).or_default();
-        place.by_steps.push((step, at));
+        place.by_steps.push((number, tick - step.start));
     }
+}
+
+/// While the step lasts; now and then where a fact is set anyway.
+fn place_of_an_effect(
+    random: &mut Random,
+    shape: &Shape,
+    step: &Step,
+    settings: &BTreeMap<(i64, usize), Settings>,
+) -> (i64, usize) {
+    if shape.is_tied(random) {
+        let ticks = step.start..=step.start + step.length;
+        let places = settings.keys().filter(|(tick, _)| ticks.contains(tick));
+        let places: Vec<(i64, usize)> = places.copied().collect();
+        if !places.is_empty() {
+            return random.pick(&places);
+        }
+    }
+    let fact = random.below(shape.facts);
+    (step.start + point(random, step.length), fact)
 }
 
 /// Often where the fact is set anyway, or a tick beside it.
@@ -274,23 +302,44 @@ fn place_of_a_timed_fact(
 // ---------------------------------------------------------------------------------------------
 // What is read off
 
-fn conditions(random: &mut Random, job: &Job, wished: usize) -> Vec<Condition> {
+fn conditions(random: &mut Random, job: &Job, shape: &Shape) -> Vec<Condition> {
     let mut conditions = Vec::new();
-    for _ in 0..20 * wished {
-        if conditions.len() < wished {
-            conditions.extend(condition(random, job));
+    for _ in 0..20 * shape.conditions {
+        if conditions.len() < shape.conditions {
+            let (step, fact, from) = match shape.is_tied(random) && !job.effects.is_empty() {
+                true => after_an_own_effect(random, job),
+                false => anywhere(random, job),
+            };
+            conditions.extend(condition(random, job, step, fact, from));
         }
     }
     conditions
 }
 
-/// A condition on the value seen at some point, lasting at most as long as it may.
-fn condition(random: &mut Random, job: &Job) -> Option<Condition> {
-    let starts = job.written_starts();
+/// A step, a fact, and a point of the step.
+fn anywhere(random: &mut Random, job: &Job) -> (usize, usize, i64) {
     let step = random.below(job.steps.len());
     let fact = random.below(job.facts.len());
+    (step, fact, point(random, job.steps[step].length))
+}
+
+/// A fact that the step itself sets before that point, if it lasts so long.
+fn after_an_own_effect(random: &mut Random, job: &Job) -> (usize, usize, i64) {
+    let Effect { step, fact, at, .. } = random.pick(&job.effects);
     let length = job.steps[step].length;
-    let from = point(random, length);
+    (step, fact, random.between(length.min(at + 1), length))
+}
+
+/// A condition on the value seen at a point, lasting at most as long as it may.
+fn condition(
+    random: &mut Random,
+    job: &Job,
+    step: usize,
+    fact: usize,
+    from: i64,
+) -> Option<Condition> {
+    let starts = job.written_starts();
+    let length = job.steps[step].length;
     let first = starts[step] + from;
     let wanted = value_seen(job, &starts, fact, first);
     let last_allowed = |s: Setter| s.tick - starts[step] - 1 + i64::from(s.is_of(step));

@@ -1,6 +1,7 @@
 //! Sound jobs that tell mistakes apart, each named for what a mistaken version would miss.
 
 use crate::job::Job;
+use crate::make::ties::ties;
 
 /// The paper's small job.
 pub fn small_job() -> Job {
@@ -124,38 +125,6 @@ pub fn own_step_supports() -> Job {
         .condition(0, 0, 3, 6, 1)
         .effect(0, 0, 2, 1)
         .goal_by(0, 1, 6)
-}
-
-/// The lower effect, not the lower step.
-pub fn tie_goes_to_the_lower_effect() -> Job {
-    Job::with_facts(&[0])
-        .step(3, 2)
-        .step(1, 4)
-        .step(9, 1)
-        .condition(2, 0, 0, 1, 1)
-        .effect(1, 0, 4, 1)
-        .effect(0, 0, 2, 1)
-        .goal_by(0, 1, 8)
-}
-
-/// The own step's effect has the higher number, so the other step is ordered before it.
-pub fn tie_with_the_own_step_goes_to_the_other() -> Job {
-    Job::with_facts(&[0])
-        .step(3, 2)
-        .step(1, 9)
-        .condition(1, 0, 6, 7, 1)
-        .effect(0, 0, 2, 1)
-        .effect(1, 0, 4, 1)
-}
-
-/// The own step's effect has the lower number, so there is no order.
-pub fn tie_with_the_own_step_goes_to_it() -> Job {
-    Job::with_facts(&[0])
-        .step(3, 2)
-        .step(1, 9)
-        .condition(1, 0, 6, 7, 1)
-        .effect(1, 0, 4, 1)
-        .effect(0, 0, 2, 1)
 }
 
 /// Everything of the value 0: the wanted value is not always 1.
@@ -617,15 +586,9 @@ pub fn steps_without_orders() -> Job {
     Job::default().step(4, 2).step(0, 9).fixed_step(7, 1)
 }
 
-macro_rules! by_name {
-    ($($name:ident),* $(,)?) => {
-        vec![$((stringify!($name), $name())),*]
-    };
-}
-
 /// All of them, with their names.
 pub fn telling_jobs() -> Vec<(&'static str, Job)> {
-    by_name![
+    let jobs = by_name![
         small_job,
         empty_job,
         later_supporter_available,
@@ -637,9 +600,6 @@ pub fn telling_jobs() -> Vec<(&'static str, Job)> {
         last_opposing_effect_of_the_own_step,
         own_opposing_effect_at_the_last_tick,
         own_step_supports,
-        tie_goes_to_the_lower_effect,
-        tie_with_the_own_step_goes_to_the_other,
-        tie_with_the_own_step_goes_to_it,
         wanted_as_zero,
         condition_late_in_its_step,
         widest_gaps,
@@ -687,5 +647,6 @@ pub fn telling_jobs() -> Vec<(&'static str, Job)> {
         raised_twice,
         demand_below_nothing,
         steps_without_orders,
-    ]
+    ];
+    [jobs, ties()].concat()
 }

@@ -3,6 +3,7 @@
 
 use crate::job::{Job, HIGHEST};
 use crate::make::telling::small_job;
+use crate::make::ties::timed_ties;
 
 /// An edition 2 without timed facts is loosened as edition 1 is.
 pub fn small_job_of_edition_2() -> Job {
@@ -389,15 +390,9 @@ pub fn chain_behind_the_clock() -> Job {
     job.timed(0, 49, 1)
 }
 
-macro_rules! by_name {
-    ($($name:ident),* $(,)?) => {
-        vec![$((stringify!($name), $name())),*]
-    };
-}
-
 /// All of them, with their names.
 pub fn timed_telling_jobs() -> Vec<(&'static str, Job)> {
-    [of_supporters(), of_limits(), of_rounds()].concat()
+    [of_supporters(), timed_ties(), of_limits(), of_rounds()].concat()
 }
 
 fn of_supporters() -> Vec<(&'static str, Job)> {

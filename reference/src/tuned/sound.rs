@@ -3,17 +3,24 @@
 use super::clock::Clock;
 use super::form::{Form, Steps, STEPS};
 use super::points::{Point, Points};
+use super::ties::TiedFacts;
 use crate::bytes::{i32_at, u16_at, u32_at};
 use crate::order_file::{FIRST_TIMED, INITIAL_STATE, MOST_LINKS};
-use crate::refusal::{refuse_at, Verdict};
+use crate::refusal::{refuse_at, Refusal, Verdict};
 
 /// One link a condition, then one a goal.
 pub type Links = [u16; MOST_LINKS];
 
 pub const UNLINKED: Links = [INITIAL_STATE; MOST_LINKS];
 
-/// Refuses a job that is not sound, else finds its links.
-pub fn link(form: &Form, points: &Points, clock: Option<&Clock>, links: &mut Links) -> Verdict {
+/// Refuses a job that is not sound, else finds its links, to the lowest of each tie, and where ties
+/// may be.
+pub fn link(
+    form: &Form,
+    points: &Points,
+    clock: Option<&Clock>,
+    links: &mut Links,
+) -> Result<TiedFacts, Refusal> {
     let mut found = Found::default();
     // What supports each fact in the end.
     let mut ends = [INITIAL_STATE; 256];
@@ -22,7 +29,7 @@ pub fn link(form: &Form, points: &Points, clock: Option<&Clock>, links: &mut Lin
             Some(clock) => clock.setters.group(fact),
             None => points.effects.group(fact),
         };
-        found.meetings(setters);
+        found.meetings(fact, setters);
         let mut walk = Walk::new(initial, setters);
         for &condition in points.conditions.group(fact) {
             walk.pass_setters_before(condition.tick());
@@ -41,7 +48,8 @@ pub fn link(form: &Form, points: &Points, clock: Option<&Clock>, links: &mut Lin
         refuse_at(13, goal_fails(form, goal, link).then_some(number))?;
         links[form.conditions.len() + number] = link;
     }
-    refuse_at(14, overlapping_step(form))
+    refuse_at(14, overlapping_step(form))?;
+    Ok(found.tied)
 }
 
 impl Form<'_> {
@@ -138,6 +146,7 @@ struct Found {
     meeting: Option<usize>,
     condition: Option<usize>,
     level: Option<usize>,
+    tied: TiedFacts,
 }
 
 impl Found {
@@ -151,10 +160,13 @@ impl Found {
     }
 
     /// What opposes each other on one fact at one tick: effects of one step or of two, timed facts.
-    fn meetings(&mut self, setters: &[Point]) {
-        let oppose =
-            |two: &[Point]| two[0].tick() == two[1].tick() && two[0].value() != two[1].value();
-        if setters.windows(2).any(oppose) {
+    fn meetings(&mut self, fact: usize, setters: &[Point]) {
+        let neighbours = setters.windows(2);
+        let meeting = neighbours.fold(0, |all, two| all | two[0].meeting(two[1]));
+        if meeting != 0 {
+            self.tied.add(fact);
+        }
+        if meeting & Point::VALUE != 0 {
             for at_one_tick in setters.chunk_by(|a, b| a.tick() == b.tick()) {
                 let effects = at_one_tick.partition_point(|setter| !setter.is_timed());
                 let (effects, timed) = at_one_tick.split_at(effects);

@@ -15,6 +15,7 @@ use reference::make::bench_jobs::{
     bench_job, searched_bench_jobs, timed_bench_job, Spread, SPREADS, TIMED_SPREADS,
 };
 use reference::make::telling::small_job;
+use reference::make::ties::every_step_in_one_tie;
 use reference::order_file::MOST_ORDERS;
 use reference::pairs::search;
 use reference::tuned;
@@ -50,6 +51,7 @@ fn print_all() {
         let name = format!("timed, {}", spread.name());
         print_row(&name, measure(&timed_bench_job(spread)));
     }
+    print_row("one tie", measure(&every_step_in_one_tie()));
     println!("\nthe search for a fact set both ways by itself, and the job check");
     println!("{:30}{:>10}{:>10}{:>10}", "", "pairs", "search", "check");
     for (name, job) in searched_bench_jobs() {

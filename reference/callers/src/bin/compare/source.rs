@@ -22,6 +22,7 @@ use reference::make::pddl::{some_texts, Texts};
 use reference::make::scribbled::scribbled_job;
 use reference::make::sound::some_sound_job;
 use reference::make::telling::telling_jobs;
+use reference::make::ties::{largest_ties, largest_timed_ties};
 use reference::make::timed_edges::timed_edges;
 use reference::make::timed_telling::timed_telling_jobs;
 use reference::make::timed_timings::timed_timings;
@@ -115,9 +116,18 @@ fn by_hand(edition: u16) -> Vec<Job> {
 }
 
 fn large(edition: u16) -> Vec<Job> {
-    if edition > 1 {
-        return TIMED_SPREADS.map(timed_bench_job).to_vec();
-    }
+    let (mut large, ties) = match edition {
+        1 => (large_without_the_clock(), largest_ties()),
+        _ => (
+            TIMED_SPREADS.map(timed_bench_job).to_vec(),
+            largest_timed_ties(),
+        ),
+    };
+    large.extend(ties.into_iter().map(|(_, job)| job));
+    large
+}
+
+fn large_without_the_clock() -> Vec<Job> {
     let mut large = SPREADS.map(|spread| bench_job(spread, 64)).to_vec();
     large.extend([chain_of_all_steps(), every_pair_ordered_both_ways()]);
     large.extend(large_pairs());
