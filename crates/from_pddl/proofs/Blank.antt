@@ -4,7 +4,7 @@ use mathlib.Core.Path.{_≡_}
 use native.Mathlib.Decide.{decLt}
 use native.Mathlib.Omega.{arith}
 use lib.ListN.{getD, replicate, length-replicate, getD-replicate, List·getD-eq-default}
-use Rattle.text_reader.specs.Heard.{notesMost}
+use Rattle.notes.specs.Notes.{notesMost}
 
 pub no-notes : (k : ℕ) → getD {A = ℕ} (replicate notesMost 0) k 0 ≡ 0
 no-notes k =

@@ -7,9 +7,8 @@ use lib.ListN.{length, take}
 use Rattle.spelling.specs.Tokens.{textMost}
 use Rattle.grammar.specs.Said.{Item}
 use Rattle.grammar.specs.Reader.{read, refused}
-use Rattle.notes.specs.Notes.{itemsIn}
+use Rattle.notes.specs.Notes.{notesMost, itemsIn}
 use Rattle.token_reader.specs.Reading.{Fault}
-use Rattle.text_reader.specs.Heard.{notesMost}
 use Rattle.naming.specs.Named.{AllNamed, Readable}
 use Rattle.texts_answer.specs.FromTexts.{actionsRead}
 use Rattle.from_pddl.specs.declared.actions.Actions.{Actions}

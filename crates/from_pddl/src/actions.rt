@@ -2,7 +2,7 @@
 ghost use mathlib.Core.Path.{_≡_};
 ghost use Prim.Native.Nat.{ℕ, _<_};
 ghost use lib.ListN.{length, getD};
-ghost use Rattle.text_reader.specs.Heard.{notesMost};
+ghost use Rattle.notes.specs.Notes.{notesMost};
 ghost use Rattle.naming.specs.Index.{indexSize, unlinked};
 ghost use Rattle.from_pddl.specs.Understood.{Understood};
 use naming::Names;

@@ -7,13 +7,11 @@ ghost use Rattle.from_pddl.specs.Answered.{Answered};
 use job::layout::Job;
 use job_filing::file_notes;
 use naming::Names;
+use notes::NOTES_MOST;
 use plan_check::check_lines;
 use text_reader::read_plan;
 use texts_answer::TextsAnswer;
 use verdict::Verdict;
-
-// Most notes of a text, with a 0 behind them.
-pub const NOTES: usize = 65536;
 
 // Reads a plan, holds its lines against the actions, and files the job of both.
 pub fn file_plan(
@@ -28,7 +26,7 @@ pub fn file_plan(
     requires { ⌜ Readable (now text) (now said) × AllNamed (now text) (now said) (now numbers) (now index) names ⌝ }
     ensures { λ r. ⌜ Answered (itemsIn (now (text .entry)) (now (said .entry))) (now (plan .entry)) (now (out .entry)) r (now (out .exit)) ⌝ }
 {
-    let mut lines = [0u64; NOTES];
+    let mut lines = [0u64; NOTES_MOST];
     let r = read_plan(plan, &mut lines);
     if r.fault != 0 {
         return TextsAnswer::PlanOutside(r.line as u16);

@@ -11,7 +11,7 @@ use native.Mathlib.Decide.{decLt}
 use Rattle.grammar.specs.Said.{Role, name, Item}
 use Rattle.grammar.specs.Tree.{Word}
 use Rattle.notes.specs.Notes.{itemIn, itemsIn, nothing}
-use Rattle.supplied.specs.Names.{Kind, actions, facts, levels, kindOf, kindNumber, namesOf, numberOf}
+use Rattle.supplied.specs.Names.{Kind, facts, levels, kindOf, kindNumber, namesOf, numberOf}
 use Rattle.naming.specs.Index.{Indexed}
 use Rattle.naming.specs.Named.{Found}
 use Rattle.naming.specs.Passed.{Passed}
@@ -24,7 +24,7 @@ module _ (text said : List ℕ) (k : ℕ) {index numbers marks counts : List ℕ
 
   pub found-clash :
       (numbers′ index′ : List ℕ) → k < length said → clashesAt (itemsIn text said) k ≡ true
-      → Found text said numbers′ index′ (record { clash = k; actions = 0; facts = 0; levels = 0 })
+      → Found text said numbers′ index′ (record { clash = k; facts = 0; levels = 0 })
   found-clash numbers′ index′ h t = record {
     within = omega arith;
     clashing = λ o. onward-refused (itemsIn text said) k (passed .onward) (omega (arith, size)) t o ∙ rw (lt-ltb k (length said) h) refl;
@@ -32,16 +32,15 @@ module _ (text said : List ℕ) (k : ℕ) {index numbers marks counts : List ℕ
   }
 
   pub found-all :
-      {a f v : ℕ} → k ≤ length said → length said ≤ k → a ≡ getD counts 0 0 → f ≡ getD counts 1 0 → v ≡ getD counts 2 0
-      → Found text said numbers index (record { clash = length said; actions = a; facts = f; levels = v })
-  found-all {a} {f} {v} h l x y z = record {
+      {f v : ℕ} → k ≤ length said → length said ≤ k → f ≡ getD counts 1 0 → v ≡ getD counts 2 0
+      → Found text said numbers index (record { clash = length said; facts = f; levels = v })
+  found-all {f} {v} h l y z = record {
     within = omega arith;
     clashing = λ o.
         onward-end (itemsIn text said) k (passed .onward) (omega (arith, size)) o
         ∙ rw (le-ltb (length said) (length said) (omega arith)) refl;
     named = λ _. record {
       numbered = record { size = passed .numbersSize; each = each };
-      actions = x ∙ count actions;
       facts = y ∙ count facts;
       levels = z ∙ count levels;
       indexed = subst (λ m. Indexed (itemsIn text said) m index) (let q : k ≡ length said = omega arith in q) (passed .indexed);

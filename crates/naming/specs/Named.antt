@@ -8,16 +8,15 @@ use lib.ListN.{length, getD, take, drop}
 use Rattle.grammar.specs.Tree.{Word}
 use Rattle.grammar.specs.Reader.{Outcome, refused}
 use Rattle.notes.specs.Notes.{nothing, itemsIn, Sound}
-use Rattle.supplied.specs.Names.{actions, facts, levels, namesFrom, namesOf}
+use Rattle.supplied.specs.Names.{facts, levels, namesFrom, namesOf}
 use Rattle.supplied.specs.Plan.{hasAction, behind}
 use Rattle.job_notes.specs.Resolved.{Numbered}
 use Rattle.naming.specs.Index.{unlinked, Indexed}
 use Rattle.naming.specs.declared.Names.{Names}
 
--- where no item is refused: the numbers of names, how many there are, and an index of all
+-- where no item is refused: the numbers of names, how many facts and levels there are, and an index of all
 pub record AllNamed (text said numbers index : List ℕ) (r : Names) : Type 0 where
   pub numbered : Numbered (itemsIn text said) numbers
-  pub actions : r .actions ≡ length (namesOf actions (itemsIn text said))
   pub facts : r .facts ≡ length (namesOf facts (itemsIn text said))
   pub levels : r .levels ≡ length (namesOf levels (itemsIn text said))
   pub indexed : Indexed (itemsIn text said) (length said) index

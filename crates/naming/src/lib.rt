@@ -11,22 +11,27 @@ ghost use Rattle.naming.specs.Named.{Readable, Found, ActionAt};
 mod lookup;
 mod passing;
 
+use lookup::KEYS;
 use lookup::find;
 use lookup::wide;
 use notes::ACTION;
+use notes::NOTES_MOST;
 use notes::role;
-use passing::ACTIONS;
 use passing::FACTS;
 use passing::KINDS;
 use passing::LEVELS;
 use passing::MARKS;
 use passing::pass_item;
 
+// The index of names: an entry a key, then one a note; and what stands in a free one.
+pub const INDEX_SIZE: usize = KEYS + NOTES_MOST;
+
+pub const UNLINKED: u16 = 65535;
+
 pub struct Names {
     // The first item that may not stand behind those before it, or how many items there are.
     pub clash: usize,
-    // How many names of each kind there are.
-    pub actions: usize,
+    // How many names of facts and of levels there are.
     pub facts: usize,
     pub levels: usize,
 }
@@ -45,7 +50,6 @@ pub fn number_names(text: &[u8], said: &[u64], index: &mut [u16], numbers: &mut 
         if !pass_item(text, said, k, index, numbers, &mut marks, &mut counts) {
             return Names {
                 clash: k,
-                actions: 0,
                 facts: 0,
                 levels: 0,
             };
@@ -54,7 +58,6 @@ pub fn number_names(text: &[u8], said: &[u64], index: &mut [u16], numbers: &mut 
     }
     Names {
         clash: n,
-        actions: wide(counts[ACTIONS]),
         facts: wide(counts[FACTS]),
         levels: wide(counts[LEVELS]),
     }

@@ -140,6 +140,5 @@ pub record Sound (text : List ℕ) (w : ℕ) : Type 0 where
 
 -- a list notes items: one number an item, and 0 behind the last
 pub record Noted (text list : List ℕ) (is : List Item) : Type 0 where
-  pub fits : length is ≤ length list
   pub each : (k : ℕ) → getD is k nothing ≡ itemIn text (getD list k 0)
   pub sound : (k : ℕ) → Sound text (getD list k 0)

@@ -91,9 +91,9 @@ twoActions =
 abbrev planOf : ℕ → String → ℕ → ℕ → List Item → List Item
 planOf from w length line is = tells line from ∷ says line planned w ∷ tells line length ∷ is
 
--- lines that name no action, a fact, or have another duration
+-- lines that name no action, a fact behind which no duration stands, or have another duration
 lines-differ :
-    map (differs twoActions) (linesOf (planOf 0 "lift" 2 0 (planOf 0 "left" 2 1 (planOf 0 "free" 2 2 (planOf 0 "lift" 3 3 [])))))
+    map (differs twoActions) (linesOf (planOf 0 "lift" 2 0 (planOf 0 "left" 2 1 (planOf 0 "free" 0 2 (planOf 0 "lift" 3 3 [])))))
     ≡ false ∷ true ∷ true ∷ true ∷ []
 unfolding numberIn wordIn linesOf isAction hasAction behind leading differs same
 lines-differ = refl

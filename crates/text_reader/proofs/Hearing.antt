@@ -54,7 +54,7 @@ module _ (t list : List ℕ) (count : ℕ) (l : Listed t list count) (few : coun
   noted-sound k = elim (decLt k count) [ yes h ↦ l .sound k h | no h ↦ rw (l .zeros k (omega arith)) (zero-sound t) ]
 
   notes-all : Noted t list (heard t count list)
-  notes-all = record { fits = rw heard-length (omega (arith, l .room)); each = noted-each; sound = noted-sound }
+  notes-all = record { each = noted-each; sound = noted-sound }
 
 -- a reader that is at the end
 pub heard-end :
@@ -93,7 +93,6 @@ module _ (plan : Bool) (t list : List ℕ) {a : Reader} (h : textMost < length t
     (empty : (k : ℕ) → getD list k 0 ≡ 0) (e : a ≡ record { at = 0; end = 0; line = 0; count = 0; fault = 18 }) where
   long-notes : Noted t list []
   long-notes = record {
-    fits = omega arith;
     each = λ k. rw (empty k) (sym (zero-says t));
     sound = λ k. rw (empty k) (zero-sound t);
   }

@@ -6,8 +6,7 @@ use mathlib.Core.List.{List}
 use lib.ListN.{length}
 use Rattle.spelling.specs.Tokens.{textMost}
 use Rattle.grammar.specs.Reader.{Outcome}
-use Rattle.notes.specs.Notes.{Noted}
-pub use Rattle.notes.specs.Notes.{notesMost}
+use Rattle.notes.specs.Notes.{notesMost, Noted}
 use Rattle.token_reader.specs.Reading.{heard, answer, Fault}
 use Rattle.token_reader.specs.declared.Reader.{Reader}
 

@@ -5,6 +5,8 @@ use mathlib.Core.List.{[]}
 use native.Mathlib.Omega.{arith}
 use borrow.Author.Needs.{needs}
 use lib.ListN.{length-replicate, getD-replicate}
+use Rattle.notes.specs.Notes.{notesMost}
+use Rattle.naming.specs.Index.{indexSize, unlinked}
 use Rattle.from_pddl.proofs.Blank.{no-notes}
 use Rattle.from_pddl.proofs.Whole.{actions-length, too-deep, outside, answered}
 use Rattle.from_pddl.proofs.job_from_texts.Statement.{statement}
@@ -18,8 +20,8 @@ job-from-texts-spec =
     (λ c. search needs)
     (λ c. search needs)
     (λ c κs.
-    let blank = length-replicate {A = ℕ} 65536 0 in
-    (blank, no-notes, blank, length-replicate {A = ℕ} 69632 65535, λ k h. getD-replicate {A = ℕ} 69632 k 65535 0 h))
+    let blank = length-replicate {A = ℕ} notesMost 0 in
+    (blank, no-notes, blank, length-replicate {A = ℕ} indexSize unlinked, λ k h. getD-replicate {A = ℕ} indexSize k unlinked 0 h))
     (λ c. search needs)
     (λ c. too-deep _ _ _ _ _ _ _ (c .before .before .before .before .before .before .read-named .ensures) _ (omega arith) refl)
     (λ c. search needs)

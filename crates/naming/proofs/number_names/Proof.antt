@@ -48,15 +48,13 @@ number-names-spec =
     (λ c κs. search needs)
     (λ c. search needs)
     (λ c κs. search needs)
-    (λ c. search needs)
-    (λ c κs. search needs)
     (λ c.
-    let l = c .before .before .before .before in
+    let l = c .before .before .before in
     l .loop .inv .1 .indexed .size ∙ sym (l .before .before .before .before .before .pre .1))
     (λ c.
-    let l = c .before .before .before .before in
+    let l = c .before .before .before in
     l .loop .inv .1 .numbersSize ∙ sym (l .before .before .before .before .before .pre .3))
     (λ c.
-    let t = c .before .before .before in
+    let t = c .before .before in
     let i = t .before .loop .inv in
-    found-all _ _ _ (i .1) (i .0) (t .loop-test .left) (c .before .before .wide .ensures) (c .before .wide2 .ensures) (c .wide3 .ensures)))
+    found-all _ _ _ (i .1) (i .0) (t .loop-test .left) (c .before .wide .ensures) (c .wide2 .ensures)))

@@ -5,6 +5,7 @@ use mathlib.Core.List.{[]}
 use native.Mathlib.Omega.{arith}
 use borrow.Author.Needs.{needs}
 use lib.ListN.{length-replicate}
+use Rattle.notes.specs.Notes.{notesMost}
 use Rattle.from_pddl.proofs.Blank.{no-notes}
 use Rattle.from_pddl.proofs.Planned.{lines-length, lines-readable, plan-outside, line-refused, too-many-lines, notes-walked, rest-answered}
 use Rattle.from_pddl.proofs.plan.file_plan.Statement.{statement}
@@ -15,7 +16,7 @@ file-plan-spec =
     tie.close
     (tie.spec
     (λ c. search needs)
-    (λ c κs. (length-replicate {A = ℕ} 65536 0, no-notes))
+    (λ c κs. (length-replicate {A = ℕ} notesMost 0, no-notes))
     (λ c. search needs)
     (λ c. plan-outside _ _ _ (c .before .before .before .before .read-plan .ensures) _ _ _ (λ z. omega (arith, z)) refl)
     (λ c. search needs)
