@@ -25,7 +25,7 @@ use Rattle.form.specs.Refusals.{formCheck}
 use Rattle.validity.specs.Checks.{jobCheck}
 use Rattle.partialize.specs.Partialization.{accepts}
 use Rattle.sheet.specs.Text.{refusedText}
-use Rattle.sheet.specs.Put.{Written}
+use Rattle.text.specs.Put.{Written}
 use Rattle.printout.specs.Shown.{shown, mostJob, inputMost, ShowsInput}
 
 -- refusals 1 to 4

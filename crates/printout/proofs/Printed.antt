@@ -24,7 +24,7 @@ use Rattle.partialize.specs.Answer.{number, place, lengthOf}
 use Rattle.partialize.specs.Partialization.{looseOf, fileBytes, accepts, fits, answerTo}
 use Rattle.partialize.specs.Demands.{Promise}
 use Rattle.sheet.specs.Text.{sheetText, refusedText}
-use Rattle.sheet.specs.Put.{Written}
+use Rattle.text.specs.Put.{Written}
 use Rattle.sheet.proofs.Agree.{sheet-agree}
 use Rattle.sheet.proofs.Fits.{sheet-fits}
 use Rattle.printout.specs.Shown.{shown, mostText}

@@ -26,7 +26,8 @@ use Rattle.partialize.specs.declared.answer.Answer.the-variants.{Filed, Refused
 use Rattle.partialize.specs.Answer as answer
 use Rattle.partialize.specs.Partialization.{looseOf, fileBytes, accepts, fits, answerTo, bufferAfter}
 use Rattle.partialize.proofs.Filed.{encode-agree}
-use Rattle.sheet.specs.Text.{digits, decimal, gapText, latestText, headLine, windowLine, orderLine, sheetText, refusedText}
+use Rattle.text.specs.Decimal.{digits, decimal}
+use Rattle.sheet.specs.Text.{gapText, latestText, headLine, windowLine, orderLine, sheetText, refusedText}
 use Rattle.sheet.proofs.Agree.{sheet-agree}
 use Rattle.printout.specs.Shown.{shown}
 use Rattle.printout.specs.Starred.{Answered, AllAnswered, codes, lines, starredWhole}

@@ -10,7 +10,7 @@ use Rattle.job.specs.Layout.{mostFacts, mostLevels, mostSteps, mostConditions, 
 use Rattle.validity.specs.Checks.{jobCheck}
 use Rattle.order_file.specs.Contents.{stepLimit, orderLimit}
 use Rattle.sheet.specs.Text.{sheetText, refusedText, sheetMost}
-use Rattle.sheet.specs.Put.{Written}
+use Rattle.text.specs.Put.{Written}
 use Rattle.partialize.specs.Partialization.{looseOf, accepts}
 
 -- the sheet of its order file, or the refusal of the job check

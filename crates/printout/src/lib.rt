@@ -1,7 +1,7 @@
 // What `show` prints of a job: the sheet of its order file, or its refusal.
 ghost use Prim.Native.Nat.{_≤_};
 ghost use lib.ListN.{length};
-ghost use Rattle.sheet.specs.Put.{Written};
+ghost use Rattle.text.specs.Put.{Written};
 ghost use Rattle.printout.specs.Shown.{shown, mostText, inputMost, ShowsInput};
 use job::layout::CONDITION;
 use job::layout::EFFECT;

@@ -9,7 +9,7 @@ use Rattle.laws.specs.Listed.{concatenate}
 use Rattle.order_file.specs.Contents.{Contents, stepLimit, orderLimit, noLatest, gapBias}
 use Rattle.order_file.specs.Within.{Within}
 use Rattle.sheet.specs.Text.{gapText, latestText, headLine, windowLine, orderLine, sheetText, headMost, windowMost, orderMost, sheetMost}
-use Rattle.sheet.proofs.Decimal.{length-decimal}
+use Rattle.text.proofs.Decimal.{length-decimal}
 use Rattle.sheet.proofs.Forms.{gap-below, gap-above, latest-none, latest-some}
 
 -- parts of at most w bytes each

@@ -1,11 +1,12 @@
 -- The text that `show` prints: "A small job, and edges". Bytes are ASCII codes, and every line ends with a newline.
-use Prim.Native.Nat.{ℕ, zero, suc, _+_, _*_, _/_, _%_}
+use Prim.Native.Nat.{ℕ, suc, _+_, _*_}
 use mathlib.Core.Bool.{cond}
 use mathlib.Core.List.{List, [], _∷_, _++_}
-use lib.Dec.{ltb, eqb}
+use lib.Dec.{eqb}
 use lib.IntN.{ℤ, pos, negsuc}
 use Rattle.laws.specs.Listed.{concatenate}
 use Rattle.order_file.specs.Contents.{Contents, noLatest, signedGap}
+use Rattle.text.specs.Decimal.{decimal, field}
 
 -- `steps `
 abbrev pub stepsWord : List ℕ
@@ -53,16 +54,6 @@ minusSign = 45 ∷ []
 abbrev pub newline : List ℕ
 newline = 10 ∷ []
 
--- the decimal digits of n, most significant first, as far as the fuel goes: any above n is enough
-unfoldable pub digits : ℕ → ℕ → List ℕ
-digits zero n = []
-digits (suc fuel) n =
-    let more = digits fuel (n / 10) ++ ((48 + n % 10) ∷ []) in cond (ltb n 10) ((48 + n) ∷ []) more
-
--- a number in the fewest decimal digits, most significant first: `0` for 0
-unfoldable pub decimal : ℕ → List ℕ
-decimal n = digits (suc n) n
-
 -- a number with its sign: a minus sign and the amount where it is negative
 abbrev pub signed : ℤ → List ℕ
 signed (pos n) = decimal n
@@ -75,10 +66,6 @@ gapText gap = signed (signedGap gap)
 -- a latest start, or `none`
 unfoldable pub latestText : ℕ → List ℕ
 latestText latest = cond (eqb latest noLatest) noneWord (decimal latest)
-
--- a word and the number behind it
-abbrev pub field : List ℕ → ℕ → List ℕ
-field word n = word ++ decimal n
 
 -- `steps N rounds R`
 unfoldable pub headLine : Contents → List ℕ

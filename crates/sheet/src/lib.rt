@@ -1,12 +1,11 @@
 // The text that `show` prints: the sheet of an order file, or the line of a refusal.
 mod lines;
-mod put;
 
 ghost use Prim.Native.Nat.{_+_, _*_, _≤_, _<_};
 ghost use Rattle.laws.specs.Listed.{concatenate};
 ghost use Rattle.order_file.specs.Layout.{contentsOf};
 ghost use Rattle.sheet.specs.Text.{windowLine, orderLine, sheetText, refusedText, windowMost, orderMost, refusedMost, sheetMost};
-ghost use Rattle.sheet.specs.Put.{Put, Written};
+ghost use Rattle.text.specs.Put.{Put, Written};
 ghost use Rattle.little_endian.specs.Bytes.{u16Values};
 use order_file::layout;
 
@@ -57,7 +56,7 @@ pub fn write_refused(number: u16, place: u16, out: &mut [u8]) -> usize
     ensures { λ r. ⌜ Written (refusedText number place) (now (out .entry)) (now (out .exit)) r ⌝ }
     ensures { λ r. ⌜ r ≤ refusedMost ⌝ }
 {
-    let refused = put::put_field(b"refused ", number as usize, 0, out);
-    let placed = put::put_field(b" place ", place as usize, refused, out);
-    put::put_word(b"\n", placed, out)
+    let refused = text::put_field(b"refused ", number as usize, 0, out);
+    let placed = text::put_field(b" place ", place as usize, refused, out);
+    text::put_word(b"\n", placed, out)
 }

@@ -3,12 +3,12 @@ ghost use Prim.Native.Nat.{_+_, _≤_, _<_};
 ghost use Rattle.order_file.specs.Layout.{contentsOf};
 ghost use Rattle.order_file.specs.Contents.{gapSpan};
 ghost use Rattle.sheet.specs.Text.{latestText, gapText, headLine, windowLine, orderLine, headMost, windowMost, orderMost};
-ghost use Rattle.sheet.specs.Put.{Put};
+ghost use Rattle.text.specs.Put.{Put};
 ghost use Rattle.little_endian.specs.Bytes.{u16Values, u32Values};
-use crate::put::put_decimal;
-use crate::put::put_field;
-use crate::put::put_word;
 use order_file::layout;
+use text::put_decimal;
+use text::put_field;
+use text::put_word;
 
 // Puts a latest start.
 fn put_latest(latest: usize, at: usize, out: &mut [u8]) -> usize

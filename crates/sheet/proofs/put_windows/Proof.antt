@@ -1,7 +1,7 @@
 use Prim.Native.Nat.{_-_}
 use Rattle.order_file.specs.Layout.{contentsOf}
 use Rattle.sheet.specs.Text.{windowLine, windowMost}
-use Rattle.sheet.proofs.Writing.{LinesPut, lines-start, lines-more, lines-length, lines-end}
+use Rattle.sheet.proofs.LineByLine.{LinesPut, lines-start, lines-more, lines-length, lines-end}
 use borrow.Author.Needs.{needs}
 use native.Mathlib.Omega.{arith}
 use Rattle.sheet.proofs.put_windows.Statement.{statement}

@@ -1,5 +1,5 @@
 -- The parts of the line, one behind the other.
-use Rattle.sheet.proofs.Writing.{put-then, put-written}
+use Rattle.text.proofs.Writing.{put-then, put-written}
 use Rattle.sheet.specs.Text.{refusedText}
 use borrow.Author.Needs.{needs}
 use native.Mathlib.Omega.{arith}

@@ -1,5 +1,5 @@
 -- The head, the windows and the orders, one behind the other.
-use Rattle.sheet.proofs.Writing.{put-then, put-written}
+use Rattle.text.proofs.Writing.{put-then, put-written}
 use Rattle.sheet.specs.Text.{sheetText}
 use borrow.Author.Needs.{needs}
 use native.Mathlib.Omega.{arith}

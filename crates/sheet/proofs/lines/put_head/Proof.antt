@@ -1,5 +1,5 @@
 -- The parts of the line, one behind the other.
-use Rattle.sheet.proofs.Writing.{put-then}
+use Rattle.text.proofs.Writing.{put-then}
 use Rattle.sheet.specs.Text.{headLine}
 use borrow.Author.Needs.{needs}
 use native.Mathlib.Omega.{arith}

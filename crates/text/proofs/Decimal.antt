@@ -7,9 +7,9 @@ use native.Mathlib.Decide.{decLt}
 use native.Mathlib.Omega.{arith}
 use borrow.Author.Tests.{lt-ltb, le-ltb}
 use lib.ListN.{length, length-append}
-use Rattle.sheet.specs.Text.{digits, decimal}
-use Rattle.sheet.specs.Put.{Put}
-use Rattle.sheet.proofs.Writing.{put-then}
+use Rattle.text.specs.Decimal.{digits, decimal}
+use Rattle.text.specs.Put.{Put}
+use Rattle.text.proofs.Writing.{put-then}
 
 -- every fuel above the number gives the same digits
 digits-fuel : (f g n : ℕ) → n < f → n < g → digits f n ≡ digits g n

@@ -2,12 +2,12 @@
 use Prim.Native.Nat.{_+_, _-_, _≤_}
 use mathlib.Core.Path.{refl}
 use lib.ListN.{length, take}
-use Rattle.sheet.specs.Put.{Put}
-use Rattle.sheet.proofs.Writing.{put-length, word-more, word-end}
+use Rattle.text.specs.Put.{Put}
+use Rattle.text.proofs.Writing.{put-length, word-more, word-end}
 use borrow.Author.Needs.{needs}
 use native.Mathlib.Omega.{arith}
-use Rattle.sheet.proofs.put.put_word.Statement.{statement}
-use Rattle.sheet.proofs.put.put_word.Tie as tie
+use Rattle.text.proofs.put_word.Statement.{statement}
+use Rattle.text.proofs.put_word.Tie as tie
 
 pub put-word-spec : {M : Type 1} → statement M
 put-word-spec =

@@ -4,13 +4,13 @@ use native.Mathlib.Omega.{arith}
 use borrow.Author.Needs.{needs}
 use borrow.Fn.Kinds.{In}
 use borrow.Fn.PlainCycle.{Measures, is, falls, and}
-use Rattle.sheet.proofs.Decimal.{put-one, put-more}
-use Rattle.sheet.proofs.put.put_decimal.Reads as put-decimal
-use Rattle.sheet.proofs.put.put_decimal.Kinds as put-decimal-kinds
-use Rattle.sheet.proofs.put.+put_decimal.Lts-put_decimal as put-decimal-lts
-use Rattle.sheet.proofs.put.put_digit.Reads as put-digit-reads
-use Rattle.sheet.proofs.put.+put_decimal.{statement}
-use Rattle.sheet.proofs.put.+put_decimal.Tie.{close}
+use Rattle.text.proofs.Decimal.{put-one, put-more}
+use Rattle.text.proofs.put_decimal.Reads as put-decimal
+use Rattle.text.proofs.put_decimal.Kinds as put-decimal-kinds
+use Rattle.text.proofs.+put_decimal.Lts-put_decimal as put-decimal-lts
+use Rattle.text.proofs.put_digit.Reads as put-digit-reads
+use Rattle.text.proofs.+put_decimal.{statement}
+use Rattle.text.proofs.+put_decimal.Tie.{close}
 
 abbrev μ-put-decimal : Measures 1 put-decimal-kinds.ps ℕ
 μ-put-decimal κs a = a .0

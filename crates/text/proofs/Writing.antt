@@ -1,17 +1,14 @@
--- Laws of writing: one text behind another, one byte more of a word, one line more of a text, and the text at the front of a buffer.
-use Prim.Native.Nat.{ℕ, _+_, _*_, _<_, _≤_}
+-- Laws of writing: one text behind another, one byte more of a word, and the text at the front of a buffer.
+use Prim.Native.Nat.{ℕ, _+_, _<_, _≤_}
 use mathlib.Core.Path.{_≡_, refl, sym, ap, _∙_}
 use mathlib.Core.List.{List, [], _∷_, _++_}
-use native.Mathlib.Nat.{mul-suc}
 use native.Mathlib.Numerals.{add-one}
 use native.Mathlib.Decide.{decLe}
 use native.Mathlib.Omega.{arith}
 use lib.ListN.{length, getD, take, drop, set, length-append, length-take, take-append-drop, drop-of-length-le}
 use lib.Seq.{sets, length-sets, take-suc, take-all}
-use Rattle.laws.specs.Listed.{concatenate}
-use Rattle.laws.proofs.Listed.{concatenate-more}
 use Rattle.little_endian.proofs.Sets.{sets-out, sets-behind, sets-first}
-use Rattle.sheet.specs.Put.{Put, Written}
+use Rattle.text.specs.Put.{Put, Written}
 
 -- one text behind another
 pub put-then : {l m n s t : List ℕ} {at i j : ℕ} → Put l at s m i → Put m i t n j → Put l at (s ++ t) n j
@@ -40,32 +37,6 @@ word-more {l} {m} n word at k p h s =
 -- the whole word
 pub word-end : {l m : List ℕ} (word : List ℕ) (at k : ℕ) → Put l at (take k word) m (at + k) → length word ≤ k → Put l at word m (at + k)
 word-end word at k p h = rw (take-all k word h) at p
-
--- A loop that puts n lines one behind the other, each of at most w bytes, has put those below k.
-pub record LinesPut (line : ℕ → List ℕ) (w n : ℕ) (before : List ℕ) (at k : ℕ) (after : List ℕ) (end : ℕ) : Type 0 where
-  pub counted : k ≤ n
-  pub lines : Put before at (concatenate k line) after end
-  pub short : end ≤ at + w * k
-
-pub lines-start : (line : ℕ → List ℕ) (w n : ℕ) (l : List ℕ) (at : ℕ) → LinesPut line w n l at 0 l at
-unfolding concatenate
-lines-start line w n l at =
-    record { counted = omega arith; lines = record { bytes = refl; ends = omega arith }; short = omega arith }
-
-module _ {line : ℕ → List ℕ} {w n at k i : ℕ} {l m : List ℕ} (p : LinesPut line w n l at k m i) where
-  pub lines-more : {o : List ℕ} {j : ℕ} → k < n → Put m i (line k) o j → j ≤ i + w → LinesPut line w n l at (k + 1) o j
-  lines-more h q s =
-      record {
-        counted = omega arith;
-        lines = rw (concatenate-more line k) (put-then (p .lines) q);
-        short = rw (add-one k, mul-suc w k) (omega (arith, p .short));
-      }
-
-  pub lines-length : length m ≡ length l
-  lines-length = put-length (p .lines)
-
-  pub lines-end : n ≤ k → Put l at (concatenate n line) m i × (i ≤ at + w * n)
-  lines-end h = let e : n ≡ k = omega (arith, p .counted) in rw e (p .lines, p .short)
 
 -- a text at the very front of any list
 sets-front : (l text : List ℕ) → sets l 0 text ≡ take (length l) text ++ drop (length text) l

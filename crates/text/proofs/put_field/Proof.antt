@@ -1,9 +1,9 @@
 -- The number stands behind the word.
-use Rattle.sheet.proofs.Writing.{put-then}
+use Rattle.text.proofs.Writing.{put-then}
 use borrow.Author.Needs.{needs}
 use native.Mathlib.Omega.{arith}
-use Rattle.sheet.proofs.put.put_field.Statement.{statement}
-use Rattle.sheet.proofs.put.put_field.Tie as tie
+use Rattle.text.proofs.put_field.Statement.{statement}
+use Rattle.text.proofs.put_field.Tie as tie
 
 pub put-field-spec : {M : Type 1} → statement M
 put-field-spec =

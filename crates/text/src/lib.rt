@@ -3,13 +3,14 @@
 ghost use Prim.Native.Nat.{_+_, _≤_, _<_};
 ghost use mathlib.Core.List.{[], _∷_};
 ghost use lib.ListN.{length};
-ghost use Rattle.sheet.specs.Text.{decimal, field};
-ghost use Rattle.sheet.specs.Put.{Put};
+ghost use Rattle.text.specs.Decimal.{decimal, field};
+ghost use Rattle.text.specs.Put.{Put};
+ghost use Rattle.text.specs.Word.{wordMost};
 ghost use Rattle.little_endian.specs.Bytes.{u32Values};
 
 // Puts a word.
 pub fn put_word(word: &[u8], at: usize, out: &mut [u8]) -> usize
-    requires { ⌜ (at < u32Values) × (length (now word) ≤ 16) ⌝ }
+    requires { ⌜ (at < u32Values) × (length (now word) ≤ wordMost) ⌝ }
     ensures { λ r. ⌜ Put (now (out .entry)) at (now (word .entry)) (now (out .exit)) r ⌝ }
 {
     let mut k = 0;
@@ -44,7 +45,7 @@ pub fn put_decimal(n: usize, at: usize, out: &mut [u8]) -> usize
 
 // Puts a word and a number behind it.
 pub fn put_field(word: &[u8], n: usize, at: usize, out: &mut [u8]) -> usize
-    requires { ⌜ (at < 1000000000) × (length (now word) ≤ 16) × (n < u32Values) ⌝ }
+    requires { ⌜ (at < 1000000000) × (length (now word) ≤ wordMost) × (n < u32Values) ⌝ }
     ensures { λ r. ⌜ Put (now (out .entry)) at (field (now (word .entry)) n) (now (out .exit)) r × (r ≤ at + length (now (word .entry)) + 10) ⌝ }
 {
     let after = put_word(word, at, out);
