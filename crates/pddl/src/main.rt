@@ -1,21 +1,29 @@
 // Makes a job of a supplier's two texts: `pddl ACTIONS PLAN JOB`. Prints a line, the job's length or in words what is wrong and where.
 mod files;
-mod told;
 
 use from_pddl::job_from_texts;
 use job_from_notes::file::LONGEST_JOB;
+use libc::STDOUT_FILENO;
+use telling::LONGEST_LINE;
 use texts_answer::TextsAnswer;
 
-// Writes the job that was made, or says why none was.
+// Prints what the texts are answered.
+fn say(answer: TextsAnswer) {
+    let mut line = [0u8; LONGEST_LINE];
+    let n = telling::tell(answer, &mut line);
+    io::write_all(STDOUT_FILENO, &line[..n]);
+}
+
+// Writes the job that was made and says so, or says why none was.
 fn finish(answer: TextsAnswer, job: &[u8]) {
     if texts_answer::number(answer) != 0 {
-        told::refused(answer);
+        say(answer);
         return;
     }
     let n = texts_answer::length(answer) as usize;
     if n <= job.len() {
         if files::write_file(3, &job[..n]) {
-            told::made(n);
+            say(answer);
         }
     }
 }
@@ -39,6 +47,6 @@ fn main() {
     if os::arg_count() == 4 {
         make();
     } else {
-        told::usage();
+        io::write_all(STDOUT_FILENO, b"usage: pddl ACTIONS PLAN JOB\n");
     }
 }

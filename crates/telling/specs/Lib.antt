@@ -1,0 +1,2 @@
+-- The line that `pddl` prints.
+pub mod Told
