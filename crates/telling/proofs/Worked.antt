@@ -4,7 +4,7 @@ use Rattle.spelling.specs.Keywords.{codes}
 use Rattle.text.specs.Decimal.{digits, decimal}
 use Rattle.verdict.specs.declared.Verdict.the-variants.{ConditionFails}
 use Rattle.texts_answer.specs.declared.TextsAnswer.the-variants.{Made, PlanDiffers, Refused}
-use Rattle.telling.specs.Told.{atLine, unsound, fault, madeLine, refusedLine, told}
+use Rattle.telling.specs.Told.{atLine, ofRecord, unsound, fault, madeLine, refusedLine, told}
 
 made : told (Made 726) ≡ codes "a job of 726 bytes\n"
 unfolding told madeLine decimal digits
@@ -16,5 +16,5 @@ unfolding told refusedLine fault atLine decimal digits
 tenth-line = refl
 
 condition-fails : told (Refused (ConditionFails 3)) ≡ codes "refused 11 place 3: a condition fails, condition 3\n"
-unfolding told refusedLine fault unsound decimal digits
+unfolding told refusedLine fault unsound ofRecord decimal digits
 condition-fails = refl

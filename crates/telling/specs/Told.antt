@@ -18,15 +18,19 @@ use Rattle.text.specs.Decimal.{field}
 unfoldable pub atLine : List ℕ → ℕ → List ℕ
 atLine words line = words ++ field (codes ", line ") (line + 1)
 
+-- words and a record of the job, by its number
+unfoldable pub ofRecord : List ℕ → ℕ → List ℕ
+ofRecord words k = words ++ field (codes " ") k
+
 -- what the job check found in the job that the texts describe, and its record; the last words are for what no such job is refused with
 unfoldable pub unsound : Verdict → List ℕ
 unsound CountTooHigh = codes "more records than a job can have"
-unsound (RecordOutOfRange k) = field (codes "a start, duration or amount out of its range, record ") k
-unsound (StepAgainstItself k) = field (codes "a step against itself, step ") k
-unsound (EffectsConflict k) = field (codes "two steps set a fact both ways at one tick, effect ") k
-unsound (ConditionFails k) = field (codes "a condition fails, condition ") k
-unsound (LevelOutOfBounds k) = field (codes "a level passes a bound, level ") k
-unsound (GoalFails k) = field (codes "a goal fails, goal ") k
+unsound (RecordOutOfRange k) = ofRecord (codes "a start, duration or amount out of its range, record") k
+unsound (StepAgainstItself k) = ofRecord (codes "a step against itself, step") k
+unsound (EffectsConflict k) = ofRecord (codes "two steps set a fact both ways at one tick, effect") k
+unsound (ConditionFails k) = ofRecord (codes "a condition fails, condition") k
+unsound (LevelOutOfBounds k) = ofRecord (codes "a level passes a bound, level") k
+unsound (GoalFails k) = ofRecord (codes "a goal fails, goal") k
 unsound Accepted = codes "the job is refused"
 unsound FileTooShort = codes "the job is refused"
 unsound UnknownEdition = codes "the job is refused"

@@ -2,7 +2,7 @@
 ghost use Prim.Native.Nat.{_+_, _≤_, _<_};
 ghost use lib.ListN.{length};
 ghost use Rattle.text.specs.Put.{Put, Written};
-ghost use Rattle.telling.specs.Told.{atLine, unsound, fault, madeLine, refusedLine, told, faultMost, toldMost};
+ghost use Rattle.telling.specs.Told.{atLine, ofRecord, unsound, fault, madeLine, refusedLine, told, faultMost, toldMost};
 use text::put_field;
 use text::put_word;
 use texts_answer::TextsAnswer;
@@ -20,6 +20,15 @@ fn put_at_line(words: &[u8], line: u16, at: usize, out: &mut [u8]) -> usize
     put_field(b", line ", line as usize + 1, after, out)
 }
 
+// Puts words and a record of the job.
+fn put_of_record(words: &[u8], k: u16, at: usize, out: &mut [u8]) -> usize
+    requires { ⌜ (at < 1000) × (length (now words) + 11 ≤ faultMost) ⌝ }
+    ensures { λ r. ⌜ Put (now (out .entry)) at (ofRecord (now (words .entry)) k) (now (out .exit)) r × (r ≤ at + faultMost) ⌝ }
+{
+    let after = put_word(words, at, out);
+    put_field(b" ", k as usize, after, out)
+}
+
 // Puts what the job check found.
 fn put_unsound(v: Verdict, at: usize, out: &mut [u8]) -> usize
     requires { ⌜ at < 1000 ⌝ }
@@ -27,37 +36,22 @@ fn put_unsound(v: Verdict, at: usize, out: &mut [u8]) -> usize
 {
     match v {
         Verdict::CountTooHigh => put_word(b"more records than a job can have", at, out),
-        Verdict::RecordOutOfRange(k) => put_field(
-            b"a start, duration or amount out of its range, record ",
-            k as usize,
+        Verdict::RecordOutOfRange(k) => put_of_record(
+            b"a start, duration or amount out of its range, record",
+            k,
             at,
             out,
         ),
-        Verdict::StepAgainstItself(k) => put_field(
-            b"a step against itself, step ",
-            k as usize,
+        Verdict::StepAgainstItself(k) => put_of_record(b"a step against itself, step", k, at, out),
+        Verdict::EffectsConflict(k) => put_of_record(
+            b"two steps set a fact both ways at one tick, effect",
+            k,
             at,
             out,
         ),
-        Verdict::EffectsConflict(k) => put_field(
-            b"two steps set a fact both ways at one tick, effect ",
-            k as usize,
-            at,
-            out,
-        ),
-        Verdict::ConditionFails(k) => put_field(
-            b"a condition fails, condition ",
-            k as usize,
-            at,
-            out,
-        ),
-        Verdict::LevelOutOfBounds(k) => put_field(
-            b"a level passes a bound, level ",
-            k as usize,
-            at,
-            out,
-        ),
-        Verdict::GoalFails(k) => put_field(b"a goal fails, goal ", k as usize, at, out),
+        Verdict::ConditionFails(k) => put_of_record(b"a condition fails, condition", k, at, out),
+        Verdict::LevelOutOfBounds(k) => put_of_record(b"a level passes a bound, level", k, at, out),
+        Verdict::GoalFails(k) => put_of_record(b"a goal fails, goal", k, at, out),
         _ => put_word(b"the job is refused", at, out),
     }
 }
