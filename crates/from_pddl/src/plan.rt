@@ -1,6 +1,4 @@
 // The plan, once the action text is understood.
-ghost use mathlib.Core.Path.{_≡_};
-ghost use lib.ListN.{length};
 ghost use Rattle.notes.specs.Notes.{itemsIn};
 ghost use Rattle.naming.specs.Named.{Readable, AllNamed};
 ghost use Rattle.from_pddl.specs.Answered.{Answered};

@@ -1,10 +1,10 @@
 -- Limits and latest starts are those of the plain record. A timed fact is an effect of the clock, so what lies after or before it is an order
 -- of rules 1 to 3 from or to the clock, and each such order is one of these.
-use Prim.Native.Nat.{ℕ, _+_, _-_, _≤_, _<_, min}
+use Prim.Native.Nat.{ℕ, _+_, _-_, _≤_, _<_}
 use mathlib.Core.Path.{_≡_, refl, sym, ap, subst, _∙_}
-use mathlib.Core.Bool.{Bool, true, false, _&&_, not, cond}
+use mathlib.Core.Bool.{true, false, _&&_, not, cond}
 use mathlib.Core.Logic.{⊎-elim}
-use native.Mathlib.Decide.{ℕ-discrete, decLt, decLe}
+use native.Mathlib.Decide.{ℕ-discrete, decLt}
 use native.Mathlib.Omega.{arith}
 use borrow.Author.Tests.{eqb-true, eqb-false, not-true}
 use lib.Dec.{eqb}
@@ -20,11 +20,11 @@ use Rattle.validity.specs.Valid.{Valid}
 use Rattle.order_file.specs.Contents.{initialState, noLatest, gapBias}
 use Rattle.orders.specs.Links.{conditionLink, goalLink}
 use Rattle.orders.specs.Gaps.{strictly}
-use Rattle.orders.specs.Windows.{clockGap, clockLatest, limitOf, allowed, latestOf}
+use Rattle.orders.specs.Windows.{clockGap, limitOf, allowed, latestOf}
 use Rattle.orders.specs.Supporter.{ConditionLinkedTo}
 use Rattle.orders.specs.Limited.{EffectOpposed, ConditionOpposed, ConditionTimed, PointAfter, effectAfter, conditionAfter, supportedAfter}
 use Rattle.orders.specs.Limited.{PointBefore, effectBefore, conditionBefore, GoalDue, Limited}
-use Rattle.orders.proofs.Near.{from-near, to-near}
+use Rattle.orders.proofs.Near.{from-near}
 use Rattle.orders.proofs.Supporter.{linked-once, condition-supported, goal-supported}
 use Rattle.orders.proofs.Links.{goal-link-in-time}
 use Rattle.orders.proofs.Limits.{limit-fixed, limit-free, latest-fixed, latest-free, clock-unbound, clock-bound, allowed-linked}

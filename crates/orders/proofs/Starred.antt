@@ -1,5 +1,6 @@
--- The starred table, and those of timed facts and of ties, by computing. To find each order by its number takes a search among 4,096 pairs of steps, itself with counting at
--- each pair. So the orders are first proved to be the pairs that pass, listed in one pass that looks at the gaps of counted steps only.
+-- The starred table, and those of timed facts and of ties, by computing. To find each order by its number takes a search among 4,096
+-- pairs of steps, itself with counting at each pair. So the orders are first proved to be the pairs that pass, listed in one pass that
+-- looks at the gaps of counted steps only.
 use Prim.Native.Nat.{ℕ, zero, suc, _+_, _/_, _%_, _<_}
 use mathlib.Core.Path.{_≡_, refl, sym, ap, ap₂, _∙_, fun-ext}
 use mathlib.Core.Bool.{Bool, true, false, _&&_, not, cond}
@@ -269,7 +270,8 @@ pub timed-answers : AllAnswer timedCases
 timed-answers = all-answer-by timedCases timed-computed
 
 tie-computed : AllAnswerBy tieCases
-unfolding AllAnswerBy AnswersBy tieCases givenAtFive wants givesOwn givesOther givesClock free jobBytes timedTable tablesOf editionOf joined offsets fact level step condition effect
+unfolding AllAnswerBy AnswersBy tieCases givenAtFive wants givesOwn givesOther givesClock free
+    jobBytes timedTable tablesOf editionOf joined offsets fact level step condition effect
     usage goal timedFact u16Bytes u32Bytes listed windowOf ordersOf orderAt orderedPair orderedIf passing extend fileWith fileOf linkNumber nthLink u16At
     u32At biasedAt largest least sum tabulate any all lowest lowestOwner headerWidth countsOf tableAt positionsOf jobOf countTooHigh
     editionKnown marksWrong layoutAgrees _then_ refuseIf refuseLowest factOk levelOk stepOk conditionOk effectOk useOk goalOk timedOk bothWays usesTwice

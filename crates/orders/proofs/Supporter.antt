@@ -340,7 +340,8 @@ module _ (m : Model) (x : ℕ → ℕ) (w : ClockedForm m) (s : Valid m x) where
   pub condition-supported : (c : ℕ) → c < m .conditions → ConditionLinkedTo m x c (conditionLink m x c)
   unfolding conditionLink
   condition-supported c h =
-      linked-to m x (theStep (m .conditionStep c)) (m .conditionFact c) (m .conditionValue c) (firstTick m x c) (λ tick. tick < firstTick m x c) w (w .conditionValue c h)
+      linked-to m x (theStep (m .conditionStep c)) (m .conditionFact c) (m .conditionValue c) (firstTick m x c)
+      (λ tick. tick < firstTick m x c) w (w .conditionValue c h)
       (record { into = λ e k l. l; out = λ e k l. l })
       (apart (m .conditionFact c) (m .conditionValue c))
       (s .conditionSeen c (firstTick m x c) h (omega arith) (omega (arith, w .conditionSpan c h)))

@@ -20,7 +20,7 @@ use Rattle.validity.specs.Valid.{Valid}
 use Rattle.order_file.specs.Within.{Within}
 use Rattle.order_file.specs.Contents.{initialState, noLatest, lastLink, orderLimit, gapBias, leastGap, mostGap}
 use Rattle.order_file.specs.Table.{rowWidth, tableSize}
-use Rattle.orders.specs.Links.{conditionLink, goalLink, nthLink}
+use Rattle.orders.specs.Links.{conditionLink, nthLink}
 use Rattle.orders.specs.Gaps.{strictly, supportOrder, supportGap, opposingOrder, opposingGap, beforeOrder, afterOrder, conditionGap, levelOrder}
 use Rattle.orders.specs.Gaps.{levelGap, serialFirst, serialGap, gapOf}
 use Rattle.orders.specs.Windows.{limitOf, allowed, latestOf}

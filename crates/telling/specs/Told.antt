@@ -22,7 +22,8 @@ atLine words line = words ++ field (codes ", line ") (line + 1)
 unfoldable pub ofRecord : List ℕ → ℕ → List ℕ
 ofRecord words k = words ++ field (codes " ") k
 
--- what the job check found in the job that the texts describe, and its record; the last words are for what no such job is refused with
+-- what the job check found in the job that the texts describe, and its record; the last words are for refusals that such a job, which is of
+-- edition 1 with no mark and no fixed step, has no cause for
 unfoldable pub unsound : Verdict → List ℕ
 unsound CountTooHigh = codes "more records than a job can have"
 unsound (RecordOutOfRange k) = ofRecord (codes "a start, duration or amount out of its range, record") k

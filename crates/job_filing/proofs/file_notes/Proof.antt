@@ -85,4 +85,5 @@ file-notes-spec =
     let records = e .before .before .before .count-records .ensures in
     let goals = e .before .before .count-goals .ensures in
     let w = c .before .before .before .before .before .before .write-job .ensures in
-    filed-checked _ _ _ _ _ _ _ _ (p .0) (p .1) records goals (e .before .too-many .ensures) (e .if1 .left) _ _ _ (w .0) (w .1) (c .before .before .file-checked .ensures)))
+    filed-checked _ _ _ _ _ _ _ _ (p .0) (p .1) records goals (e .before .too-many .ensures) (e .if1 .left) _ _ _ (w .0) (w .1)
+    (c .before .before .file-checked .ensures)))
