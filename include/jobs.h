@@ -1,4 +1,4 @@
-/* The static library `exports` for C and C++ callers: job files of editions 1 and 2 checked,
+/* The static library `exports` for C and C++ callers: job files of editions 1 to 3 checked,
  * searched and loosened, order files read and compared, jobs made of PDDL texts.
  *
  * No function presumes anything of the bytes it is given. Each slice is a pointer and a length;
@@ -22,9 +22,11 @@
  *         word, bracket or line end that cannot stand there, or of the text's end)
  *     19  (and ..) is nested deeper than 16 (the line of the seventeenth `and`)
  *     20  a plan line names no action, or has another duration than its action (line of the plan)
- *      1  the job file is shorter than 48 bytes; after 2, also than the 52 of edition 2
- *      2  its edition is neither 1 nor 2
- *      3  its serial mark exceeds 1, or in edition 1 its tenth number is not 0
+ *      1  the job file is shorter than 48 bytes; after 2, also than the 52 of edition 2 or the 60 of
+ *         edition 3
+ *      2  its edition is not 1, 2 or 3
+ *      3  its serial mark exceeds 1, in edition 1 its tenth number is not 0, or in edition 3 the
+ *         number after the count of needs is not 0
  *      4  a count exceeds its highest
  *      5  an offset or the file's length disagrees with the tables
  *      6  a record breaks its ranges, or names a step, fact or level not counted
@@ -38,6 +40,8 @@
  *         timed fact (effect)
  *     11  a condition fails (condition)
  *     12  a level passes a bound (level)
+ *     21  a need is unmet: the level from earlier ticks, with all other steps' falls at its tick, does
+ *         not reach its least (need)
  *     13  a goal fails or comes after its deadline (goal)
  *     14  steps of a serial job overlap (step)
  *     15  the buffer is shorter than the order file, or than the job
@@ -102,11 +106,11 @@ static inline uint32_t jobs_place(uint64_t returned)
     return (uint32_t)returned & 65535u;
 }
 
-/* Whether a job is sound at its written starts. Refuses with 1 to 7, 17 and 10 to 14. */
+/* Whether a job is sound at its written starts. Refuses with 1 to 7, 17, 10 to 14 and 21. */
 uint64_t jobs_check(const uint8_t *job, size_t len);
 
-/* Whether a job is sound with these starts in place of the written ones. Refuses with 1 to 14
- * and 17. */
+/* Whether a job is sound with these starts in place of the written ones. Refuses with 1 to 14,
+ * 17 and 21. */
 uint64_t jobs_check_schedule(const uint8_t *job, size_t len, const uint32_t *starts, size_t count);
 
 /* Searches a job for two effects of one step that set one fact both ways at one tick, and ends with
@@ -117,7 +121,7 @@ uint64_t jobs_check_schedule(const uint8_t *job, size_t len, const uint32_t *sta
 uint64_t jobs_pairs(const uint8_t *job, size_t len);
 
 /* Loosens a job into an order file at the front of `out`, and answers the file's length; bytes past
- * it stay. Refuses with 1 to 7, 17 and 10 to 15. */
+ * it stay. Refuses with 1 to 7, 17, 10 to 15 and 21. */
 uint64_t jobs_partialize(const uint8_t *job, size_t len, uint8_t *out, size_t out_len);
 
 /* Answers 1 if two order files have equal steps, limits, latest starts and orders, else 0.

@@ -287,13 +287,21 @@ fn from_texts_line(actions: &[u8], plan: &[u8], room: usize) -> String {
     with_buffer(line, &buffer)
 }
 
-/// The buffer is printed up to its last byte unlike the filling; how many follow is counted.
+/// The buffer is printed up to its last byte unlike the filling, in two digits a byte, a zero as a
+/// point; how many follow is counted.
 fn with_buffer(line: String, buffer: &[u8]) -> String {
     let last = buffer.iter().rposition(|&byte| byte != FILLING);
     let (front, rest) = buffer.split_at(last.map_or(0, |last| last + 1));
-    let hex: String = front.iter().map(|byte| format!("{byte:02x}")).collect();
+    let hex: String = front.iter().map(printed).collect();
     let hex = if hex.is_empty() { "-" } else { &hex };
     format!("{line} {hex} {}", rest.len())
+}
+
+fn printed(byte: &u8) -> String {
+    match byte {
+        0 => ".".to_string(),
+        _ => format!("{byte:02x}"),
+    }
 }
 
 fn pairs_line(job: &[u8]) -> String {

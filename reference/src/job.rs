@@ -1,21 +1,25 @@
 //! A job: the records it holds, and the layout of its file.
 
 /// The latest edition that is taken; those before it are too.
-pub const LATEST_EDITION: u16 = 2;
+pub const LATEST_EDITION: u16 = 3;
 
 /// Everything "a table each" is in the tables' order:
-/// facts, levels, steps, conditions, effects, uses, goals and, from edition 2 on, timed facts.
-pub const TABLES: usize = 8;
-pub const WIDTHS: [usize; TABLES] = [1, 12, 10, 14, 10, 12, 8, 8];
-pub const HIGHEST: [usize; TABLES] = [256, 16, 64, 512, 512, 256, 32, 64];
+/// facts, levels, steps, conditions, effects, uses, goals, from edition 2 on timed facts and from
+/// edition 3 on needs.
+pub const TABLES: usize = 9;
+pub const WIDTHS: [usize; TABLES] = [1, 12, 10, 14, 10, 12, 8, 8, 12];
+pub const HIGHEST: [usize; TABLES] = [256, 16, 64, 512, 512, 256, 32, 64, 128];
 
 pub const EDITION_AT: usize = 0;
 pub const SERIAL_AT: usize = 2;
 /// Where the header counts each table; goals are counted before conditions.
-pub const COUNTS_AT: [usize; TABLES] = [4, 6, 8, 12, 14, 16, 10, TENTH_AT];
-/// The tenth number is 0 in edition 1 and counts the timed facts in edition 2.
+pub const COUNTS_AT: [usize; TABLES] = [4, 6, 8, 12, 14, 16, 10, TENTH_AT, 52];
+/// The tenth number is 0 in edition 1 and counts the timed facts from edition 2 on.
 pub const TENTH_AT: usize = 18;
-pub const OFFSETS_AT: usize = 20;
+/// Where the header has the offset of each table.
+pub const OFFSETS_AT: [usize; TABLES] = [20, 24, 28, 32, 36, 40, 44, 48, 56];
+/// Edition 3 adds a number that must be 0, between the count of the needs and their offset.
+pub const ADDED_ZERO_AT: usize = 54;
 
 /// The header of every edition is at least as long as that of edition 1.
 pub const SHORTEST_HEADER: usize = header_length(1);
@@ -24,15 +28,16 @@ pub const NO_DEADLINE: u32 = 4_294_967_295;
 
 /// The tables that a file of an edition has, each with an offset in the header.
 pub const fn tables_of(edition: u16) -> usize {
-    if edition == 1 {
-        7
-    } else {
-        8
+    match edition {
+        1 => 7,
+        2 => 8,
+        _ => 9,
     }
 }
 
+/// The header ends with the offset of the last table.
 pub const fn header_length(edition: u16) -> usize {
-    OFFSETS_AT + 4 * tables_of(edition)
+    OFFSETS_AT[tables_of(edition) - 1] + 4
 }
 
 /// A job. Numbers may be out of range, so that broken jobs can be written down too.
@@ -48,6 +53,7 @@ pub struct Job {
     pub uses: Vec<Use>,
     pub goals: Vec<Goal>,
     pub timed: Vec<TimedFact>,
+    pub needs: Vec<Need>,
 }
 
 #[derive(Clone, Copy, Debug, PartialEq, Eq)]
@@ -104,6 +110,15 @@ pub struct TimedFact {
     pub value: u16,
 }
 
+/// What a step needs of a level without taking any of it.
+#[derive(Clone, Copy, Debug, PartialEq, Eq)]
+pub struct Need {
+    pub step: usize,
+    pub level: usize,
+    pub at: i64,
+    pub least: i64,
+}
+
 impl Step {
     pub fn is_fixed(&self) -> bool {
         self.fixed == 1
@@ -145,6 +160,7 @@ impl Default for Job {
             uses: Vec::new(),
             goals: Vec::new(),
             timed: Vec::new(),
+            needs: Vec::new(),
         }
     }
 }
@@ -243,10 +259,22 @@ impl Job {
         self
     }
 
-    /// A timed fact makes it a job of edition 2.
+    /// A timed fact makes it a job of edition 2 at least.
     pub fn timed(mut self, fact: usize, tick: i64, value: u16) -> Job {
         self.timed.push(TimedFact { fact, tick, value });
-        self.edition(2)
+        let edition = self.edition.max(2);
+        self.edition(edition)
+    }
+
+    /// A need makes it a job of edition 3.
+    pub fn need(mut self, step: usize, level: usize, at: i64, least: i64) -> Job {
+        self.needs.push(Need {
+            step,
+            level,
+            at,
+            least,
+        });
+        self.edition(3)
     }
 
     pub fn written_starts(&self) -> Vec<i64> {
@@ -263,6 +291,7 @@ impl Job {
             self.uses.len(),
             self.goals.len(),
             self.timed.len(),
+            self.needs.len(),
         ]
     }
 }

@@ -2,8 +2,8 @@
 
 use crate::bytes::{i32_at, put_i32, put_u16, put_u32, u16_at, u32_at};
 use crate::job::{
-    header_length, tables_of, Condition, Effect, Goal, Job, Level, Step, TimedFact, Use, COUNTS_AT,
-    EDITION_AT, NO_DEADLINE, OFFSETS_AT, SERIAL_AT, TABLES, WIDTHS,
+    header_length, tables_of, Condition, Effect, Goal, Job, Level, Need, Step, TimedFact, Use,
+    COUNTS_AT, EDITION_AT, NO_DEADLINE, OFFSETS_AT, SERIAL_AT, TABLES, WIDTHS,
 };
 
 /// The offsets of the tables, which follow the header without gaps, and the file's length.
@@ -26,8 +26,11 @@ impl Job {
         self.put_facts_levels_and_steps(&mut file);
         self.put_points(&mut file);
         self.put_goals(&mut file);
-        if tables_of(self.edition) == TABLES {
+        if tables_of(self.edition) > 7 {
             self.put_timed_facts(&mut file);
+        }
+        if tables_of(self.edition) > 8 {
+            self.put_needs(&mut file);
         }
         file
     }
@@ -45,8 +48,14 @@ impl Job {
         put_u16(&mut file, self.uses.len());
         put_u16(&mut file, self.timed.len());
         let (offsets, _) = layout(self.edition, self.counts());
-        for &offset in &offsets[..tables_of(self.edition)] {
+        let (offsets, offset_of_needs) = (&offsets[..8], offsets[8]);
+        for &offset in offsets.iter().take(tables_of(self.edition)) {
             put_u32(&mut file, offset);
+        }
+        if tables_of(self.edition) > 8 {
+            put_u16(&mut file, self.needs.len());
+            put_u16(&mut file, 0);
+            put_u32(&mut file, offset_of_needs);
         }
         file
     }
@@ -105,6 +114,15 @@ impl Job {
             put_u16(file, timed.value);
         }
     }
+
+    fn put_needs(&self, file: &mut Vec<u8>) {
+        for need in &self.needs {
+            put_u16(file, need.step);
+            put_u16(file, need.level);
+            put_u32(file, need.at);
+            put_i32(file, need.least);
+        }
+    }
 }
 
 // ---------------------------------------------------------------------------------------------
@@ -114,14 +132,19 @@ pub fn edition_in(file: &[u8]) -> u16 {
     u16_at(file, EDITION_AT)
 }
 
+/// Of a table that the file's edition does not have there are none.
 pub fn counts_in(file: &[u8]) -> [usize; TABLES] {
-    COUNTS_AT.map(|at| usize::from(u16_at(file, at)))
+    let tables = tables_of(edition_in(file));
+    std::array::from_fn(|table| match table < tables {
+        true => usize::from(u16_at(file, COUNTS_AT[table])),
+        false => 0,
+    })
 }
 
 /// One a table of the file's edition.
 pub fn offsets_in(file: &[u8]) -> impl Iterator<Item = usize> + '_ {
-    let tables = 0..tables_of(edition_in(file));
-    tables.map(|table| u32_at(file, OFFSETS_AT + 4 * table) as usize)
+    let tables = OFFSETS_AT.into_iter().take(tables_of(edition_in(file)));
+    tables.map(|at| u32_at(file, at) as usize)
 }
 
 /// The records of a file whose layout holds, in range or not.
@@ -138,6 +161,7 @@ pub fn records_in(file: &[u8]) -> Job {
         uses: records.read(5, used),
         goals: records.read(6, goal),
         timed: records.read(7, timed_fact),
+        needs: records.read(8, need),
     }
 }
 
@@ -236,5 +260,14 @@ fn timed_fact(record: &[u8]) -> TimedFact {
         fact: name(record, 0),
         tick: ticks(record, 2),
         value: u16_at(record, 6),
+    }
+}
+
+fn need(record: &[u8]) -> Need {
+    Need {
+        step: name(record, 0),
+        level: name(record, 2),
+        at: ticks(record, 4),
+        least: amount(record, 8),
     }
 }

@@ -25,7 +25,8 @@ reference show                 print what show prints of the job on standard inp
 reference pddl ACTIONS PLAN    write the job of two PDDL texts to standard output
 reference sample NAME          write a sample job to standard output: paper, deck-resigned,
                                fixed-restart, handsets, refused, longest; of edition 2: barriers,
-                               longest-timed, longest-sheet";
+                               longest-timed, longest-sheet; of edition 3: calibration,
+                               longest-needs";
 
 fn main() -> ExitCode {
     match run() {

@@ -2,7 +2,7 @@
 
 use std::collections::BTreeMap;
 
-use crate::job::{Condition, Effect, Job, Use};
+use crate::job::{Condition, Effect, Job, Need, Use};
 use crate::limits::{earliest_limit, latest_start};
 use crate::order_file::{Link, Order, OrderFile, Window};
 use crate::setters::{setters, Setter};
@@ -18,6 +18,7 @@ pub fn orders_of(job: &Job) -> OrderFile {
             opposing_effects_orders(job, &starts),
             condition_orders(job, &starts),
             level_orders(job, &starts),
+            need_orders(job, &starts),
             serial_orders(job, &starts),
         ]
         .concat(),
@@ -158,6 +159,23 @@ fn level_orders(job: &Job, starts: &[i64]) -> Vec<Order> {
     orders
 }
 
+/// Rule 4 too: a need and another step's use of that level at different ticks are ordered as they
+/// lie.
+fn need_orders(job: &Job, starts: &[i64]) -> Vec<Order> {
+    let mut orders = Vec::new();
+    for need in &job.needs {
+        for used in job.uses.iter().filter(|u| u.level == need.level) {
+            if need.tick(starts) < used.tick(starts) {
+                order(&mut orders, Point::of_need(need), Point::of_use(used));
+            }
+            if used.tick(starts) < need.tick(starts) {
+                order(&mut orders, Point::of_use(used), Point::of_need(need));
+            }
+        }
+    }
+    orders
+}
+
 /// Rule 5: in a serial job the step that finishes no later than the other starts is first, gap
 /// its length; if that holds both ways, the lower step.
 fn serial_orders(job: &Job, starts: &[i64]) -> Vec<Order> {
@@ -196,6 +214,13 @@ impl Point {
         Point {
             step: used.step,
             at: used.at,
+        }
+    }
+
+    fn of_need(need: &Need) -> Point {
+        Point {
+            step: need.step,
+            at: need.at,
         }
     }
 

@@ -1,7 +1,7 @@
 //! Job files a person can run, drawn from the garage. Ticks are minutes.
 
 use crate::job::Job;
-use crate::make::highest::{highest_job, highest_timed_job, longest_sheet};
+use crate::make::highest::{highest_job, highest_needs_job, highest_timed_job, longest_sheet};
 use crate::make::telling::small_job;
 
 pub fn sample(name: &str) -> Option<Job> {
@@ -15,14 +15,17 @@ pub fn sample(name: &str) -> Option<Job> {
         "barriers" => Some(barriers()),
         "longest-timed" => Some(highest_timed_job(1, 256)),
         "longest-sheet" => Some(longest_sheet()),
+        "calibration" => Some(calibration()),
+        "longest-needs" => Some(highest_needs_job(1, 256)),
         _ => None,
     }
 }
 
 /// Those with a stored file and sheet.
 pub fn stored_samples() -> Vec<&'static str> {
-    let more = ["longest", "barriers", "longest-timed", "longest-sheet"];
-    [&SAMPLES[..], &more[..]].concat()
+    let timed = ["longest", "barriers", "longest-timed", "longest-sheet"];
+    let needs = ["calibration", "longest-needs"];
+    [&SAMPLES[..], &timed, &needs].concat()
 }
 
 /// Those of edition 1 made by hand.
@@ -134,6 +137,24 @@ pub fn barriers() -> Job {
         .goal(0, 1)
         .timed(0, 60, 0)
         .timed(0, 480, 1)
+}
+
+/// Calibration needs two handsets on the shelf, at its beginning and at its end, though it takes none.
+/// One round brings its handset back before it, the other takes one after it.
+///
+/// Level 0: handsets on the shelf. Steps: 0 a round, 1 calibrate, 2 another round.
+pub fn calibration() -> Job {
+    Job::default()
+        .level(2, 0, 2)
+        .step(0, 30)
+        .step(35, 20)
+        .step(56, 25)
+        .uses(0, 0, 0, -1)
+        .uses(0, 0, 30, 1)
+        .uses(2, 0, 0, -1)
+        .uses(2, 0, 25, 1)
+        .need(1, 0, 0, 2)
+        .need(1, 0, 20, 2)
 }
 
 fn rounds_with_handsets(third: i64) -> Job {

@@ -19,6 +19,7 @@ use crate::make::{checking_order, damage, ranges};
 use crate::order_file::OrderFile;
 use crate::random::Random;
 use crate::samples::{sample, SAMPLES};
+use crate::stored_needs;
 use crate::stored_pairs;
 use crate::stored_texts;
 use crate::stored_timed;
@@ -46,6 +47,7 @@ pub fn stored_cases(command: char) -> Vec<Case> {
     }
     let mut cases = cases_of_edition_1(command);
     cases.extend(stored_timed::cases_of_edition_2(command));
+    cases.extend(stored_needs::cases_of_edition_3(command));
     cases
 }
 

@@ -1,20 +1,20 @@
-//! When a timing is sound: refusals 8 to 14, and the state a timing ends with.
+//! When a timing is sound: refusals 8 to 14 and 21, and the state a timing ends with.
 //!
 //! A timing is a start for each step. What holds "at each tick" is looked at only where it can
 //! change; a test compares this with looking at every tick.
 
-use crate::job::{Condition, Effect, Goal, Job, Use};
+use crate::job::{Condition, Effect, Goal, Job, Need, Use};
 use crate::refusal::{refuse_at, refuse_if, Verdict};
 use crate::setters::setters;
 use crate::well_formed::well_formed;
 
-/// The job check: 1 to 7 and 17, then 10 to 14 on the written starts.
+/// The job check: 1 to 7 and 17, then 10 to 14 with 21 on the written starts.
 pub fn check_job(file: &[u8]) -> Verdict {
     let job = well_formed(file)?;
     sound(&job, &job.written_starts())
 }
 
-/// The timing check: 1 to 7 and 17, then 8 to 14.
+/// The timing check: 1 to 7 and 17, then 8 to 14 with 21.
 pub fn check_timing(file: &[u8], starts: &[u32]) -> Verdict {
     let job = well_formed(file)?;
     refuse_if(8, starts.len() != job.steps.len())?;
@@ -23,11 +23,12 @@ pub fn check_timing(file: &[u8], starts: &[u32]) -> Verdict {
     sound(&job, &starts)
 }
 
-/// Refusals 10 to 14.
+/// Refusals 10 to 12, 21, 13 and 14.
 pub fn sound(job: &Job, starts: &[i64]) -> Verdict {
     refuse_at(10, first_meeting_effect(job, starts))?;
     refuse_at(11, first_failing_condition(job, starts))?;
     refuse_at(12, first_level_past_a_bound(job, starts))?;
+    refuse_at(21, first_unmet_need(job, starts))?;
     refuse_at(13, first_failing_goal(job, starts))?;
     refuse_at(14, first_overlapping_step(job, starts))
 }
@@ -52,6 +53,12 @@ impl Effect {
 }
 
 impl Use {
+    pub fn tick(&self, starts: &[i64]) -> i64 {
+        starts[self.step] + self.at
+    }
+}
+
+impl Need {
     pub fn tick(&self, starts: &[i64]) -> i64 {
         starts[self.step] + self.at
     }
@@ -134,13 +141,36 @@ fn first_level_past_a_bound(job: &Job, starts: &[i64]) -> Option<usize> {
 /// Falls do not wait for the tick's rises, nor rises for its falls.
 fn level_past_a_bound(job: &Job, starts: &[i64], level: usize, tick: i64) -> bool {
     let bounds = job.levels[level];
+    let before = level_before(job, starts, level, tick);
     let uses = || job.uses.iter().filter(move |u| u.level == level);
-    let earlier = uses().filter(|u| u.tick(starts) < tick);
-    let before = bounds.initial + earlier.map(|u| u.amount).sum::<i64>();
     let now = || uses().filter(|u| u.tick(starts) == tick).map(|u| u.amount);
     let falls: i64 = now().filter(|&amount| amount < 0).sum();
     let rises: i64 = now().filter(|&amount| amount > 0).sum();
     before + falls < bounds.least || before + rises > bounds.most
+}
+
+/// The level from earlier ticks.
+fn level_before(job: &Job, starts: &[i64], level: usize, tick: i64) -> i64 {
+    let uses = job.uses.iter().filter(|u| u.level == level);
+    let earlier = uses.filter(|u| u.tick(starts) < tick);
+    job.levels[level].initial + earlier.map(|u| u.amount).sum::<i64>()
+}
+
+/// Refusal 21.
+fn first_unmet_need(job: &Job, starts: &[i64]) -> Option<usize> {
+    job.needs
+        .iter()
+        .position(|need| left_for(job, starts, need) < need.least)
+}
+
+/// What a need finds: the level from earlier ticks and all other steps' falls at its tick. Its own
+/// step's uses at that tick and all rises do not count.
+pub fn left_for(job: &Job, starts: &[i64], need: &Need) -> i64 {
+    let tick = need.tick(starts);
+    let others = job.uses.iter().filter(|u| u.step != need.step);
+    let falls = others.filter(|u| u.level == need.level && u.amount < 0);
+    let now = falls.filter(|u| u.tick(starts) == tick);
+    level_before(job, starts, need.level, tick) + now.map(|u| u.amount).sum::<i64>()
 }
 
 /// Refusal 13.

@@ -8,6 +8,7 @@ mod clock;
 mod form;
 mod limits;
 mod nearest;
+mod needs;
 mod points;
 mod rounds;
 mod sound;
@@ -19,6 +20,7 @@ use clock::Clock;
 use form::Form;
 use limits::Limits;
 use nearest::Nearest;
+use needs::Needs;
 use points::Points;
 use sound::{Links, UNLINKED};
 
@@ -33,7 +35,8 @@ fn check_into(job: &[u8], links: &mut Links) -> Verdict {
     let mut points = Points::NONE;
     points.gather(&form);
     let clock = Clock::of(&form, &points);
-    sound::link(&form, &points, clock.as_ref(), links)?;
+    let needs = Needs::of(&form);
+    sound::link(&form, &points, clock.as_ref(), needs.as_ref(), links)?;
     Ok(())
 }
 
@@ -49,10 +52,11 @@ fn partialize_into(job: &[u8], out: &mut [u8]) -> Result<usize, Refusal> {
     let (mut points, mut links) = (Points::NONE, UNLINKED);
     points.gather(&form);
     let clock = Clock::of(&form, &points);
-    let tied = sound::link(&form, &points, clock.as_ref(), &mut links)?;
+    let needs = Needs::of(&form);
+    let tied = sound::link(&form, &points, clock.as_ref(), needs.as_ref(), &mut links)?;
     ties::settle(&tied, &points, &mut links);
     let mut nearest = Nearest::NONE;
-    nearest.find(&form, &points, &links);
+    nearest.find(&form, &points, needs.as_ref(), &links);
     let length = write::length(&form, &nearest);
     refuse_if(15, out.len() < length)?;
     let limits = Limits::of(&form, &points, clock.as_ref(), &links);

@@ -2,8 +2,8 @@
 
 use crate::bytes::u16_at;
 use crate::job::{
-    header_length, Condition, Effect, Goal, Job, Level, Step, TimedFact, Use, HIGHEST,
-    LATEST_EDITION, SERIAL_AT, SHORTEST_HEADER, TABLES, TENTH_AT,
+    header_length, Condition, Effect, Goal, Job, Level, Need, Step, TimedFact, Use, ADDED_ZERO_AT,
+    HIGHEST, LATEST_EDITION, SERIAL_AT, SHORTEST_HEADER, TABLES, TENTH_AT,
 };
 use crate::job_file::{counts_in, edition_in, layout, offsets_in, records_in};
 use crate::refusal::{refuse_at, refuse_if, Refusal};
@@ -21,10 +21,7 @@ pub fn in_range(file: &[u8]) -> Result<Job, Refusal> {
     refuse_if(1, file.len() < SHORTEST_HEADER)?;
     refuse_if(2, !(1..=LATEST_EDITION).contains(&edition_in(file)))?;
     refuse_if(1, file.len() < header_length(edition_in(file)))?;
-    refuse_if(
-        3,
-        u16_at(file, SERIAL_AT) > 1 || tenth_number_must_be_0(file),
-    )?;
+    refuse_if(3, a_mark_is_wrong(file))?;
     refuse_if(4, a_count_exceeds_its_highest(file))?;
     refuse_if(5, layout_disagrees(file))?;
     let job = records_in(file);
@@ -32,9 +29,13 @@ pub fn in_range(file: &[u8]) -> Result<Job, Refusal> {
     Ok(job)
 }
 
-/// Refusal 3: only from edition 2 on it counts something.
-fn tenth_number_must_be_0(file: &[u8]) -> bool {
-    edition_in(file) == 1 && u16_at(file, TENTH_AT) != 0
+/// Refusal 3: the tenth number must be 0 in edition 1, since only from edition 2 on it counts
+/// something, and the added zero from edition 3 on, since before it belongs to a table.
+fn a_mark_is_wrong(file: &[u8]) -> bool {
+    let edition = edition_in(file);
+    u16_at(file, SERIAL_AT) > 1
+        || (edition == 1 && u16_at(file, TENTH_AT) != 0)
+        || (edition >= 3 && u16_at(file, ADDED_ZERO_AT) != 0)
 }
 
 /// Refusal 4.
@@ -60,14 +61,19 @@ fn first_broken_record(job: &Job) -> Option<usize> {
         .or_else(|| lowest_not(&job.uses, |u| use_in_range(job, u)))
         .or_else(|| lowest_not(&job.goals, |g| goal_in_range(job, g)))
         .or_else(|| lowest_not(&job.timed, |t| timed_fact_in_range(job, t)))
+        .or_else(|| lowest_not(&job.needs, |n| need_in_range(job, n)))
 }
 
 fn lowest_not<R>(records: &[R], in_range: impl Fn(&R) -> bool) -> Option<usize> {
     records.iter().position(|record| !in_range(record))
 }
 
+/// What an amount of a level may be, by itself.
+fn bounded(amount: i64) -> bool {
+    (-1_000_000_000..=1_000_000_000).contains(&amount)
+}
+
 fn level_in_range(level: &Level) -> bool {
-    let bounded = |n: i64| (-1_000_000_000..=1_000_000_000).contains(&n);
     bounded(level.initial)
         && bounded(level.least)
         && bounded(level.most)
@@ -110,6 +116,14 @@ fn goal_in_range(job: &Job, goal: &Goal) -> bool {
 
 fn timed_fact_in_range(job: &Job, timed: &TimedFact) -> bool {
     timed.fact < job.facts.len() && timed.tick <= 1_100_000 && timed.value <= 1
+}
+
+/// Whatever the bounds of the level are.
+fn need_in_range(job: &Job, need: &Need) -> bool {
+    need.step < job.steps.len()
+        && need.level < job.levels.len()
+        && need.at <= job.steps[need.step].length
+        && bounded(need.least)
 }
 
 /// Refusal 7: the lowest step that breaks any of its three parts.

@@ -17,3 +17,8 @@ fn of_jobs_of_edition_1() {
 fn of_jobs_of_edition_2() {
     obeying_choices_are_sound_and_end_alike(2);
 }
+
+#[test]
+fn of_jobs_of_edition_3() {
+    obeying_choices_are_sound_and_end_alike(3);
+}

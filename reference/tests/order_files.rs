@@ -15,7 +15,7 @@ const BROKEN: Refusal = Refusal {
 #[test]
 fn what_is_written_reads_back() {
     let mut random = Random::seeded(1);
-    for edition in [1, 2] {
+    for edition in [1, 2, 3] {
         for _ in 0..2_000 {
             let file = some_good_file(&mut random, edition);
             assert_eq!(read(&file.to_file()), Ok(file));

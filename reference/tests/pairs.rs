@@ -149,7 +149,7 @@ fn as_many_pairs_as_there_can_be() {
 
 #[test]
 fn what_1_to_6_refuse_is_not_searched() {
-    for edition in [1, 2] {
+    for edition in [1, 2, 3] {
         let files = checking_order::one_of_each(edition);
         let answers: Vec<_> = files.iter().map(|file| searched(file)).collect();
         let nowhere = [1, 2, 3, 4, 5].map(|number| (number, NONE, 0));
@@ -208,7 +208,7 @@ fn expected(job: &Job) -> (u16, usize) {
 #[test]
 fn made_jobs_are_searched_as_all_pairs_say() {
     let mut random = Random::seeded(7);
-    for edition in [1, 2] {
+    for edition in [1, 2, 3] {
         for _ in 0..5_000 {
             let job = crowded_job(&mut random, edition);
             assert_eq!(found(vec![job.clone()])[0], expected(&job), "{job:?}");
@@ -264,7 +264,7 @@ impl Seen {
 
 #[test]
 fn made_cases_end_early_late_and_not_at_all() {
-    for edition in [1, 2] {
+    for edition in [1, 2, 3] {
         let mut random = Random::seeded(9);
         let mut seen = Seen::default();
         for _ in 0..4_000 {

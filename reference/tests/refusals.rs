@@ -57,7 +57,7 @@ fn refusals_1_to_5_name_no_record() {
 
 #[test]
 fn counts_at_their_highest_and_one_above() {
-    for (edition, tables) in [(1, 7), (2, 8)] {
+    for (edition, tables) in [(1, 7), (2, 8), (3, 9)] {
         let at = all_well_formedness(damage::counts_at_highest(edition));
         assert_eq!(at, vec![GOOD; tables]);
         let above = all_well_formedness(damage::counts_one_above(edition));
@@ -74,6 +74,7 @@ fn one_of_each_comes_in_checking_order() {
     };
     assert_eq!(numbers(1), [1, 2, 3, 4, 5, 6, 7]);
     assert_eq!(numbers(2), [1, 2, 3, 4, 5, 6, 7, 17]);
+    assert_eq!(numbers(3), [1, 2, 3, 4, 5, 6, 7, 17]);
 }
 
 #[test]
@@ -81,7 +82,9 @@ fn of_two_refusals_the_one_checked_first_decides() {
     let numbers = checking_order::numbers_in_checking_order;
     assert_eq!(numbers(1), [2, 3, 3, 4, 4, 5, 6, 7, 11]);
     assert_eq!(numbers(2), [2, 3, 4, 4, 4, 5, 5, 6, 6, 7, 17, 11]);
-    for edition in [1, 2] {
+    let of_edition_3 = [2, 3, 3, 4, 4, 4, 4, 5, 5, 5, 6, 6, 6, 7, 17, 11, 12, 21, 13];
+    assert_eq!(numbers(3), of_edition_3);
+    for edition in [1, 2, 3] {
         let numbers = numbers(edition);
         let mut expected = Vec::new();
         for (count, &number) in numbers.iter().enumerate() {
@@ -352,7 +355,7 @@ fn starts_past_counting_do_not_begin_again() {
 #[test]
 fn near_misses_are_refused_with_their_number() {
     let mut random = Random::seeded(3);
-    for edition in [1, 2] {
+    for edition in [1, 2, 3] {
         for number in nearly_missed(edition) {
             for _ in 0..100 {
                 let job = near_miss(&mut random, edition, number);
@@ -378,7 +381,7 @@ fn numbers_of(edition: u16, command: char) -> BTreeMap<u16, usize> {
 
 #[test]
 fn made_cases_leave_no_refusal_out() {
-    for (edition, command) in COMMANDS.chars().flat_map(|c| [(1, c), (2, c)]) {
+    for (edition, command) in COMMANDS.chars().flat_map(|c| [(1, c), (2, c), (3, c)]) {
         let mut numbers: Vec<u16> = match command {
             'w' => (0..=7).collect(),
             'c' => (0..=7).chain(10..=14).collect(),
@@ -388,8 +391,11 @@ fn made_cases_leave_no_refusal_out() {
             'f' => vec![0, 4, 6, 7, 10, 11, 12, 13, 15, 18, 19, 20],
             _ => vec![0, 16],
         };
-        if edition == 2 && "wctl".contains(command) {
+        if edition > 1 && "wctl".contains(command) {
             numbers.push(17);
+        }
+        if edition > 2 && "ctl".contains(command) {
+            numbers.push(21);
         }
         let counts = numbers_of(edition, command);
         let found: Vec<u16> = counts.keys().copied().collect();

@@ -39,9 +39,29 @@ order 1 2 121
 }
 
 #[test]
-fn the_longest_job_and_the_longest_sheet() {
+fn calibration_stays_between_the_rounds() {
+    let sheet = "\
+steps 3 rounds 3
+step 0 earliest 0 latest none
+step 1 earliest 31 latest none
+step 2 earliest 52 latest none
+order 0 1 31
+order 0 2 31
+order 1 2 21
+";
+    assert_eq!(shown("calibration"), sheet);
+    // The second round leaves at the very tick at which the calibration ends.
+    let mut unmet = sample("calibration").expect("a sample");
+    unmet.steps[2].start = 55;
+    assert_eq!(show(&unmet.to_file()), "refused 21 place 1\n");
+}
+
+#[test]
+fn the_longest_jobs_and_the_longest_sheet() {
     let longest = sample("longest-timed").expect("a sample").to_file();
     assert_eq!(longest.len(), 17_268);
+    let longest = sample("longest-needs").expect("a sample").to_file();
+    assert_eq!(longest.len(), 18_812);
     let sheet = shown("longest-sheet");
     let window = "earliest 1000000 latest 1099999";
     assert_eq!(sheet.matches(window).count(), 64);

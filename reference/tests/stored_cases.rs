@@ -29,8 +29,9 @@ fn writing_them_again_gives_the_same_bytes() {
 #[test]
 fn all_commands_together_stay_small() {
     let all = stored(COMMANDS);
-    assert!(all.cases.len() < 8_000_000);
-    assert!(all.stdout.len() < 2_000_000);
+    assert!(all.cases.len() < 9_000_000);
+    // A program that the gate runs may print no more.
+    assert!(all.stdout.len() < 1 << 20);
     let cases: usize = COMMANDS.chars().map(|c| stored_cases(c).len()).sum();
     assert_eq!(all.stdout.lines().count(), cases);
     assert!(!all.stdout.contains("bad cases"));
@@ -99,18 +100,18 @@ a 0 65535 1
 a 16 1 0
 l 15 65535 0 - 3
 l 15 65535 0 - 0
-l 0 65535 58 010002000100010002000000180000003000000038000000\
-00000000ffffffff00000000\
-00000000ffffffff06000000\
-0000010006000000\
-0000 9
+l 0 65535 58 01.02.01.01.02...18...30...38...\
+....ffffffff....\
+....ffffffff06...\
+..01.06...\
+.. 9
 p 0 65535 0
 p 0 2 4
 p 1 65535 0
-f 0 65535 57 010000000100000000000100000000000000000030000000\
-310000003100000031000000310000003100000031000000\
+f 0 65535 57 01...01.....01.........30...\
+31...31...31...31...31...31...\
 01\
-00000100ffffffff 10
+..01.ffffffff 10
 f 15 65535 0 - 56
 f 13 0 0 - 57
 f 18 2 0 - 0

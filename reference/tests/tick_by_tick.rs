@@ -2,7 +2,7 @@
 
 use std::collections::BTreeMap;
 
-use reference::job::Job;
+use reference::job::{Job, Need};
 use reference::make::scribbled::scribbled_job;
 use reference::make::sound::small_sound_job;
 use reference::make::timings::some_starts;
@@ -76,6 +76,8 @@ fn sound_tick_by_tick(job: &Job, starts: &[i64]) -> Verdict {
     let past_a_bound =
         |level: &usize| ticks().any(|tick| past_at(job, starts, &course, *level, tick));
     refuse_at(12, (0..job.levels.len()).find(past_a_bound))?;
+    let unmet = |number: &usize| unmet(job, starts, &course, &job.needs[*number]);
+    refuse_at(21, (0..job.needs.len()).find(unmet))?;
     let missed = |number: &usize| {
         let goal = &job.goals[*number];
         let end = course.seen.last().expect("there is an end")[goal.fact];
@@ -121,6 +123,18 @@ fn past_at(job: &Job, starts: &[i64], course: &Course, level: usize, tick: usize
     low < job.levels[level].least || high > job.levels[level].most
 }
 
+fn unmet(job: &Job, starts: &[i64], course: &Course, need: &Need) -> bool {
+    let tick = starts[need.step] + need.at;
+    let mut left = course.before[tick as usize][need.level];
+    for used in &job.uses {
+        let another = used.level == need.level && used.step != need.step;
+        if another && used.tick(starts) == tick {
+            left += used.amount.min(0);
+        }
+    }
+    left < need.least
+}
+
 fn overlapped(job: &Job, starts: &[i64], step: usize) -> bool {
     let end = |step: usize| starts[step] + job.steps[step].length;
     (0..job.steps.len())
@@ -138,7 +152,14 @@ fn agrees_with_looking_where_something_happens_in_edition_2() {
     agrees_on_jobs_of(2);
 }
 
-fn agrees_on_jobs_of(edition: u16) {
+#[test]
+fn agrees_with_looking_where_something_happens_in_edition_3() {
+    let counts = agrees_on_jobs_of(3);
+    assert!(counts.get(&21) > Some(&100), "{counts:?}");
+}
+
+/// How often each number came.
+fn agrees_on_jobs_of(edition: u16) -> BTreeMap<u16, usize> {
     let mut random = Random::seeded(20);
     let mut counts: BTreeMap<u16, usize> = BTreeMap::new();
     for round in 0..20_000 {
@@ -169,4 +190,5 @@ fn agrees_on_jobs_of(edition: u16) {
     for number in [0, 10, 11, 12, 13, 14] {
         assert!(counts.get(&number) > Some(&100), "{number}: {counts:?}");
     }
+    counts
 }

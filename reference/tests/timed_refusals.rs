@@ -66,7 +66,7 @@ fn shorter_than_the_edition_s_header_is_1_again() {
     all_are(&short[53..], 2);
     // An edition that is not taken comes before that.
     let mut later = file[..51].to_vec();
-    later[0] = 3;
+    later[0] = 4;
     assert_eq!(well_formedness(&later), (2, 65_535));
     assert_eq!(well_formedness(&later[..47]), (1, 65_535));
     // An empty job of edition 1 that says 2 lacks four bytes, and then its offsets disagree.
@@ -86,8 +86,11 @@ fn editions_1_and_2_are_taken() {
     all_are(&damage::wrong_editions(&file), 2);
     // Said to be of edition 1, the tenth number must be 0; without timed facts the offsets differ.
     all_are(&damage::other_editions(&file), 3);
+    // Said to be of edition 3, an empty one is too short.
     let empty = empty_job().edition(2).to_file();
-    all_are(&damage::other_editions(&empty), 5);
+    let says = damage::other_editions(&empty);
+    all_are(&says[..1], 5);
+    all_are(&says[1..], 1);
     // Said to be of edition 2, the offsets differ; without records there is no eighth.
     all_are(&damage::other_editions(&damage::full_job().to_file()), 5);
     all_are(&damage::other_editions(&empty_job().to_file()), 1);

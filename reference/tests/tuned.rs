@@ -5,12 +5,17 @@ use std::collections::BTreeSet;
 use reference::job::Job;
 use reference::loosen::{loosen, order_file_of};
 use reference::made::made_case_of;
-use reference::make::bench_jobs::{bench_job, timed_bench_job, SPREADS, TIMED_SPREADS};
+use reference::make::bench_jobs::{
+    bench_job, needs_bench_job, timed_bench_job, SPREADS, TIMED_SPREADS,
+};
 use reference::make::edges::edges;
 use reference::make::highest::{
-    chain_of_all_steps, every_pair_ordered_both_ways, highest_job, highest_timed_job,
+    chain_of_all_steps, every_pair_ordered_both_ways, highest_job, highest_needs_job,
+    highest_timed_job,
 };
 use reference::make::near_miss::{near_miss, nearly_missed};
+use reference::make::need_edges::need_edges;
+use reference::make::need_telling::{largest_needs, need_telling_jobs};
 use reference::make::own_conflicts::own_conflicts;
 use reference::make::sound::{sound_job, Shape};
 use reference::make::telling::telling_jobs;
@@ -49,14 +54,16 @@ fn compare_all<'a>(jobs: impl IntoIterator<Item = &'a Job>) {
 fn on_jobs_that_tell_and_jobs_at_the_edges() {
     compare_all(telling_jobs().iter().map(|(_, job)| job));
     compare_all(timed_telling_jobs().iter().map(|(_, job)| job));
+    compare_all(need_telling_jobs().iter().map(|(_, job)| job));
     compare_all(&edges());
     compare_all(&timed_edges());
+    compare_all(&need_edges());
     compare_all(&own_conflicts());
 }
 
 #[test]
 fn on_damaged_jobs() {
-    for edition in [1, 2] {
+    for edition in [1, 2, 3] {
         let job = damage::full_job_of(edition);
         let file = job.to_file();
         for file in [
@@ -78,7 +85,7 @@ fn on_damaged_jobs() {
 
 #[test]
 fn on_made_jobs_with_every_refusal() {
-    for edition in [1, 2] {
+    for edition in [1, 2, 3] {
         let mut random = Random::seeded(7);
         let mut numbers = BTreeSet::new();
         for _ in 0..1_500 {
@@ -97,14 +104,16 @@ fn on_made_jobs_with_every_refusal() {
     }
 }
 
-/// Enough points on a fact and a level for rows instead of pairs, half of them with timed facts.
+/// Enough points on a fact and a level for rows instead of pairs, half of them with timed facts, half
+/// of them with needs.
 #[test]
 fn on_jobs_crowded_into_few_ticks() {
     let mut random = Random::seeded(11);
     for number in 0..120 {
         let shape = Shape {
-            edition: 2,
+            edition: 3,
             timed: random.pick(&[0, 64]),
+            needs: random.pick(&[0, 100]),
             serial: false,
             facts: 1 + number % 2,
             levels: 1,
@@ -133,6 +142,8 @@ fn on_jobs_as_large_as_jobs_can_be() {
     compare_all(ties.iter().map(|(_, job)| job));
     compare_all(&[1, 8, 256].map(|facts| highest_job(3, facts)));
     compare_all(&[1, 8, 256].map(|facts| highest_timed_job(3, facts)));
+    compare_all(&[1, 8, 256].map(|facts| highest_needs_job(3, facts)));
+    compare_all(largest_needs().iter().map(|(_, job)| job));
 }
 
 #[test]
@@ -141,7 +152,7 @@ fn bench_jobs_are_sound_and_full() {
         for steps in [8, 16, 32, 64] {
             let job = bench_job(spread, steps);
             assert_eq!(compare(&job.to_file()), 0, "{}", spread.name());
-            let [_, _, held, conditions, effects, uses, goals, _] = job.counts();
+            let [_, _, held, conditions, effects, uses, goals, ..] = job.counts();
             let full = [steps, 8 * steps, 8 * steps, 4 * steps, steps / 2];
             assert_eq!([held, conditions, effects, uses, goals], full);
         }
@@ -153,6 +164,15 @@ fn timed_bench_jobs_are_sound_and_full() {
     for spread in TIMED_SPREADS {
         let job = timed_bench_job(spread);
         assert_eq!(compare(&job.to_file()), 0, "{}", spread.name());
-        assert_eq!(job.counts()[2..], [64, 512, 512, 256, 32, 64]);
+        assert_eq!(job.counts()[2..], [64, 512, 512, 256, 32, 64, 0]);
+    }
+}
+
+#[test]
+fn bench_jobs_with_needs_are_sound_and_full() {
+    for spread in TIMED_SPREADS {
+        let job = needs_bench_job(spread);
+        assert_eq!(compare(&job.to_file()), 0, "{}", spread.name());
+        assert_eq!(job.counts()[2..], [64, 512, 512, 256, 32, 64, 128]);
     }
 }

@@ -10,7 +10,12 @@ pub const LONGEST_BUFFER: u32 = 65536;
 // What a buffer holds beforehand.
 pub const FILL: u8 = 165;
 
+// A zero is a point: most bytes of a file are zeros, and a program may not print more than a megabyte.
 fn print_byte(b: u8) {
+    if b == 0 {
+        io::write_all(STDOUT_FILENO, b".");
+        return;
+    }
     io::print_hex(STDOUT_FILENO, b as u64, 2);
 }
 

@@ -41,7 +41,7 @@ static void print_file(const uint8_t *file, size_t len)
 
 int main(int count, char **arguments)
 {
-    /* The longest job has 17,268 bytes; the front of a longer file is refused like the whole. */
+    /* The longest job has 18,812 bytes; the front of a longer file is refused like the whole. */
     static uint8_t job[65536], out[JOBS_LONGEST_ORDER_FILE];
     FILE *input = count == 2 ? fopen(arguments[1], "rb") : NULL;
     if (input == NULL) {

@@ -99,7 +99,7 @@ static void print_list(uint64_t returned, uint32_t count, int with_gap)
     printf("\n");
 }
 
-/* The buffer up to its last byte unlike the filling, and how many follow. */
+/* The buffer up to its last byte unlike the filling, a zero as a point, and how many follow. */
 static void print_buffer(size_t len)
 {
     for (size_t k = len; k < sizeof buffer; k++)
@@ -109,8 +109,12 @@ static void print_buffer(size_t len)
     while (end > 0 && buffer[end - 1] == FILLING)
         end--;
     printf(end == 0 ? " -" : " ");
-    for (size_t k = 0; k < end; k++)
-        printf("%02x", buffer[k]);
+    for (size_t k = 0; k < end; k++) {
+        if (buffer[k] == 0)
+            printf(".");
+        else
+            printf("%02x", buffer[k]);
+    }
     printf(" %zu\n", len - end);
 }
 

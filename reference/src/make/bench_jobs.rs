@@ -66,6 +66,13 @@ pub fn timed_bench_job(spread: Spread) -> Job {
     sound_job(&mut Random::seeded(steps as u64), &shape)
 }
 
+/// The jobs of edition 3: the same with 128 needs as well.
+pub fn needs_bench_job(spread: Spread) -> Job {
+    let steps = HIGHEST[2];
+    let shape = shape(spread, steps).with_most_needs();
+    sound_job(&mut Random::seeded(steps as u64), &shape)
+}
+
 /// Jobs to search for a fact set both ways: as large as a job can be; all effects in one step, so
 /// that no job has more pairs; and the same with the first pair both ways.
 pub fn searched_bench_jobs() -> [(&'static str, Job); 3] {
@@ -93,6 +100,7 @@ fn shape(spread: Spread, steps: usize) -> Shape {
         uses: share(5),
         goals: share(6),
         timed: 0,
+        needs: 0,
         last_start: 900_000,
         longest: 10_000,
         fixed_percent: 5,

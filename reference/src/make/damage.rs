@@ -1,10 +1,12 @@
 //! Job files damaged at each byte and in their layout, for refusals 1 to 5. A damaged file is of
 //! the edition of the whole one, but for what damages the edition.
 
+use std::ops::Range;
+
 use crate::bytes::{u16_at, u32_at};
 use crate::job::{
-    header_length, tables_of, Job, COUNTS_AT, EDITION_AT, HIGHEST, LATEST_EDITION, OFFSETS_AT,
-    SERIAL_AT, SHORTEST_HEADER, TENTH_AT,
+    header_length, tables_of, Job, ADDED_ZERO_AT, COUNTS_AT, EDITION_AT, HIGHEST, LATEST_EDITION,
+    OFFSETS_AT, SERIAL_AT, SHORTEST_HEADER, TENTH_AT,
 };
 use crate::job_file::edition_in;
 use crate::random::Random;
@@ -29,15 +31,14 @@ pub fn full_job() -> Job {
         .goal(0, 0)
 }
 
-/// The same in an edition, from edition 2 on with timed facts.
+/// The same in an edition, from edition 2 on with timed facts, from edition 3 on with needs.
 pub fn full_job_of(edition: u16) -> Job {
+    let timed = |job: Job| job.timed(2, 40, 0).timed(1, 50, 1).timed(0, 8, 1);
+    let needing = |job: Job| job.need(1, 0, 6, 3).need(2, 1, 0, -7).need(0, 0, 0, 2);
     match edition {
         1 => full_job(),
-        _ => full_job()
-            .timed(2, 40, 0)
-            .timed(1, 50, 1)
-            .timed(0, 8, 1)
-            .edition(edition),
+        2 => timed(full_job()),
+        _ => needing(timed(full_job())),
     }
 }
 
@@ -78,13 +79,24 @@ pub fn other_editions(file: &[u8]) -> Vec<Vec<u8>> {
     patched_u16(file, EDITION_AT, &others)
 }
 
-/// Refusal 3: the serial mark and, in edition 1, the tenth number. A mark of 0 or 1 is good.
+/// Refusal 3: the serial mark, in edition 1 the tenth number and in edition 3 the added zero. A mark
+/// of 0 or 1 is good.
 pub fn wrong_marks(file: &[u8]) -> Vec<Vec<u8>> {
     let mut files = patched_u16(file, SERIAL_AT, &[0, 1, 2, 256, 257, 65_535]);
     if edition_in(file) == 1 {
         files.extend(patched_u16(file, TENTH_AT, &[1, 256, 65_535]));
     }
+    if edition_in(file) == 3 {
+        files.extend(patched_u16(file, ADDED_ZERO_AT, &[1, 256, 65_535]));
+    }
     files
+}
+
+/// Jobs of editions 1 and 2 with a level at the bytes at which edition 3 counts the needs and has the
+/// added zero: none of these is 0. All are well formed.
+pub fn levels_where_edition_3_counts() -> Vec<Job> {
+    let job = Job::default().level(-1, -1, -1);
+    vec![job.clone(), job.edition(2)]
 }
 
 /// Each table at its highest count, all others as small as that allows. All are well formed.
@@ -112,7 +124,8 @@ fn filled(table: usize, count: usize) -> Job {
         4 => job = repeated(job, count, |job, at| job.effect(0, 0, at, 1)),
         5 => job = repeated(job, count, |job, at| job.uses(0, 0, at, 1)),
         6 => job = repeated(job, count, |job, at| job.goal_by(0, 0, at)),
-        _ => job = repeated(job, count, |job, tick| job.timed(0, tick, 1)),
+        7 => job = repeated(job, count, |job, tick| job.timed(0, tick, 1)),
+        _ => job = repeated(job, count, |job, at| job.need(0, 0, at, 0)),
     }
     job
 }
@@ -145,22 +158,31 @@ pub fn wrong_counts(file: &[u8]) -> Vec<Vec<u8>> {
 /// Refusal 4: effects and timed facts that together come to 65,536 or more, so that their sum in a
 /// u16 would begin again at 0.
 pub fn effects_and_timed_facts_past_counting(file: &[u8]) -> Vec<Vec<u8>> {
-    let (effects_at, timed_at) = (COUNTS_AT[4], COUNTS_AT[7]);
-    let counts: [(u16, u16); 4] = [(65_472, 64), (65_535, 3), (65_535, 65_535), (2, 65_535)];
-    counts
-        .map(|(effects, timed)| {
-            let file = patched(file, effects_at, &effects.to_le_bytes());
-            patched(&file, timed_at, &timed.to_le_bytes())
-        })
-        .to_vec()
+    let counts = [(65_472, 64), (65_535, 3), (65_535, 65_535), (2, 65_535)];
+    two_counts(file, [4, 7], &counts)
+}
+
+/// The same of uses and needs.
+pub fn uses_and_needs_past_counting(file: &[u8]) -> Vec<Vec<u8>> {
+    let counts = [(65_408, 128), (65_535, 4), (65_535, 65_535), (3, 65_535)];
+    two_counts(file, [5, 8], &counts)
+}
+
+/// The counts of two tables, changed.
+fn two_counts(file: &[u8], tables: [usize; 2], counts: &[(u16, u16)]) -> Vec<Vec<u8>> {
+    let [one_at, other_at] = tables.map(|table| COUNTS_AT[table]);
+    let both = |&(one, other): &(u16, u16)| {
+        let file = patched(file, one_at, &one.to_le_bytes());
+        patched(&file, other_at, &other.to_le_bytes())
+    };
+    counts.iter().map(both).collect()
 }
 
 /// Refusal 5: offsets off by a little, by a lot, and swapped.
 pub fn wrong_offsets(file: &[u8]) -> Vec<Vec<u8>> {
-    let tables = tables_of(edition_in(file));
+    let offsets_at = &OFFSETS_AT[..tables_of(edition_in(file))];
     let mut files = Vec::new();
-    for table in 0..tables {
-        let at = OFFSETS_AT + 4 * table;
+    for &at in offsets_at {
         let offset = u32_at(file, at);
         let wrong = [
             offset + 1,
@@ -172,11 +194,10 @@ pub fn wrong_offsets(file: &[u8]) -> Vec<Vec<u8>> {
         ];
         files.extend(wrong.map(|number| patched(file, at, &number.to_le_bytes())));
     }
-    for table in 1..tables {
-        let at = OFFSETS_AT + 4 * table;
+    for two in offsets_at.windows(2) {
         let mut swapped = file.to_vec();
-        swapped.copy_within(at..at + 4, at - 4);
-        swapped[at..at + 4].copy_from_slice(&file[at - 4..at]);
+        swapped.copy_within(two[1]..two[1] + 4, two[0]);
+        swapped[two[1]..two[1] + 4].copy_from_slice(&file[two[0]..two[0] + 4]);
         files.push(swapped);
     }
     files
@@ -196,15 +217,19 @@ pub fn wrong_lengths(file: &[u8]) -> Vec<Vec<u8>> {
     ]
 }
 
-/// Two header numbers that change places, counts mostly.
+/// Two header numbers that change places, counts mostly; in edition 3 also the count of the needs
+/// and the added zero.
 pub fn swapped_header_numbers(file: &[u8]) -> Vec<Vec<u8>> {
-    (0..9)
-        .map(|number| {
-            let mut swapped = file.to_vec();
-            swapped[2 * number..2 * number + 4].rotate_left(2);
-            swapped
-        })
-        .collect()
+    let mut first_at: Vec<usize> = (0..9).map(|number| 2 * number).collect();
+    if edition_in(file) == 3 {
+        first_at.push(COUNTS_AT[8]);
+    }
+    let swapped = |at: usize| {
+        let mut swapped = file.to_vec();
+        swapped[at..at + 4].rotate_left(2);
+        swapped
+    };
+    first_at.into_iter().map(swapped).collect()
 }
 
 pub fn layouts(file: &[u8]) -> Vec<Vec<u8>> {
@@ -225,8 +250,13 @@ pub fn layouts(file: &[u8]) -> Vec<Vec<u8>> {
 
 /// Each byte in turn, changed three ways.
 pub fn each_byte(file: &[u8]) -> Vec<Vec<u8>> {
+    each_byte_of(file, 0..file.len())
+}
+
+/// Each byte of a part.
+pub fn each_byte_of(file: &[u8], part: Range<usize>) -> Vec<Vec<u8>> {
     let mut files = Vec::new();
-    for at in 0..file.len() {
+    for at in part {
         for other in [file[at] ^ 1, file[at] ^ 128, !file[at]] {
             files.push(patched(file, at, &[other]));
         }

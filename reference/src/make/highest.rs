@@ -18,6 +18,13 @@ pub fn highest_timed_job(seed: u64, facts: usize) -> Job {
     sound_job(&mut random, &shape)
 }
 
+/// The same with 128 needs as well.
+pub fn highest_needs_job(seed: u64, facts: usize) -> Job {
+    let mut random = Random::seeded(seed);
+    let shape = Shape::highest(&mut random, facts).with_most_needs();
+    sound_job(&mut random, &shape)
+}
+
 /// 64 steps that all overlap, each taking at its start and giving back at its end: 4,032 orders.
 pub fn every_pair_ordered_both_ways() -> Job {
     let steps = HIGHEST[2];

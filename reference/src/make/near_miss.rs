@@ -1,6 +1,7 @@
-//! Jobs that would be sound but for one nudge, for each of the refusals 10 to 14 and 17.
+//! Jobs that would be sound but for one nudge, for each of the refusals 10 to 14, 17 and 21.
 
 use crate::job::Job;
+use crate::make::need_nudges::nudge_a_need;
 use crate::make::sound::{sound_job, Shape};
 use crate::make::timed_nudges::nudge_a_timed_fact;
 use crate::random::Random;
@@ -11,6 +12,9 @@ pub fn nearly_missed(edition: u16) -> Vec<u16> {
     let mut numbers: Vec<u16> = (10..=14).collect();
     if edition > 1 {
         numbers.push(17);
+    }
+    if edition > 2 {
+        numbers.push(21);
     }
     numbers
 }
@@ -43,6 +47,7 @@ fn nudge(random: &mut Random, job: &mut Job, number: u16) {
         11 if random.chance(60) => stretch_or_flip_a_condition(random, job),
         12 if random.chance(60) => tighten_a_level(random, job),
         13 => hurry_or_flip_a_goal(random, job),
+        21 if random.chance(80) => nudge_a_need(random, job),
         _ => move_or_stretch_a_step(random, job),
     }
 }

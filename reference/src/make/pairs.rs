@@ -256,6 +256,23 @@ pub fn beside_timed_facts() -> Vec<Job> {
     ]
 }
 
+/// What a step needs makes no pair, met or not, where it sets a fact both ways too or does not.
+pub fn beside_needs() -> Vec<Job> {
+    let needing = |least| {
+        steps(2)
+            .level(1, 0, 1)
+            .need(1, 0, 2, least)
+            .need(1, 0, 2, 1)
+    };
+    vec![
+        needing(1),
+        needing(2),
+        needing(2).effect(1, 0, 2, 1).effect(1, 0, 2, 1),
+        needing(2).effect(1, 0, 2, 1).effect(1, 0, 2, 0),
+        needing(1).effect(0, 0, 2, 1).effect(1, 0, 2, 0),
+    ]
+}
+
 /// A pair beside a record that breaks its range, table by table: refusal 6 comes first.
 pub fn beside_a_broken_record() -> Vec<Job> {
     let pair = || steps(2).effect(1, 0, 2, 1).effect(1, 0, 2, 0);

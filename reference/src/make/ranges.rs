@@ -1,7 +1,7 @@
 //! Job files with records out of their ranges, for refusal 6: each range at its limits and one
 //! beyond, in every table, and two broken records at once.
 
-use crate::job::{tables_of, Condition, Effect, Goal, Job, Step, TimedFact, Use};
+use crate::job::{tables_of, Condition, Effect, Goal, Job, Need, Step, TimedFact, Use};
 
 /// Every field of the last records at each limit of its range and beyond it.
 pub fn ranges(job: &Job) -> Vec<Job> {
@@ -14,6 +14,7 @@ pub fn ranges(job: &Job) -> Vec<Job> {
         uses(job),
         goals(job),
         timed_facts(job),
+        needs(job),
     ]
     .concat()
 }
@@ -245,6 +246,43 @@ fn timed_facts(job: &Job) -> Vec<Job> {
     jobs
 }
 
+/// None before edition 3, which is the first to have a table for them.
+pub fn needs(job: &Job) -> Vec<Job> {
+    if job.edition < 3 {
+        return vec![];
+    }
+    let length = 7;
+    let host = job.clone().step(0, length);
+    let step = host.steps.len() - 1;
+    let plain = Need {
+        step,
+        level: 0,
+        at: 0,
+        least: 1,
+    };
+    let set = |need: Need| {
+        let mut job = host.clone();
+        job.needs.push(need);
+        job
+    };
+    let far = 1_000_000_000;
+    let leasts = [
+        0,
+        far,
+        far + 1,
+        -far,
+        -far - 1,
+        i64::from(i32::MIN),
+        i64::from(i32::MAX),
+    ];
+    let mut jobs = Vec::new();
+    jobs.extend(points(length).map(|at| set(Need { at, ..plain })));
+    jobs.extend(names(host.steps.len()).map(|step| set(Need { step, ..plain })));
+    jobs.extend(names(host.levels.len()).map(|level| set(Need { level, ..plain })));
+    jobs.extend(leasts.map(|least| set(Need { least, ..plain })));
+    jobs
+}
+
 /// Two broken records, of one table or of two. The earlier a table, the later its broken record, so
 /// that the place tells which of two tables was looked at first.
 pub fn two_broken_records(edition: u16) -> Vec<Job> {
@@ -268,13 +306,16 @@ fn several_of_each(edition: u16, several: usize) -> Job {
     let mut job = Job::with_facts(&vec![0; several]).edition(edition);
     for number in 0..several {
         job = job.level(0, -9, 9).step(0, 9);
-        let at = number as i64;
+        let at = number as i64 % 10;
         job = job
             .condition(0, number, 0, 9, 0)
             .effect(number, number, at, 0);
         job = job.uses(0, number, 0, 1).goal(number, 0);
         if edition > 1 {
             job = job.timed(number, at, 0);
+        }
+        if edition > 2 {
+            job = job.need(number, number, at, -9);
         }
     }
     job
@@ -289,6 +330,7 @@ fn broken_at(job: &mut Job, (table, number): (usize, usize)) {
         4 => job.effects[number].value = 2,
         5 => job.uses[number].amount = 0,
         6 => job.goals[number].value = 2,
-        _ => job.timed[number].value = 2,
+        7 => job.timed[number].value = 2,
+        _ => job.needs[number].at = 10,
     }
 }

@@ -1,6 +1,6 @@
 //! Jobs scribbled down without a thought: each record by itself is in range, most of the time.
 
-use crate::job::{Condition, Effect, Goal, Job, Level, Step, TimedFact, Use};
+use crate::job::{Condition, Effect, Goal, Job, Level, Need, Step, TimedFact, Use};
 use crate::random::Random;
 
 pub fn scribbled_job(random: &mut Random, edition: u16) -> Job {
@@ -30,6 +30,9 @@ pub fn scribbled_job(random: &mut Random, edition: u16) -> Job {
         job.timed = (0..random.below(6))
             .map(|_| timed_fact(random, &job))
             .collect();
+    }
+    if edition > 2 && !job.steps.is_empty() && !job.levels.is_empty() {
+        job.needs = (0..random.below(4)).map(|_| need(random, &job)).collect();
     }
     job
 }
@@ -114,5 +117,16 @@ fn timed_fact(random: &mut Random, job: &Job) -> TimedFact {
         fact: random.below(job.facts.len()),
         tick: random.between(0, 12) * random.pick(&[1, 1, 2]),
         value: bit(random),
+    }
+}
+
+/// Most are met by what such levels hold.
+fn need(random: &mut Random, job: &Job) -> Need {
+    let step = random.below(job.steps.len());
+    Need {
+        step,
+        level: random.below(job.levels.len()),
+        at: point(random, job.steps[step].length),
+        least: random.between(-6, 1),
     }
 }

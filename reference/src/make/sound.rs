@@ -1,12 +1,12 @@
 //! Sound jobs of many shapes, built by simulating forward: effects and timed facts get their values
-//! tick by tick, and conditions, bounds and goals are read off what then happens.
+//! tick by tick, and conditions, bounds, goals and needs are read off what then happens.
 
 use std::collections::{BTreeMap, BTreeSet};
 
-use crate::job::{Condition, Effect, Goal, Job, Level, Step, TimedFact, Use, HIGHEST};
+use crate::job::{Condition, Effect, Goal, Job, Level, Need, Step, TimedFact, Use, HIGHEST};
 use crate::random::Random;
 use crate::setters::{setters, Setter};
-use crate::timing::{end_value, value_seen};
+use crate::timing::{end_value, left_for, value_seen};
 
 /// How much of everything a job is to have. Records that find no room stay out.
 pub struct Shape {
@@ -20,6 +20,7 @@ pub struct Shape {
     pub uses: usize,
     pub goals: usize,
     pub timed: usize,
+    pub needs: usize,
     pub last_start: i64,
     pub longest: i64,
     pub fixed_percent: u64,
@@ -51,6 +52,7 @@ impl Shape {
             uses: random.below(steps + 2),
             goals: random.below(3),
             timed: 0,
+            needs: 0,
             last_start,
             longest,
             fixed_percent: random.pick(&[0, 0, 15, 40]),
@@ -58,18 +60,24 @@ impl Shape {
         }
     }
 
-    /// The same in this edition; from edition 2 on mostly with some timed facts.
+    /// The same in this edition; from edition 2 on mostly with some timed facts, from edition 3 on
+    /// mostly with some needs, and with a level for them.
     pub fn in_edition(self, random: &mut Random, edition: u16) -> Shape {
-        if edition == 1 {
-            return self;
+        let mut shape = Shape { edition, ..self };
+        if edition > 1 {
+            shape.timed = shape.none_or_more(random);
         }
+        if edition > 2 {
+            shape.needs = shape.none_or_more(random);
+            shape.levels = shape.levels.max(1);
+            shape.uses += random.below(shape.steps + 1);
+        }
+        shape
+    }
+
+    fn none_or_more(&self, random: &mut Random) -> usize {
         let few = 1 + random.below(4);
-        let timed = random.pick(&[0, few, few, few, few + self.steps, 2 * self.steps]);
-        Shape {
-            edition,
-            timed,
-            ..self
-        }
+        random.pick(&[0, few, few, few, few + self.steps, 2 * self.steps])
     }
 
     /// Few enough ticks and steps to try every choice nearby.
@@ -110,6 +118,7 @@ impl Shape {
             uses: HIGHEST[5],
             goals: HIGHEST[6],
             timed: 0,
+            needs: 0,
             last_start: 1_000_000,
             longest: random.pick(&[2_000, 100_000]),
             fixed_percent: 5,
@@ -128,6 +137,15 @@ impl Shape {
             edition: 2,
             timed: HIGHEST[7],
             ..self
+        }
+    }
+
+    /// The same in edition 3, with as many timed facts and needs as there can be.
+    pub fn with_most_needs(self) -> Shape {
+        Shape {
+            edition: 3,
+            needs: HIGHEST[8],
+            ..self.with_most_timed_facts()
         }
     }
 }
@@ -163,6 +181,9 @@ pub fn sound_job(random: &mut Random, shape: &Shape) -> Job {
     }
     job.levels = levels(random, &job, shape.levels);
     job.goals = (0..shape.goals).map(|_| goal(random, &job)).collect();
+    if !job.steps.is_empty() && !job.levels.is_empty() {
+        job.needs = (0..shape.needs).map(|_| need(random, &job)).collect();
+    }
     random.shuffle(&mut job.effects);
     random.shuffle(&mut job.uses);
     random.shuffle(&mut job.timed);
@@ -440,4 +461,37 @@ fn goal(random: &mut Random, job: &Job) -> Goal {
         value,
         deadline,
     }
+}
+
+/// What is left of a level at a point, or a little less.
+fn need(random: &mut Random, job: &Job) -> Need {
+    let (step, level, at) = place_of_a_need(random, job);
+    let least = 0;
+    let need = Need {
+        step,
+        level,
+        at,
+        least,
+    };
+    let left = left_for(job, &job.written_starts(), &need);
+    let least = left - random.pick(&[0, 0, 0, 0, 1, 3, 2_000_000]);
+    Need { least, ..need }
+}
+
+/// Mostly at the tick of a use or beside it, of any step that lasts then, the user's own too.
+fn place_of_a_need(random: &mut Random, job: &Job) -> (usize, usize, i64) {
+    if !job.uses.is_empty() && random.chance(70) {
+        let used = random.pick(&job.uses);
+        let tick = used.tick(&job.written_starts()) + random.pick(&[0, 0, 0, 1, -1]);
+        let lasts = |step: &Step| (step.start..=step.start + step.length).contains(&tick);
+        let steps = (0..job.steps.len()).filter(|&step| lasts(&job.steps[step]));
+        let steps: Vec<usize> = steps.collect();
+        if !steps.is_empty() {
+            let step = random.pick(&steps);
+            return (step, used.level, tick - job.steps[step].start);
+        }
+    }
+    let step = random.below(job.steps.len());
+    let level = random.below(job.levels.len());
+    (step, level, point(random, job.steps[step].length))
 }

@@ -307,7 +307,7 @@ fn beside_the_clock(job: Job) -> Job {
 
 /// The step of each effect, and of each condition.
 fn one_tie(giving: impl Fn(usize) -> usize, wanting: impl Fn(usize) -> usize) -> Job {
-    let [_, _, steps, conditions, effects, _, goals, _] = HIGHEST;
+    let [_, _, steps, conditions, effects, _, goals, ..] = HIGHEST;
     let mut job = Job::with_facts(&[0]);
     for step in 0..steps as i64 {
         job = job.step(100 - step, 200);

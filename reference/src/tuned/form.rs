@@ -2,8 +2,8 @@
 
 use crate::bytes::{i32_at, u16_at, u32_at};
 use crate::job::{
-    header_length, HIGHEST, LATEST_EDITION, NO_DEADLINE, SERIAL_AT, SHORTEST_HEADER, TABLES,
-    TENTH_AT, WIDTHS,
+    header_length, ADDED_ZERO_AT, HIGHEST, LATEST_EDITION, NO_DEADLINE, SERIAL_AT, SHORTEST_HEADER,
+    TABLES, TENTH_AT, WIDTHS,
 };
 use crate::job_file::{counts_in, edition_in, layout, offsets_in};
 use crate::refusal::{refuse_at, refuse_if, Refusal, Verdict};
@@ -21,6 +21,7 @@ pub struct Form<'a> {
     pub uses: &'a [[u8; WIDTHS[5]]],
     pub goals: &'a [[u8; WIDTHS[6]]],
     pub timed: &'a [[u8; WIDTHS[7]]],
+    pub needs: &'a [[u8; WIDTHS[8]]],
 }
 
 pub struct Steps {
@@ -33,7 +34,7 @@ pub struct Steps {
 
 impl Form<'_> {
     pub fn read(file: &[u8]) -> Result<Form<'_>, Refusal> {
-        let [facts, levels, steps, conditions, effects, uses, goals, timed] = tables(file)?;
+        let [facts, levels, steps, conditions, effects, uses, goals, timed, needs] = tables(file)?;
         refuse_at(6, facts.iter().position(|&initial| initial > 1))?;
         let levels = levels.as_chunks().0;
         refuse_at(6, levels.iter().position(level_breaks))?;
@@ -47,6 +48,7 @@ impl Form<'_> {
             uses: uses.as_chunks().0,
             goals: goals.as_chunks().0,
             timed: timed.as_chunks().0,
+            needs: needs.as_chunks().0,
         };
         form.check_records()?;
         Ok(form)
@@ -63,7 +65,9 @@ impl Form<'_> {
         let goal = |g: &_| goal_breaks(g, facts);
         refuse_at(6, self.goals.iter().position(goal))?;
         let timed = |t: &_| timed_fact_breaks(t, facts);
-        refuse_at(6, self.timed.iter().position(timed))
+        refuse_at(6, self.timed.iter().position(timed))?;
+        let need = |n: &[u8; 12]| self.point_breaks(n, levels) || least_breaks(i32_at(n, 8));
+        refuse_at(6, self.needs.iter().position(need))
     }
 
     fn condition_breaks(&self, condition: &[u8; 14], facts: usize) -> bool {
@@ -72,7 +76,7 @@ impl Form<'_> {
         !(fact < facts && from <= to && self.steps.has(step, to) && u16_at(condition, 12) <= 1)
     }
 
-    /// What effects and uses have in common: step, fact or level, point.
+    /// What effects, uses and needs have in common: step, fact or level, point.
     fn point_breaks(&self, record: &[u8], counted: usize) -> bool {
         let (step, name) = names(record);
         !(name < counted && self.steps.has(step, u32_at(record, 4)))
@@ -86,7 +90,11 @@ fn tables(file: &[u8]) -> Result<[&[u8]; TABLES], Refusal> {
     refuse_if(2, edition == 0 || edition > LATEST_EDITION)?;
     refuse_if(1, file.len() < header_length(edition))?;
     let tenth_breaks = edition == 1 && u16_at(file, TENTH_AT) != 0;
-    refuse_if(3, u16_at(file, SERIAL_AT) > 1 || tenth_breaks)?;
+    let zero_breaks = edition == 3 && u16_at(file, ADDED_ZERO_AT) != 0;
+    refuse_if(
+        3,
+        u16_at(file, SERIAL_AT) > 1 || tenth_breaks || zero_breaks,
+    )?;
     let counts = counts_in(file);
     refuse_if(4, (0..TABLES).any(|table| counts[table] > HIGHEST[table]))?;
     let (offsets, end) = layout(edition, counts);
@@ -115,6 +123,10 @@ fn level_breaks(level: &[u8; 12]) -> bool {
 
 fn amount_breaks(amount: i32) -> bool {
     amount == 0 || !(-1_000_000..=1_000_000).contains(&amount)
+}
+
+fn least_breaks(least: i32) -> bool {
+    !(-1_000_000_000..=1_000_000_000).contains(&least)
 }
 
 fn goal_breaks(goal: &[u8; 8], facts: usize) -> bool {

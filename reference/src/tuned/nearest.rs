@@ -6,6 +6,7 @@
 //! step's points after p, only the soonest can be nearest to it.
 
 use super::form::{Form, STEPS};
+use super::needs::Needs;
 use super::points::{Point, Points};
 use super::sound::Links;
 
@@ -29,7 +30,7 @@ impl Nearest {
     };
 
     /// By the rules for orders from a sound job.
-    pub fn find(&mut self, form: &Form, points: &Points, links: &Links) {
+    pub fn find(&mut self, form: &Form, points: &Points, needs: Option<&Needs>, links: &Links) {
         for fact in 0..form.facts.len() {
             let effects = points.effects.group(fact);
             let conditions = points.conditions.group(fact);
@@ -46,6 +47,9 @@ impl Nearest {
                 self.pairs_of_a_level(uses);
             } else {
                 self.rows_of_a_level(uses);
+            }
+            if let Some(needs) = needs {
+                self.needs_of_a_level(uses, needs.group(level));
             }
         }
         if form.serial {
@@ -146,6 +150,39 @@ impl Nearest {
             for q in at_one_tick {
                 soonest.note(*q);
             }
+        }
+    }
+
+    /// Rule 4: needs and uses, as they lie.
+    #[cold]
+    fn needs_of_a_level(&mut self, uses: &[Point], needs: &[Point]) {
+        if uses.len().min(needs.len()) < MANY {
+            self.pairs_before(needs, uses);
+            self.pairs_before(uses, needs);
+        } else {
+            self.rows_before(needs, uses);
+            self.rows_before(uses, needs);
+        }
+    }
+
+    /// Each of the first that lies before any of the others.
+    fn pairs_before(&mut self, first: &[Point], second: &[Point]) {
+        for p in first {
+            for q in second.iter().filter(|q| p.tick() < q.tick()) {
+                self.raise(p.step(), q.step(), p.tick() - q.tick());
+            }
+        }
+    }
+
+    /// The same, back in time.
+    fn rows_before(&mut self, first: &[Point], second: &[Point]) {
+        let mut soonest = Soonest::NONE;
+        let mut second = second.iter().rev().peekable();
+        for p in first.iter().rev() {
+            while let Some(q) = second.next_if(|q| p.tick() < q.tick()) {
+                soonest.note(*q);
+            }
+            self.raise_row(p.step(), p.tick(), &soonest);
         }
     }
 

@@ -1,7 +1,8 @@
-//! Refusals 7, 17 and 10 to 14, and the links, which the walk along each fact meets anyway.
+//! Refusals 7, 17, 10 to 14 and 21, and the links, which the walk along each fact meets anyway.
 
 use super::clock::Clock;
 use super::form::{Form, Steps, STEPS};
+use super::needs::Needs;
 use super::points::{Point, Points};
 use super::ties::TiedFacts;
 use crate::bytes::{i32_at, u16_at, u32_at};
@@ -19,6 +20,7 @@ pub fn link(
     form: &Form,
     points: &Points,
     clock: Option<&Clock>,
+    needs: Option<&Needs>,
     links: &mut Links,
 ) -> Result<TiedFacts, Refusal> {
     let mut found = Found::default();
@@ -39,9 +41,7 @@ pub fn link(
         walk.pass_setters_before(i32::MAX);
         ends[fact] = walk.link;
     }
-    for level in 0..form.levels.len() {
-        found.level(form, level, points.uses.group(level));
-    }
+    found.levels(form, points, needs);
     found.refuse()?;
     for (number, goal) in form.goals.iter().enumerate() {
         let link = ends[usize::from(u16_at(goal, 0))];
@@ -141,11 +141,12 @@ impl Walk<'_> {
 struct Found {
     /// Refusal 7: one bit a step.
     against_itself: u64,
-    /// Refusals 17 and 10 to 12: the lowest place.
+    /// Refusals 17, 10 to 12 and 21: the lowest place.
     timed_both_ways: Option<usize>,
     meeting: Option<usize>,
     condition: Option<usize>,
     level: Option<usize>,
+    need: Option<usize>,
     tied: TiedFacts,
 }
 
@@ -156,7 +157,8 @@ impl Found {
         refuse_at(17, self.timed_both_ways)?;
         refuse_at(10, self.meeting)?;
         refuse_at(11, self.condition)?;
-        refuse_at(12, self.level)
+        refuse_at(12, self.level)?;
+        refuse_at(21, self.need)
     }
 
     /// What opposes each other on one fact at one tick: effects of one step or of two, timed facts.
@@ -217,6 +219,16 @@ impl Found {
         }
     }
 
+    fn levels(&mut self, form: &Form, points: &Points, needs: Option<&Needs>) {
+        for level in 0..form.levels.len() {
+            let uses = points.uses.group(level);
+            self.level(form, level, uses);
+            if let Some(needs) = needs {
+                self.needs(form, level, uses, needs.group(level));
+            }
+        }
+    }
+
     /// Falls do not wait for the tick's rises, nor rises for its falls.
     fn level(&mut self, form: &Form, number: usize, uses: &[Point]) {
         let level = &form.levels[number];
@@ -234,6 +246,29 @@ impl Found {
                 lower(&mut self.level, number);
             }
             amount += falls + rises;
+        }
+    }
+
+    /// Of the tick of a need only the falls of other steps count.
+    #[cold]
+    fn needs(&mut self, form: &Form, level: usize, uses: &[Point], needs: &[Point]) {
+        let change = |used: &Point| i32_at(&form.uses[used.number()], 8);
+        let mut amount = i32_at(&form.levels[level], 0);
+        let mut coming = uses;
+        for need in needs {
+            while let Some((used, later)) = coming.split_first() {
+                if used.tick() >= need.tick() {
+                    break;
+                }
+                amount += change(used);
+                coming = later;
+            }
+            let now = coming.iter().take_while(|u| u.tick() == need.tick());
+            let others = now.filter(|u| u.step() != need.step());
+            let falls: i32 = others.map(|u| change(u).min(0)).sum();
+            if amount + falls < i32_at(&form.needs[need.number()], 8) {
+                lower(&mut self.need, need.number());
+            }
         }
     }
 }

@@ -12,7 +12,8 @@ use callers::Packed;
 use measure::{alone, in_turn, Nanoseconds};
 use reference::job::Job;
 use reference::make::bench_jobs::{
-    bench_job, searched_bench_jobs, timed_bench_job, Spread, SPREADS, TIMED_SPREADS,
+    bench_job, needs_bench_job, searched_bench_jobs, timed_bench_job, Spread, SPREADS,
+    TIMED_SPREADS,
 };
 use reference::make::telling::small_job;
 use reference::make::ties::every_step_in_one_tie;
@@ -52,6 +53,10 @@ fn print_all() {
         print_row(&name, measure(&timed_bench_job(spread)));
     }
     print_row("one tie", measure(&every_step_in_one_tie()));
+    for spread in TIMED_SPREADS {
+        let name = format!("needs, {}", spread.name());
+        print_row(&name, measure(&needs_bench_job(spread)));
+    }
     println!("\nthe search for a fact set both ways by itself, and the job check");
     println!("{:30}{:>10}{:>10}{:>10}", "", "pairs", "search", "check");
     for (name, job) in searched_bench_jobs() {

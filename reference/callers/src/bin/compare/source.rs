@@ -4,17 +4,22 @@
 use reference::bytes::u16_at;
 use reference::job::{Job, LATEST_EDITION};
 use reference::made::some_edition;
-use reference::make::bench_jobs::{bench_job, timed_bench_job, SPREADS, TIMED_SPREADS};
+use reference::make::bench_jobs::{
+    bench_job, needs_bench_job, timed_bench_job, SPREADS, TIMED_SPREADS,
+};
 use reference::make::crowded::crowded_job;
 use reference::make::edges::edges;
 use reference::make::highest::{chain_of_all_steps, every_pair_ordered_both_ways};
 use reference::make::near_miss::{near_miss, nearly_missed};
+use reference::make::need_edges::need_edges;
+use reference::make::need_telling::{largest_needs, need_telling_jobs};
+use reference::make::need_timings::need_timings;
 use reference::make::order_files::{
     alike_files, broken_files, each_byte, files_at_the_limits, files_with_timed_links,
     highest_file, some_file, too_many_orders, unlike_files,
 };
 use reference::make::own_conflicts::{own_conflicts, some_own_conflict};
-use reference::make::pairs::{beside_timed_facts, large_pairs, small_pairs};
+use reference::make::pairs::{beside_needs, beside_timed_facts, large_pairs, small_pairs};
 use reference::make::pddl::by_hand::{all, Told};
 use reference::make::pddl::damage as texts_damage;
 use reference::make::pddl::highest::{highest_texts, last_records_at_fault, LONGEST_JOB};
@@ -88,7 +93,8 @@ impl Pool {
             .extend(damaged.map(|file| (file, vec![10, 20, 30])));
         let timings = match edition {
             1 => telling_timings(),
-            _ => timed_timings(),
+            2 => timed_timings(),
+            _ => need_timings(),
         };
         let timings = timings.into_iter();
         self.jobs
@@ -106,24 +112,26 @@ fn by_hand(edition: u16) -> Vec<Job> {
             telling_jobs(),
             [edges(), own_conflicts(), small_pairs()].concat(),
         ),
-        _ => (
+        2 => (
             timed_telling_jobs(),
             [timed_edges(), beside_timed_facts()].concat(),
         ),
+        _ => (need_telling_jobs(), [need_edges(), beside_needs()].concat()),
     };
     let telling = telling.into_iter().map(|(_, job)| job);
     telling.chain(more).collect()
 }
 
 fn large(edition: u16) -> Vec<Job> {
-    let (mut large, ties) = match edition {
+    let (mut large, more) = match edition {
         1 => (large_without_the_clock(), largest_ties()),
-        _ => (
+        2 => (
             TIMED_SPREADS.map(timed_bench_job).to_vec(),
             largest_timed_ties(),
         ),
+        _ => (TIMED_SPREADS.map(needs_bench_job).to_vec(), largest_needs()),
     };
-    large.extend(ties.into_iter().map(|(_, job)| job));
+    large.extend(more.into_iter().map(|(_, job)| job));
     large
 }
 
@@ -158,11 +166,19 @@ fn damaged(edition: u16) -> Vec<Vec<u8>> {
     .concat()
 }
 
+/// Edition 3 makes no others possible than edition 2.
 fn order_files(edition: u16) -> Vec<Vec<u8>> {
-    if edition > 1 {
-        let linked = files_with_timed_links();
-        return linked.iter().map(OrderFile::to_file).collect();
+    match edition {
+        1 => order_files_without_the_clock(),
+        2 => {
+            let linked = files_with_timed_links();
+            linked.iter().map(OrderFile::to_file).collect()
+        }
+        _ => vec![],
     }
+}
+
+fn order_files_without_the_clock() -> Vec<Vec<u8>> {
     let good = [files_at_the_limits(), alike_files(), unlike_files()].concat();
     let mut files: Vec<Vec<u8>> = good.iter().map(OrderFile::to_file).collect();
     files.extend(broken_files().into_iter().map(|(_, file)| file));

@@ -2,7 +2,7 @@
 
 use std::fmt::Write;
 
-const NUMBERS: usize = 21;
+const NUMBERS: usize = 22;
 
 #[derive(Clone, Copy)]
 pub enum Entry {
@@ -18,14 +18,14 @@ pub enum Entry {
 
 /// The name of each entry point, and which numbers it gives: one bit a number.
 const ENTRIES: [(&str, u32); 8] = [
-    ("jobs_check", 0b10_0111_1100_1111_1111),
-    ("jobs_check_schedule", 0b10_0111_1111_1111_1111),
-    ("jobs_pairs", 0b00_0000_0000_0111_1111),
-    ("jobs_partialize", 0b10_1111_1100_1111_1111),
-    ("jobs_order_header", 0b01_0000_0000_0000_0001),
-    ("jobs_order_record", 0b01_0000_0000_0000_0001),
-    ("jobs_alike", 0b01_0000_0000_0000_0001),
-    ("jobs_from_pddl", 0b1_1100_1011_1100_1101_0001),
+    ("jobs_check", 0b10_0010_0111_1100_1111_1111),
+    ("jobs_check_schedule", 0b10_0010_0111_1111_1111_1111),
+    ("jobs_pairs", 0b00_0000_0000_0000_0111_1111),
+    ("jobs_partialize", 0b10_0010_1111_1100_1111_1111),
+    ("jobs_order_header", 0b00_0001_0000_0000_0000_0001),
+    ("jobs_order_record", 0b00_0001_0000_0000_0000_0001),
+    ("jobs_alike", 0b00_0001_0000_0000_0000_0001),
+    ("jobs_from_pddl", 0b01_1100_1011_1100_1101_0001),
 ];
 
 #[derive(Default)]
