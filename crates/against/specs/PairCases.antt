@@ -25,6 +25,7 @@ jobWith steps effects =
       uses = 0;
       goals = 0;
       timed = 0;
+      needs = 0;
       initial = λ k. 0;
       levelInitial = λ k. 0;
       levelLeast = λ k. 0;
@@ -51,6 +52,10 @@ jobWith steps effects =
       timedFact = λ k. 0;
       timedTick = λ k. 0;
       timedValue = λ k. 0;
+      needStep = λ k. 0;
+      needLevel = λ k. 0;
+      needAt = λ k. 0;
+      needLeast = λ k. 0;
     }
 
 pub record PairCase : Type 0 where

@@ -19,9 +19,9 @@ use Rattle.verdict.specs.Verdict.{number, place, _then_, refuseIf, refuseLowest
 use Rattle.verdict.proofs.Chain.{accepted-then, refuse-yes, refuse-zero, refuse-says, refuse-either, lowest-outcome, inTurn, FirstRefuses, in-turn}
 use Rattle.verdict.proofs.Unplaced.{unplaced}
 use Rattle.job.specs.declared.layout.Table.{Table}
-use Rattle.job.specs.declared.layout.Table.the-variants.{Facts, Levels, Steps, Conditions, Effects, Uses, Goals, TimedFacts}
+use Rattle.job.specs.declared.layout.Table.the-variants.{Facts, Levels, Steps, Conditions, Effects, Uses, Goals, TimedFacts, Needs}
 use Rattle.job.specs.declared.layout.Counts.{Counts}
-use Rattle.job.specs.Layout.{timedEdition, shortestHeader, headerWidth, highest, countsOf, countList, jobOf, countTooHigh}
+use Rattle.job.specs.Layout.{timedEdition, needsEdition, shortestHeader, headerWidth, highest, countsOf, countList, jobOf, countTooHigh}
 use Rattle.job.specs.Model.{Model, modelOf}
 use Rattle.header_check.specs.Header.{editionKnown, marksWrong, layoutAgrees, headerCheck}
 use Rattle.ranges.specs.Ranges.{countIn, recordBroken}
@@ -41,7 +41,7 @@ abbrev formStep : List ℕ → ℕ → Verdict
 formStep s zero = refuseIf (ltb (length s) shortestHeader) FileTooShort
 formStep s (suc zero) = refuseIf (not (editionKnown (jobOf s .edition))) UnknownEdition
 formStep s (suc (suc zero)) = refuseIf (ltb (length s) (headerWidth (jobOf s .edition))) FileTooShort
-formStep s (suc (suc (suc zero))) = refuseIf (marksWrong (jobOf s)) MarkOutOfRange
+formStep s (suc (suc (suc zero))) = refuseIf (marksWrong s (jobOf s)) MarkOutOfRange
 formStep s (suc (suc (suc (suc zero)))) = refuseIf (countTooHigh (jobOf s .count)) CountTooHigh
 formStep s (suc (suc (suc (suc (suc zero))))) = refuseIf (not (layoutAgrees s (jobOf s))) LayoutDisagrees
 formStep s (suc (suc (suc (suc (suc (suc zero)))))) = recordCheck (modelOf s)
@@ -78,16 +78,18 @@ tableOf (suc (suc (suc zero))) = Conditions
 tableOf (suc (suc (suc (suc zero)))) = Effects
 tableOf (suc (suc (suc (suc (suc zero))))) = Uses
 tableOf (suc (suc (suc (suc (suc (suc zero)))))) = Goals
-tableOf (suc (suc (suc (suc (suc (suc (suc k))))))) = TimedFacts
+tableOf (suc (suc (suc (suc (suc (suc (suc zero))))))) = TimedFacts
+tableOf (suc (suc (suc (suc (suc (suc (suc (suc k)))))))) = Needs
 
-records-in-turn : (m : Model) → recordCheck m ≡ inTurn (λ k. tableCheck m (tableOf k)) 8
+records-in-turn : (m : Model) → recordCheck m ≡ inTurn (λ k. tableCheck m (tableOf k)) 9
 unfolding recordCheck inTurn
 records-in-turn m =
     ap
     (λ (v : Verdict). v then tableCheck m Levels then tableCheck m Steps then tableCheck m Conditions then tableCheck m Effects
     then tableCheck m Uses
     then tableCheck m Goals
-    then tableCheck m TimedFacts)
+    then tableCheck m TimedFacts
+    then tableCheck m Needs)
     (sym (accepted-then (tableCheck m Facts)))
 
 table-back : (t : Table) → tableOf (tableNumber t) ≡ t
@@ -99,6 +101,7 @@ table-back Effects = refl
 table-back Uses = refl
 table-back Goals = refl
 table-back TimedFacts = refl
+table-back Needs = refl
 
 table-at : (k : ℕ) → tableNumber (tableOf k) ≤ k
 table-at zero = omega arith
@@ -108,7 +111,8 @@ table-at (suc (suc (suc zero))) = omega arith
 table-at (suc (suc (suc (suc zero)))) = omega arith
 table-at (suc (suc (suc (suc (suc zero))))) = omega arith
 table-at (suc (suc (suc (suc (suc (suc zero)))))) = omega arith
-table-at (suc (suc (suc (suc (suc (suc (suc k))))))) = omega arith
+table-at (suc (suc (suc (suc (suc (suc (suc zero))))))) = omega arith
+table-at (suc (suc (suc (suc (suc (suc (suc (suc k)))))))) = omega arith
 
 -- a check that refuses does so with its number
 abbrev Own : ℕ → Verdict → Type 0
@@ -140,13 +144,13 @@ module _ (m : Model) where
       }))
       (lowest-outcome (countIn m t) (recordBroken m t) RecordOutOfRange)
 
-  first-table : (number (recordCheck m) ≡ 0 → ⊥) → (j : ℕ) × FirstRefuses (λ k. tableCheck m (tableOf k)) 8 j
+  first-table : (number (recordCheck m) ≡ 0 → ⊥) → (j : ℕ) × FirstRefuses (λ k. tableCheck m (tableOf k)) 9 j
   first-table n =
       ⊎-elim
-      (λ (a : (number (inTurn (λ k. tableCheck m (tableOf k)) 8) ≡ 0) × ((k : ℕ) → k < 8 → number (tableCheck m (tableOf k)) ≡ 0)).
+      (λ (a : (number (inTurn (λ k. tableCheck m (tableOf k)) 9) ≡ 0) × ((k : ℕ) → k < 9 → number (tableCheck m (tableOf k)) ≡ 0)).
       absurd (n (ap number (records-in-turn m) ∙ a .0)))
-      (λ (a : (j : ℕ) × FirstRefuses (λ k. tableCheck m (tableOf k)) 8 j). a)
-      (in-turn (λ k. tableCheck m (tableOf k)) 8)
+      (λ (a : (j : ℕ) × FirstRefuses (λ k. tableCheck m (tableOf k)) 9 j). a)
+      (in-turn (λ k. tableCheck m (tableOf k)) 9)
 
   record-own : Own 6 (recordCheck m)
   record-own n =
@@ -402,14 +406,43 @@ module _ (m : Model) where
       subst (FirstOfTwo m) (sym (ap place (a .4))) (first-of-two (a .0) (a .1) (a .2) (a .3)))
       (lowest-outcome (m .timed) (timedConflicts m) TimedFactsConflict)
 
--- refusal 3, the other way round: where an edition has no timed facts, none is counted
-none-counted : (a b : Bool) → (a && not b) ≡ false → a ≡ true → b ≡ true
-none-counted a b e t = not-false b (sym (ap (λ x. x && not b) t) ∙ e)
+-- refusal 3: where a number of the header must be 0, it is
+kept-zero : (a b : Bool) → (a && not b) ≡ false → a ≡ true → b ≡ true
+kept-zero a b e t = not-false b (sym (ap (λ x. x && not b) t) ∙ e)
+
+mark-out :
+    (s : List ℕ) → marksWrong s (jobOf s) ≡ true
+    → (1 < u16At s 2) ⊎ (((u16At s 0 < timedEdition) × (u16At s 18 ≡ 0 → ⊥)) ⊎ ((u16At s 0 ≡ needsEdition) × (u16At s 54 ≡ 0 → ⊥)))
+unfolding jobOf countsOf marksWrong
+mark-out s e =
+    let mark = ltb 1 (u16At s 2) in
+    let counted = ltb (u16At s 0) timedEdition && not (eqb (u16At s 18) 0) in
+    let behind = eqb (u16At s 0) needsEdition && not (eqb (u16At s 54) 0) in
+    ⊎-elim
+    (λ (a : (mark || counted) ≡ true).
+    ⊎-elim
+    (λ (b : mark ≡ true). inl (ltb-true _ _ b))
+    (λ (b : counted ≡ true). let p = and-both _ _ b in inr (inl (ltb-true _ _ (p .0), eqb-false _ _ (not-true _ (p .1)))))
+    (or-out mark counted a))
+    (λ (a : behind ≡ true). let p = and-both _ _ a in inr (inr (eqb-true _ _ (p .0), eqb-false _ _ (not-true _ (p .1)))))
+    (or-out (mark || counted) behind e)
+
+marks-in :
+    (s : List ℕ) → marksWrong s (jobOf s) ≡ false
+    → (u16At s 2 ≤ 1) × (u16At s 0 < timedEdition → u16At s 18 ≡ 0) × (u16At s 0 ≡ needsEdition → u16At s 54 ≡ 0)
+unfolding jobOf countsOf marksWrong
+marks-in s e =
+    let b = or-both _ _ e in
+    let a = or-both _ _ (b .0) in (
+      ltb-false _ _ (a .0),
+      λ l. eqb-true _ _ (kept-zero _ _ (a .1) (lt-ltb _ _ l)),
+      λ q. eqb-true _ _ (kept-zero _ _ (b .1) (eq-eqb _ _ q)),
+    )
 
 -- refusal 4
-count-out : (c : Counts) → countTooHigh c ≡ true → (t : ℕ) × (t < 8) × (getD highest t 0 < getD (countList c) t 0)
+count-out : (c : Counts) → countTooHigh c ≡ true → (t : ℕ) × (t < 9) × (getD highest t 0 < getD (countList c) t 0)
 unfolding countTooHigh
-count-out c h = let f = any-elim (λ t. ltb (getD highest t 0) (getD (countList c) t 0)) 8 h in (f .0, f .1, ltb-true _ _ (f .2))
+count-out c h = let f = any-elim (λ t. ltb (getD highest t 0) (getD (countList c) t 0)) 9 h in (f .0, f .1, ltb-true _ _ (f .2))
 
 form-own : (s : List ℕ) (k : ℕ) → Own (numberIn k) (formStep s k)
 form-own s zero = refuse-either (Own 1) _ _ (λ _. refl) (λ z. absurd (z refl))
@@ -505,7 +538,7 @@ module _ (s : List ℕ) {r : Verdict} (e : r ≡ formCheck s) where
       (or-out _ _ (a .1))
 
   pub form-refusal : FormRefusal s r
-  unfolding jobOf countsOf editionKnown marksWrong all
+  unfolding jobOf countsOf editionKnown all
   form-refusal =
       let m = modelOf s in
       record {
@@ -517,16 +550,8 @@ module _ (s : List ℕ) {r : Verdict} (e : r ≡ formCheck s) where
         knownEdition = λ h.
             let b = and-both _ _ (not-false _ (refuse-zero _ _ (λ z. let y : _≡_ {A = ℕ} 2 0 = z in omega arith) (lower-pass 1 2 refl h))) in
             (leb-true _ _ (b .0), leb-true _ _ (b .1));
-        markOut = λ q.
-            ⊎-elim
-            (λ (a : ltb 1 (u16At s 2) ≡ true). inl (ltb-true _ _ a))
-            (λ (a : (not (eqb (u16At s 0) timedEdition) && not (eqb (u16At s 18) 0)) ≡ true).
-            let b = and-both _ _ a in
-            inr (eqb-false _ _ (not-true _ (b .0)), eqb-false _ _ (not-true _ (b .1))))
-            (or-out _ _ (refuse-says _ _ (comes-from 3 2 refl q .1)));
-        marksIn = λ h.
-            let b = or-both _ _ (refuse-zero _ _ (λ z. let y : _≡_ {A = ℕ} 3 0 = z in omega arith) (lower-pass 3 3 refl h)) in
-            (ltb-false _ _ (b .0), λ n. eqb-true _ _ (none-counted _ _ (b .1) (ap not (ne-eqb _ _ n))));
+        markOut = λ q. mark-out s (refuse-says _ _ (comes-from 3 2 refl q .1));
+        marksIn = λ h. marks-in s (refuse-zero _ _ (λ z. let y : _≡_ {A = ℕ} 3 0 = z in omega arith) (lower-pass 3 3 refl h));
         countOut = λ q. count-out (countsOf s) (refuse-says _ _ (comes-from 4 3 refl q .1));
         countsIn = λ h. counts (countsOf s) (refuse-zero _ _ (λ z. let y : _≡_ {A = ℕ} 4 0 = z in omega arith) (lower-pass 4 4 refl h));
         layoutOut = λ q. not-true _ (refuse-says _ _ (comes-from 5 4 refl q .1));

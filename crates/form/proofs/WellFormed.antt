@@ -121,6 +121,7 @@ module _ (m : Model) (ok : (t : Table) (k : ℕ) → k < countIn m t → recordO
         useCount = r .useCount;
         goalCount = goals;
         timedCount = r .timedCount;
+        needCount = r .needCount;
         initialValue = r .initialValue;
         levelFrom = λ k l. level-in m k (ok Levels k l) .0;
         levelLow = λ k l. level-in m k (ok Levels k l) .1;
@@ -150,6 +151,11 @@ module _ (m : Model) (ok : (t : Table) (k : ℕ) → k < countIn m t → recordO
         timedFact = r .timedFact;
         timedTick = r .timedTick;
         timedValue = r .timedValue;
+        needStep = r .needStep;
+        needLevel = r .needLevel;
+        needEnd = r .needEnd;
+        needFrom = r .needFrom;
+        needTo = r .needTo;
         oneWay = one-way;
         oneUse = one-use;
         keepsOwn = keeps-own;

@@ -9,8 +9,8 @@ use Rattle.little_endian.specs.Bytes.{u16At}
 use Rattle.verdict.specs.declared.Verdict.{Verdict}
 use Rattle.verdict.specs.Verdict.{number, place, nowhere}
 use Rattle.job.specs.declared.layout.Table.{Table}
-use Rattle.job.specs.declared.layout.Table.the-variants.{Facts, Levels, Steps, Conditions, Effects, Uses, Goals, TimedFacts}
-use Rattle.job.specs.Layout.{latestEdition, timedEdition, shortestHeader, headerWidth, highest, countsOf, countList, jobOf}
+use Rattle.job.specs.declared.layout.Table.the-variants.{Facts, Levels, Steps, Conditions, Effects, Uses, Goals, TimedFacts, Needs}
+use Rattle.job.specs.Layout.{latestEdition, timedEdition, needsEdition, shortestHeader, headerWidth, highest, countsOf, countList, jobOf}
 use Rattle.job.specs.Model.{Model, modelOf}
 use Rattle.header_check.specs.Header.{layoutAgrees}
 use Rattle.ranges.specs.Ranges.{countIn, recordOk}
@@ -26,6 +26,7 @@ tableNumber Effects = 4
 tableNumber Uses = 5
 tableNumber Goals = 6
 tableNumber TimedFacts = 7
+tableNumber Needs = 8
 
 -- 6: record k of table t breaks its ranges, every lower one keeps them, and so does every record of the tables before
 pub record FirstOutOfRange (m : Model) (t : Table) (k : ℕ) : Type 0 where
@@ -87,10 +88,13 @@ pub record FormRefusal (s : List ℕ) (v : Verdict) : Type 0 where
   pub longEnough : 2 < number v → headerWidth (u16At s 0) ≤ length s
   pub otherEdition : number v ≡ 2 → 1 ≤ u16At s 0 → u16At s 0 ≤ latestEdition → ⊥
   pub knownEdition : 2 < number v → (1 ≤ u16At s 0) × (u16At s 0 ≤ latestEdition)
-  pub markOut : number v ≡ 3 → (1 < u16At s 2) ⊎ ((u16At s 0 ≡ timedEdition → ⊥) × (u16At s 18 ≡ 0 → ⊥))
-  pub marksIn : 3 < number v → (u16At s 2 ≤ 1) × ((u16At s 0 ≡ timedEdition → ⊥) → u16At s 18 ≡ 0)
-  pub countOut : number v ≡ 4 → (t : ℕ) × (t < 8) × (getD highest t 0 < getD (countList (countsOf s)) t 0)
-  pub countsIn : 4 < number v → (t : ℕ) → t < 8 → getD (countList (countsOf s)) t 0 ≤ getD highest t 0
+  -- the serial mark exceeds 1, an edition without timed facts counts some, or the one with needs has another number than 0 at byte 54
+  pub markOut :
+      number v ≡ 3
+      → (1 < u16At s 2) ⊎ (((u16At s 0 < timedEdition) × (u16At s 18 ≡ 0 → ⊥)) ⊎ ((u16At s 0 ≡ needsEdition) × (u16At s 54 ≡ 0 → ⊥)))
+  pub marksIn : 3 < number v → (u16At s 2 ≤ 1) × (u16At s 0 < timedEdition → u16At s 18 ≡ 0) × (u16At s 0 ≡ needsEdition → u16At s 54 ≡ 0)
+  pub countOut : number v ≡ 4 → (t : ℕ) × (t < 9) × (getD highest t 0 < getD (countList (countsOf s)) t 0)
+  pub countsIn : 4 < number v → (t : ℕ) → t < 9 → getD (countList (countsOf s)) t 0 ≤ getD highest t 0
   pub layoutOut : number v ≡ 5 → layoutAgrees s (jobOf s) ≡ false
   pub layoutIn : 5 < number v → layoutAgrees s (jobOf s) ≡ true
   pub recordOut : number v ≡ 6 → (t : Table) × FirstOutOfRange (modelOf s) t (place v)

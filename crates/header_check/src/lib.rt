@@ -4,6 +4,7 @@ ghost use Rattle.job.specs.Layout.{jobOf};
 ghost use Rattle.header_check.specs.Header.{editionKnown, marksWrong, layoutAgrees, headerCheck};
 use job::layout::Job;
 use job::layout::LATEST_EDITION;
+use job::layout::NEEDS_EDITION;
 use job::layout::SHORTEST_HEADER;
 use job::layout::TIMED_EDITION;
 use job::layout::count_too_high;
@@ -17,13 +18,16 @@ fn edition_known(edition: u16) -> bool
     (1 <= edition) & (edition <= LATEST_EDITION)
 }
 
-fn marks_wrong(job: Job) -> bool
-    ensures { λ r. ⌜ r ≡ marksWrong job ⌝ }
+// Only the edition that counts needs has a zero behind that count.
+fn marks_wrong(s: &[u8], job: Job) -> bool
+    ensures { λ r. ⌜ r ≡ marksWrong (now (s .entry)) job ⌝ }
 {
-    (1 < job.serial) | ((job.edition != TIMED_EDITION) & (job.count.timed != 0))
+    (1 < job.serial)
+        | ((job.edition < TIMED_EDITION) & (job.count.timed != 0))
+        | ((job.edition == NEEDS_EDITION) & (little_endian::u16_at(s, 54) != 0))
 }
 
-// Only an edition with timed facts has their offset.
+// Only an edition with timed facts has their offset, and only one with needs theirs.
 fn layout_agrees(s: &[u8], job: Job) -> bool
     ensures { λ r. ⌜ r ≡ layoutAgrees (now (s .entry)) job ⌝ }
 {
@@ -35,7 +39,8 @@ fn layout_agrees(s: &[u8], job: Job) -> bool
         & (little_endian::u32_at(s, 36) == at.effects as usize)
         & (little_endian::u32_at(s, 40) == at.uses as usize)
         & (little_endian::u32_at(s, 44) == at.goals as usize)
-        & ((job.edition != TIMED_EDITION) | (little_endian::u32_at(s, 48) == at.timed as usize))
+        & ((job.edition < TIMED_EDITION) | (little_endian::u32_at(s, 48) == at.timed as usize))
+        & ((job.edition != NEEDS_EDITION) | (little_endian::u32_at(s, 56) == at.needs as usize))
         & (s.len() == at.end as usize)
 }
 
@@ -46,7 +51,7 @@ pub fn check_header(s: &[u8], job: Job) -> Verdict
 {
     let unknown = !edition_known(job.edition);
     let width = header_width(job.edition);
-    let marks = marks_wrong(job);
+    let marks = marks_wrong(s, job);
     let high = count_too_high(job.count);
     let layout = !layout_agrees(s, job);
     let v = refuse_if(

@@ -100,6 +100,7 @@ module _ (m : Model) (w : WellFormed m) where
         effectCount = omega (arith, w .effectCount, w .timedCount);
         useCount = w .useCount;
         goalCount = w .goalCount;
+        needCount = w .needCount;
         initialValue = w .initialValue;
         levelFrom = w .levelFrom;
         levelLow = w .levelLow;
@@ -129,6 +130,11 @@ module _ (m : Model) (w : WellFormed m) where
         goalFact = w .goalFact;
         goalValue = w .goalValue;
         goalDeadline = w .goalDeadline;
+        needStep = w .needStep;
+        needLevel = w .needLevel;
+        needEnd = w .needEnd;
+        needFrom = w .needFrom;
+        needTo = w .needTo;
         oneWay = one-way;
         oneUse = w .oneUse;
         keepsOwn = keeps-own;

@@ -12,6 +12,7 @@ well-formed-ranged w =
       effectCount = w .effectCount;
       useCount = w .useCount;
       timedCount = w .timedCount;
+      needCount = w .needCount;
       initialValue = w .initialValue;
       lengthRange = w .lengthRange;
       conditionStep = w .conditionStep;
@@ -29,4 +30,9 @@ well-formed-ranged w =
       timedFact = w .timedFact;
       timedTick = w .timedTick;
       timedValue = w .timedValue;
+      needStep = w .needStep;
+      needLevel = w .needLevel;
+      needEnd = w .needEnd;
+      needFrom = w .needFrom;
+      needTo = w .needTo;
     }

@@ -6,7 +6,7 @@ use mathlib.Core.Bool.{cond}
 use mathlib.Core.Logic.{_⊎_}
 use lib.Dec.{ltb}
 use Rattle.little_endian.specs.Bytes.{signBias}
-use Rattle.job.specs.Layout.{mostFacts, mostLevels, mostSteps, mostConditions, mostEffects, mostUses, mostGoals, mostTimed}
+use Rattle.job.specs.Layout.{mostFacts, mostLevels, mostSteps, mostConditions, mostEffects, mostUses, mostGoals, mostTimed, mostNeeds}
 use Rattle.job.specs.Model.{Model, lastStart, longest, lastDeadline, noDeadline, lastTimed, lowestLevel, highestLevel, lowestAmount, highestAmount}
 
 -- what is said of an effect by its number, and of a timed fact by its number behind all effects
@@ -24,6 +24,7 @@ clocked m = record {
   uses = m .uses;
   goals = m .goals;
   timed = 0;
+  needs = m .needs;
   initial = m .initial;
   levelInitial = m .levelInitial;
   levelLeast = m .levelLeast;
@@ -50,6 +51,10 @@ clocked m = record {
   timedFact = m .timedFact;
   timedTick = m .timedTick;
   timedValue = m .timedValue;
+  needStep = m .needStep;
+  needLevel = m .needLevel;
+  needAt = m .needAt;
+  needLeast = m .needLeast;
 }
 
 -- starts with that of the clock
@@ -70,6 +75,7 @@ pub record ClockedForm (m : Model) : Type 0 where
   pub effectCount : m .effects ≤ mostSetters
   pub useCount : m .uses ≤ mostUses
   pub goalCount : m .goals ≤ mostGoals
+  pub needCount : m .needs ≤ mostNeeds
   pub initialValue : (k : ℕ) → k < m .facts → m .initial k ≤ 1
   pub levelFrom : (k : ℕ) → k < m .levels → lowestLevel ≤ m .levelLeast k
   pub levelLow : (k : ℕ) → k < m .levels → m .levelLeast k ≤ m .levelInitial k
@@ -98,6 +104,11 @@ pub record ClockedForm (m : Model) : Type 0 where
   pub goalFact : (k : ℕ) → k < m .goals → m .goalFact k < m .facts
   pub goalValue : (k : ℕ) → k < m .goals → m .goalValue k ≤ 1
   pub goalDeadline : (k : ℕ) → k < m .goals → (m .goalDeadline k ≤ lastDeadline) ⊎ (m .goalDeadline k ≡ noDeadline)
+  pub needStep : (k : ℕ) → k < m .needs → m .needStep k < m .steps
+  pub needLevel : (k : ℕ) → k < m .needs → m .needLevel k < m .levels
+  pub needEnd : (k : ℕ) → k < m .needs → m .needAt k ≤ m .stepLength (m .needStep k)
+  pub needFrom : (k : ℕ) → k < m .needs → lowestLevel ≤ m .needLeast k
+  pub needTo : (k : ℕ) → k < m .needs → m .needLeast k ≤ highestLevel
   -- neither a step nor the clock sets a fact both ways at one tick
   pub oneWay :
       (e f : ℕ) → e < m .effects → f < m .effects → m .effectStep e ≡ m .effectStep f → m .effectFact e ≡ m .effectFact f

@@ -12,21 +12,28 @@ use Rattle.job.specs.declared.layout.Job.{Job}
 
 -- the editions that are read: from 1 to this
 abbrev pub latestEdition : ℕ
-latestEdition = 2
+latestEdition = 3
 
--- the edition that has timed facts
+-- the first edition that has timed facts, and the one that has needs
 abbrev pub timedEdition : ℕ
 timedEdition = 2
 
--- the bytes of the shortest header, of the longest, and of an edition's: timed facts add an offset
+abbrev pub needsEdition : ℕ
+needsEdition = 3
+
+-- the bytes of the shortest header, of one with timed facts, which adds an offset, and of the longest: needs add a count, a zero and an offset
 abbrev pub shortestHeader : ℕ
 shortestHeader = 48
 
-abbrev pub longestHeader : ℕ
-longestHeader = 52
+abbrev pub timedHeader : ℕ
+timedHeader = 52
 
+abbrev pub longestHeader : ℕ
+longestHeader = 60
+
+-- the bytes of an edition's header
 unfoldable pub headerWidth : ℕ → ℕ
-headerWidth edition = cond (eqb edition timedEdition) longestHeader shortestHeader
+headerWidth edition = cond (eqb edition needsEdition) longestHeader (cond (eqb edition timedEdition) timedHeader shortestHeader)
 
 -- "Widths in bytes": a record's, table by table
 abbrev pub factWidth : ℕ
@@ -53,9 +60,14 @@ goalWidth = 8
 abbrev pub timedWidth : ℕ
 timedWidth = 8
 
+abbrev pub needWidth : ℕ
+needWidth = 12
+
 -- in the tables' order
 abbrev pub widths : List ℕ
-widths = factWidth ∷ levelWidth ∷ stepWidth ∷ conditionWidth ∷ effectWidth ∷ useWidth ∷ goalWidth ∷ timedWidth ∷ []
+widths = factWidth ∷ levelWidth ∷ stepWidth ∷ conditionWidth ∷ effectWidth ∷ useWidth ∷ goalWidth ∷ timedWidth
+    ∷ needWidth
+    ∷ []
 
 -- "Highest counts in that order"
 abbrev pub mostFacts : ℕ
@@ -82,10 +94,15 @@ mostGoals = 32
 abbrev pub mostTimed : ℕ
 mostTimed = 64
 
-abbrev pub highest : List ℕ
-highest = mostFacts ∷ mostLevels ∷ mostSteps ∷ mostConditions ∷ mostEffects ∷ mostUses ∷ mostGoals ∷ mostTimed ∷ []
+abbrev pub mostNeeds : ℕ
+mostNeeds = 128
 
--- the counts of the header, which names goals before conditions, and timed facts last
+abbrev pub highest : List ℕ
+highest = mostFacts ∷ mostLevels ∷ mostSteps ∷ mostConditions ∷ mostEffects ∷ mostUses ∷ mostGoals ∷ mostTimed
+    ∷ mostNeeds
+    ∷ []
+
+-- the counts of the header, which names goals before conditions, and timed facts and needs last: an earlier edition has no count of needs
 unfoldable pub countsOf : List ℕ → Counts
 countsOf s = record {
   facts = u16At s 4;
@@ -96,18 +113,21 @@ countsOf s = record {
   uses = u16At s 16;
   goals = u16At s 10;
   timed = u16At s 18;
+  needs = cond (eqb (u16At s 0) needsEdition) (u16At s 52) 0;
 }
 
 -- the counts in the tables' order
 abbrev pub countList : Counts → List ℕ
-countList c = c .facts ∷ c .levels ∷ c .steps ∷ c .conditions ∷ c .effects ∷ c .uses ∷ c .goals ∷ c .timed ∷ []
+countList c = c .facts ∷ c .levels ∷ c .steps ∷ c .conditions ∷ c .effects ∷ c .uses ∷ c .goals ∷ c .timed
+    ∷ c .needs
+    ∷ []
 
--- "The tables follow the header without gaps", which has so many bytes: where table t starts; for t = 8, where the file ends
+-- "The tables follow the header without gaps", which has so many bytes: where table t starts; for t = 9, where the file ends
 unfoldable pub tableAt : ℕ → Counts → ℕ → ℕ
 tableAt header c zero = header
 tableAt header c (suc t) = tableAt header c t + getD widths t 0 * getD (countList c) t 0
 
--- the positions of the eight tables and of the file's end
+-- the positions of the nine tables and of the file's end
 unfoldable pub positionsOf : ℕ → Counts → Positions
 positionsOf header c = record {
   facts = tableAt header c 0;
@@ -118,7 +138,8 @@ positionsOf header c = record {
   uses = tableAt header c 5;
   goals = tableAt header c 6;
   timed = tableAt header c 7;
-  end = tableAt header c 8;
+  needs = tableAt header c 8;
+  end = tableAt header c 9;
 }
 
 -- what the header says, and where it puts the tables
@@ -133,4 +154,4 @@ jobOf s =
 
 -- refusal 4: a count exceeds its highest
 unfoldable pub countTooHigh : Counts → Bool
-countTooHigh c = any 8 (λ t. ltb (getD highest t 0) (getD (countList c) t 0))
+countTooHigh c = any 9 (λ t. ltb (getD highest t 0) (getD (countList c) t 0))

@@ -10,7 +10,8 @@ use Rattle.job.specs.declared.records.Condition.{Condition}
 use Rattle.job.specs.declared.records.Effect.{Effect}
 use Rattle.job.specs.declared.records.Use.{Use}
 use Rattle.job.specs.declared.records.TimedFact.{TimedFact}
-use Rattle.job.specs.Layout.{factWidth, levelWidth, stepWidth, conditionWidth, effectWidth, useWidth, goalWidth, timedWidth, jobOf}
+use Rattle.job.specs.declared.records.Need.{Need}
+use Rattle.job.specs.Layout.{factWidth, levelWidth, stepWidth, conditionWidth, effectWidth, useWidth, goalWidth, timedWidth, needWidth, jobOf}
 
 -- a step's highest start and length
 abbrev pub lastStart : ℕ
@@ -30,7 +31,7 @@ noDeadline = 4294967295
 abbrev pub lastTimed : ℕ
 lastTimed = 1100000
 
--- a level's numbers are within ±1,000,000,000, a use's amount within ±1,000,000: so biased
+-- a level's numbers and a need's least are within ±1,000,000,000, a use's amount within ±1,000,000: so biased
 abbrev pub lowestLevel : ℕ
 lowestLevel = signBias - 1000000000
 
@@ -55,6 +56,7 @@ pub record Model : Type 0 where
   pub uses : ℕ
   pub goals : ℕ
   pub timed : ℕ
+  pub needs : ℕ
   -- a fact's initial value
   pub initial : ℕ → ℕ
   -- a level's numbers, each plus signBias
@@ -87,6 +89,11 @@ pub record Model : Type 0 where
   pub timedFact : ℕ → ℕ
   pub timedTick : ℕ → ℕ
   pub timedValue : ℕ → ℕ
+  -- what a need's level must reach, plus signBias
+  pub needStep : ℕ → ℕ
+  pub needLevel : ℕ → ℕ
+  pub needAt : ℕ → ℕ
+  pub needLeast : ℕ → ℕ
 
 -- the job in bytes whose tables lie as given: record k of a table of width w starts at w * k
 abbrev pub view : Job → List ℕ → Model
@@ -100,6 +107,7 @@ view j s = record {
   uses = j .count .uses;
   goals = j .count .goals;
   timed = j .count .timed;
+  needs = j .count .needs;
   initial = λ k. byteAt s (j .at .facts + factWidth * k);
   levelInitial = λ k. biasedAt s (j .at .levels + levelWidth * k);
   levelLeast = λ k. biasedAt s (j .at .levels + levelWidth * k + 4);
@@ -126,6 +134,10 @@ view j s = record {
   timedFact = λ k. u16At s (j .at .timed + timedWidth * k);
   timedTick = λ k. u32At s (j .at .timed + timedWidth * k + 2);
   timedValue = λ k. u16At s (j .at .timed + timedWidth * k + 6);
+  needStep = λ k. u16At s (j .at .needs + needWidth * k);
+  needLevel = λ k. u16At s (j .at .needs + needWidth * k + 2);
+  needAt = λ k. u32At s (j .at .needs + needWidth * k + 4);
+  needLeast = λ k. biasedAt s (j .at .needs + needWidth * k + 8);
 }
 
 -- the job that a file holds
@@ -161,3 +173,7 @@ useOf m k = record { step = m .useStep k; level = m .useLevel k; at = m .useAt k
 -- a timed fact's
 abbrev pub timedOf : Model → ℕ → TimedFact
 timedOf m k = record { fact = m .timedFact k; tick = m .timedTick k; value = m .timedValue k }
+
+-- a need's
+abbrev pub needOf : Model → ℕ → Need
+needOf m k = record { step = m .needStep k; level = m .needLevel k; at = m .needAt k; least = m .needLeast k }

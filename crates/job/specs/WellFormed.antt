@@ -2,7 +2,7 @@
 use Prim.Native.Nat.{ℕ, _≤_, _<_}
 use mathlib.Core.Path.{_≡_}
 use mathlib.Core.Logic.{_⊎_}
-use Rattle.job.specs.Layout.{mostFacts, mostLevels, mostSteps, mostConditions, mostEffects, mostUses, mostGoals, mostTimed}
+use Rattle.job.specs.Layout.{mostFacts, mostLevels, mostSteps, mostConditions, mostEffects, mostUses, mostGoals, mostTimed, mostNeeds}
 use Rattle.little_endian.specs.Bytes.{signBias}
 use Rattle.job.specs.Model.{Model, lastStart, longest, lastDeadline, noDeadline, lastTimed, lowestLevel, highestLevel, lowestAmount, highestAmount}
 
@@ -17,6 +17,7 @@ pub record WellFormed (m : Model) : Type 0 where
   pub useCount : m .uses ≤ mostUses
   pub goalCount : m .goals ≤ mostGoals
   pub timedCount : m .timed ≤ mostTimed
+  pub needCount : m .needs ≤ mostNeeds
   -- facts and levels
   pub initialValue : (k : ℕ) → k < m .facts → m .initial k ≤ 1
   pub levelFrom : (k : ℕ) → k < m .levels → lowestLevel ≤ m .levelLeast k
@@ -53,6 +54,12 @@ pub record WellFormed (m : Model) : Type 0 where
   pub timedFact : (k : ℕ) → k < m .timed → m .timedFact k < m .facts
   pub timedTick : (k : ℕ) → k < m .timed → m .timedTick k ≤ lastTimed
   pub timedValue : (k : ℕ) → k < m .timed → m .timedValue k ≤ 1
+  -- needs
+  pub needStep : (k : ℕ) → k < m .needs → m .needStep k < m .steps
+  pub needLevel : (k : ℕ) → k < m .needs → m .needLevel k < m .levels
+  pub needEnd : (k : ℕ) → k < m .needs → m .needAt k ≤ m .stepLength (m .needStep k)
+  pub needFrom : (k : ℕ) → k < m .needs → lowestLevel ≤ m .needLeast k
+  pub needTo : (k : ℕ) → k < m .needs → m .needLeast k ≤ highestLevel
   -- no step is against itself
   pub oneWay :
       (e f : ℕ) → e < m .effects → f < m .effects → m .effectStep e ≡ m .effectStep f → m .effectFact e ≡ m .effectFact f
@@ -80,6 +87,7 @@ pub record Ranged (m : Model) : Type 0 where
   pub effectCount : m .effects ≤ mostEffects
   pub useCount : m .uses ≤ mostUses
   pub timedCount : m .timed ≤ mostTimed
+  pub needCount : m .needs ≤ mostNeeds
   pub initialValue : (k : ℕ) → k < m .facts → m .initial k ≤ 1
   pub lengthRange : (k : ℕ) → k < m .steps → m .stepLength k ≤ longest
   pub conditionStep : (k : ℕ) → k < m .conditions → m .conditionStep k < m .steps
@@ -97,3 +105,8 @@ pub record Ranged (m : Model) : Type 0 where
   pub timedFact : (k : ℕ) → k < m .timed → m .timedFact k < m .facts
   pub timedTick : (k : ℕ) → k < m .timed → m .timedTick k ≤ lastTimed
   pub timedValue : (k : ℕ) → k < m .timed → m .timedValue k ≤ 1
+  pub needStep : (k : ℕ) → k < m .needs → m .needStep k < m .steps
+  pub needLevel : (k : ℕ) → k < m .needs → m .needLevel k < m .levels
+  pub needEnd : (k : ℕ) → k < m .needs → m .needAt k ≤ m .stepLength (m .needStep k)
+  pub needFrom : (k : ℕ) → k < m .needs → lowestLevel ≤ m .needLeast k
+  pub needTo : (k : ℕ) → k < m .needs → m .needLeast k ≤ highestLevel

@@ -1,7 +1,10 @@
 // The job file's header: counts, limits, and where the tables lie.
 ghost use Prim.Native.Nat.{_+_, _*_, _^_, _≤_};
 ghost use mathlib.Core.Path.{_≡_};
-ghost use Rattle.job.specs.Layout.{headerWidth, longestHeader, countsOf, positionsOf, jobOf, countTooHigh};
+ghost use mathlib.Core.Bool.{cond};
+ghost use lib.Dec.{eqb};
+ghost use Rattle.little_endian.specs.Bytes.{u16At};
+ghost use Rattle.job.specs.Layout.{needsEdition, headerWidth, longestHeader, countsOf, positionsOf, jobOf, countTooHigh};
 use little_endian::SIGN_BIAS;
 
 // The tables, in their order in the file.
@@ -14,6 +17,7 @@ pub enum Table {
     Uses,
     Goals,
     TimedFacts,
+    Needs,
 }
 
 // How many records each table has.
@@ -26,6 +30,7 @@ pub struct Counts {
     pub uses: u16,
     pub goals: u16,
     pub timed: u16,
+    pub needs: u16,
 }
 
 // Where each table starts, and where the file ends.
@@ -38,6 +43,7 @@ pub struct Positions {
     pub uses: u32,
     pub goals: u32,
     pub timed: u32,
+    pub needs: u32,
     pub end: u32,
 }
 
@@ -50,18 +56,22 @@ pub struct Job {
 }
 
 // The editions that are read: from 1 to this.
-pub const LATEST_EDITION: u16 = 2;
+pub const LATEST_EDITION: u16 = 3;
 
-// The edition that has timed facts.
+// The first edition that has timed facts, and the one that has needs.
 pub const TIMED_EDITION: u16 = 2;
 
-// The bytes of the shortest header, and of the longest, which has an offset for timed facts.
+pub const NEEDS_EDITION: u16 = 3;
+
+// The bytes of the shortest header, of one with an offset for timed facts, and of the longest, which also has needs.
 pub const SHORTEST_HEADER: usize = 48;
 
-pub const LONGEST_HEADER: usize = 52;
+pub const TIMED_HEADER: usize = 52;
+
+pub const LONGEST_HEADER: usize = 60;
 
 // Record widths in bytes, in the tables' order.
-pub const WIDTHS: [usize; 8] = [1, 12, 10, 14, 10, 12, 8, 8];
+pub const WIDTHS: [usize; 9] = [1, 12, 10, 14, 10, 12, 8, 8, 12];
 
 pub const FACT: usize = 0;
 
@@ -78,6 +88,8 @@ pub const USE: usize = 5;
 pub const GOAL: usize = 6;
 
 pub const TIMED: usize = 7;
+
+pub const NEED: usize = 8;
 
 // A step's highest start and length, a goal's highest deadline, and a timed fact's highest tick.
 pub const LAST_START: usize = 1000000;
@@ -115,6 +127,8 @@ impl Job {
 
     pub const TIMED: u16 = 64;
 
+    pub const NEEDS: u16 = 128;
+
     pub fn read(s: &[u8]) -> Job
         ensures { λ r. ⌜ r ≡ jobOf (now (s .entry)) ⌝ }
     {
@@ -135,15 +149,29 @@ impl Job {
 pub fn header_width(edition: u16) -> usize
     ensures { λ r. ⌜ (r ≡ headerWidth edition) × (r ≤ longestHeader) ⌝ }
 {
+    if edition == NEEDS_EDITION {
+        return LONGEST_HEADER;
+    }
     if edition == TIMED_EDITION {
-        LONGEST_HEADER
+        TIMED_HEADER
     } else {
         SHORTEST_HEADER
     }
 }
 
+// Only an edition with needs counts them: in an earlier one a table stands there.
+fn needs_counted(s: &[u8]) -> u16
+    ensures { λ r. ⌜ r ≡ cond (eqb (u16At (now (s .entry)) 0) needsEdition) (u16At (now (s .entry)) 52) 0 ⌝ }
+{
+    if little_endian::u16_at(s, 0) as u16 == NEEDS_EDITION {
+        little_endian::u16_at(s, 52) as u16
+    } else {
+        0
+    }
+}
+
 impl Counts {
-    // The header counts goals before conditions, and timed facts last.
+    // The header counts goals before conditions, and timed facts and needs last.
     pub fn read(s: &[u8]) -> Counts
         ensures { λ r. ⌜ r ≡ countsOf (now (s .entry)) ⌝ }
     {
@@ -156,6 +184,7 @@ impl Counts {
             effects: little_endian::u16_at(s, 14) as u16,
             uses: little_endian::u16_at(s, 16) as u16,
             timed: little_endian::u16_at(s, 18) as u16,
+            needs: needs_counted(s),
         }
     }
 }
@@ -174,7 +203,8 @@ impl Positions {
         let uses = table_end(effects, WIDTHS[EFFECT], count.effects);
         let goals = table_end(uses, WIDTHS[USE], count.uses);
         let timed = table_end(goals, WIDTHS[GOAL], count.goals);
-        let end = table_end(timed, WIDTHS[TIMED], count.timed);
+        let needs = table_end(timed, WIDTHS[TIMED], count.timed);
+        let end = table_end(needs, WIDTHS[NEED], count.needs);
         Positions {
             facts,
             levels,
@@ -184,6 +214,7 @@ impl Positions {
             uses,
             goals,
             timed,
+            needs,
             end,
         }
     }
@@ -210,4 +241,5 @@ pub fn count_too_high(count: Counts) -> bool
         | (Job::USES < count.uses)
         | (Job::GOALS < count.goals)
         | (Job::TIMED < count.timed)
+        | (Job::NEEDS < count.needs)
 }

@@ -47,6 +47,14 @@ pub struct Use {
     pub amount: usize,
 }
 
+// A need's: what its level must reach, plus SIGN_BIAS.
+pub struct Need {
+    pub step: u16,
+    pub level: u16,
+    pub at: usize,
+    pub least: usize,
+}
+
 // A timed fact's: what the clock sets, and at which tick.
 pub struct TimedFact {
     pub fact: u16,

@@ -7,7 +7,7 @@ use contract.Monad.{fact}
 use denote.Plain.{uint-lawful}
 use denote.Builtin.{u16}
 use denote.Struct.Laws as LL
-use Rattle.job.specs.Model.{view, levelOf, stepOf, goalOf, conditionOf, effectOf, useOf, timedOf}
+use Rattle.job.specs.Model.{view, levelOf, stepOf, goalOf, conditionOf, effectOf, useOf, timedOf, needOf}
 use Rattle.job.proofs.records.Level as Level
 use Rattle.job.proofs.records.Level.Laws as Level′
 use Rattle.job.proofs.records.Step as Step
@@ -22,6 +22,8 @@ use Rattle.job.proofs.records.Use as Use
 use Rattle.job.proofs.records.Use.Laws as Use′
 use Rattle.job.proofs.records.TimedFact as TimedFact
 use Rattle.job.proofs.records.TimedFact.Laws as TimedFact′
+use Rattle.job.proofs.records.Need as Need
+use Rattle.job.proofs.records.Need.Laws as Need′
 use Rattle.job.specs.Laid.{Laid}
 use Rattle.job_reader.proofs.Contracts.{Reading}
 
@@ -95,4 +97,13 @@ timed = record {
   typed = λ M 𝓤 H A W r u is. LL.lawful TimedFact.the-type TimedFact′.the-laws 𝓤 H A W .typed r _ is .0;
   asks = λ M 𝓤 j s k. fact 𝓤 (Laid j s × (k < j .count .timed));
   answers = λ j s k r. r ≡ timedOf (view j s) k;
+}
+
+abbrev pub needs : Reading
+needs = record {
+  R = Need.the-row;
+  ty = Need′.mir;
+  typed = λ M 𝓤 H A W r u is. LL.lawful Need.the-type Need′.the-laws 𝓤 H A W .typed r _ is .0;
+  asks = λ M 𝓤 j s k. fact 𝓤 (Laid j s × (k < j .count .needs));
+  answers = λ j s k r. r ≡ needOf (view j s) k;
 }

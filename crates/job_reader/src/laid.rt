@@ -2,24 +2,27 @@
 ghost use mathlib.Core.Path.{_≡_};
 ghost use mathlib.Core.Bool.{true};
 ghost use Prim.Native.Nat.{_+_, _*_, _<_};
-ghost use Rattle.job.specs.Layout.{stepWidth, conditionWidth, effectWidth, useWidth, timedWidth};
-ghost use Rattle.job.specs.Model.{view, conditionOf, effectOf, useOf, timedOf};
+ghost use Rattle.job.specs.Layout.{stepWidth, conditionWidth, effectWidth, useWidth, timedWidth, needWidth};
+ghost use Rattle.job.specs.Model.{view, conditionOf, effectOf, useOf, timedOf, needOf};
 ghost use Rattle.job.specs.Laid.{Laid};
 ghost use Rattle.little_endian.specs.Bytes.{u32Values};
 use crate::reader::JobReader;
 use job::layout::CONDITION;
 use job::layout::EFFECT;
 use job::layout::Job;
+use job::layout::NEED;
 use job::layout::STEP;
 use job::layout::TIMED;
 use job::layout::USE;
 use job::layout::WIDTHS;
 use job::records::Condition;
 use job::records::Effect;
+use job::records::Need;
 use job::records::TimedFact;
 use job::records::Use;
 use laid_records::condition_within;
 use laid_records::effect_within;
+use laid_records::need_within;
 use laid_records::timed_within;
 use laid_records::use_within;
 
@@ -54,7 +57,13 @@ fn timed_end(job: Job) -> usize
     job.at.timed as usize + WIDTHS[TIMED] * job.count.timed as usize
 }
 
-// Whether the records of steps, conditions, effects, uses and timed facts lie within the bytes.
+fn needs_end(job: Job) -> usize
+    ensures { λ r. ⌜ r ≡ job .at .needs + needWidth * job .count .needs ⌝ }
+{
+    job.at.needs as usize + WIDTHS[NEED] * job.count.needs as usize
+}
+
+// Whether the records of steps, conditions, effects, uses, timed facts and needs lie within the bytes.
 pub fn is_laid(s: &[u8], job: Job) -> bool
     ensures { λ r. ⌜ (r ≡ true → Laid job (now (s .entry))) × (Laid job (now (s .entry)) → r ≡ true) ⌝ }
 {
@@ -63,6 +72,7 @@ pub fn is_laid(s: &[u8], job: Job) -> bool
         & (effects_end(job) <= s.len())
         & (uses_end(job) <= s.len())
         & (timed_end(job) <= s.len())
+        & (needs_end(job) <= s.len())
 }
 
 pub fn length_within(s: &[u8], job: Job, k: u16) -> usize
@@ -128,4 +138,18 @@ pub fn timed_of(s: &[u8], job: Job, k: u16) -> TimedFact
     ensures { λ r. ⌜ r ≡ timedOf (view job (now (s .entry))) k ⌝ }
 {
     timed(JobReader { bytes: s, job }, k)
+}
+
+pub fn need<'a>(r: JobReader<'a>, k: u16) -> Need
+    requires { ⌜ Laid (r .job) (now (r .bytes)) × (k < r .job .count .needs) ⌝ }
+    ensures { λ x. ⌜ x ≡ needOf (view (r .entry .job) (now (r .entry .bytes))) k ⌝ }
+{
+    need_within(r.bytes, r.job, k)
+}
+
+pub fn need_of(s: &[u8], job: Job, k: u16) -> Need
+    requires { ⌜ Laid job (now s) × (k < job .count .needs) ⌝ }
+    ensures { λ r. ⌜ r ≡ needOf (view job (now (s .entry))) k ⌝ }
+{
+    need(JobReader { bytes: s, job }, k)
 }

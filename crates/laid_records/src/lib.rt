@@ -1,16 +1,18 @@
-// Whole records of tables that lie within the bytes: conditions, effects, uses and timed facts. No field is tested for room.
+// Whole records of tables that lie within the bytes: conditions, effects, uses, timed facts and needs. No field is tested for room.
 ghost use mathlib.Core.Path.{_≡_};
 ghost use Prim.Native.Nat.{_<_};
 ghost use Rattle.job.specs.Laid.{Laid};
-ghost use Rattle.job.specs.Model.{view, conditionOf, effectOf, useOf, timedOf};
+ghost use Rattle.job.specs.Model.{view, conditionOf, effectOf, useOf, timedOf, needOf};
 use job::layout::CONDITION;
 use job::layout::EFFECT;
 use job::layout::Job;
+use job::layout::NEED;
 use job::layout::TIMED;
 use job::layout::USE;
 use job::layout::WIDTHS;
 use job::records::Condition;
 use job::records::Effect;
+use job::records::Need;
 use job::records::TimedFact;
 use job::records::Use;
 
@@ -63,5 +65,18 @@ pub fn timed_within(s: &[u8], job: Job, k: u16) -> TimedFact
         fact: little_endian::u16_within(s, at) as u16,
         tick: little_endian::u32_within(s, at + 2),
         value: little_endian::u16_within(s, at + 6) as u16,
+    }
+}
+
+pub fn need_within(s: &[u8], job: Job, k: u16) -> Need
+    requires { ⌜ Laid job (now s) × (k < job .count .needs) ⌝ }
+    ensures { λ r. ⌜ r ≡ needOf (view job (now (s .entry))) k ⌝ }
+{
+    let at = job.at.needs as usize + WIDTHS[NEED] * k as usize;
+    Need {
+        step: little_endian::u16_within(s, at) as u16,
+        level: little_endian::u16_within(s, at + 2) as u16,
+        at: little_endian::u32_within(s, at + 4),
+        least: little_endian::biased_within(s, at + 8),
     }
 }

@@ -3,7 +3,7 @@ use Prim.Native.Nat.{ℕ}
 use mathlib.Core.Bool.{Bool, _&&_, _||_, not}
 use lib.Dec.{ltb, leb, eqb}
 use Rattle.job.specs.declared.layout.Table.{Table}
-use Rattle.job.specs.declared.layout.Table.the-variants.{Facts, Levels, Steps, Conditions, Effects, Uses, Goals, TimedFacts}
+use Rattle.job.specs.declared.layout.Table.the-variants.{Facts, Levels, Steps, Conditions, Effects, Uses, Goals, TimedFacts, Needs}
 use Rattle.little_endian.specs.Bytes.{signBias}
 use Rattle.job.specs.Model.{Model, lastStart, longest, lastDeadline, noDeadline, lastTimed, lowestLevel, highestLevel, lowestAmount, highestAmount}
 
@@ -60,6 +60,13 @@ goalOk m k =
 unfoldable pub timedOk : Model → ℕ → Bool
 timedOk m k = ltb (m .timedFact k) (m .facts) && leb (m .timedTick k) lastTimed && leb (m .timedValue k) 1
 
+-- Need: a step and a level that are counted, at ≤ the step's length, least within ±1,000,000,000
+unfoldable pub needOk : Model → ℕ → Bool
+needOk m k =
+    ltb (m .needStep k) (m .steps) && ltb (m .needLevel k) (m .levels)
+    && leb (m .needAt k) (m .stepLength (m .needStep k))
+    && levelInRange (m .needLeast k)
+
 -- how many records a table has
 abbrev pub countIn : Model → Table → ℕ
 countIn m Facts = m .facts
@@ -70,6 +77,7 @@ countIn m Effects = m .effects
 countIn m Uses = m .uses
 countIn m Goals = m .goals
 countIn m TimedFacts = m .timed
+countIn m Needs = m .needs
 
 -- whether a record of a table keeps its ranges and names what exists
 abbrev pub recordOk : Model → Table → ℕ → Bool
@@ -81,6 +89,7 @@ recordOk m Effects k = effectOk m k
 recordOk m Uses k = useOk m k
 recordOk m Goals k = goalOk m k
 recordOk m TimedFacts k = timedOk m k
+recordOk m Needs k = needOk m k
 
 -- whether it does not
 abbrev pub recordBroken : Model → Table → ℕ → Bool

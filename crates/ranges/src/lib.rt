@@ -5,7 +5,7 @@ ghost use Prim.Native.Nat.{ℕ, _≤_, _<_};
 ghost use Rattle.laws.specs.Search.{lowest};
 ghost use Rattle.job.specs.Laid.{Laid};
 ghost use Rattle.job.specs.Model.{view};
-ghost use Rattle.ranges.specs.Ranges.{factOk, levelInRange, levelOk, stepOk, conditionOk, effectOk, useOk, goalOk, timedOk};
+ghost use Rattle.ranges.specs.Ranges.{factOk, levelInRange, levelOk, stepOk, conditionOk, effectOk, useOk, goalOk, timedOk, needOk};
 ghost use Rattle.ranges.specs.Ranges.{recordOk, recordBroken, countIn};
 use job::layout::HIGHEST_AMOUNT;
 use job::layout::HIGHEST_LEVEL;
@@ -21,6 +21,7 @@ use job::records::NO_DEADLINE;
 use job_reader::laid::condition_of;
 use job_reader::laid::effect_of;
 use job_reader::laid::length_within;
+use job_reader::laid::need_of;
 use job_reader::laid::timed_of;
 use job_reader::laid::use_of;
 use job_reader::reader::fact_at;
@@ -116,6 +117,17 @@ fn timed_ok(s: &[u8], job: Job, k: u16) -> bool
     (timed.fact < job.count.facts) & (timed.tick <= LAST_TIMED) & (timed.value <= 1)
 }
 
+fn need_ok(s: &[u8], job: Job, k: u16) -> bool
+    requires { ⌜ Laid job (now s) × (k < job .count .needs) ⌝ }
+    ensures { λ r. ⌜ r ≡ needOk (view job (now (s .entry))) k ⌝ }
+{
+    let n = need_of(s, job, k);
+    if job.count.steps <= n.step {
+        return false;
+    }
+    (n.level < job.count.levels) & (n.at <= length_within(s, job, n.step)) & level_in_range(n.least)
+}
+
 fn record_ok(s: &[u8], job: Job, table: Table, k: u16) -> bool
     requires { ⌜ Laid job (now s) × (k < countIn (view job (now s)) table) ⌝ }
     ensures { λ r. ⌜ r ≡ recordOk (view job (now (s .entry))) table k ⌝ }
@@ -129,6 +141,7 @@ fn record_ok(s: &[u8], job: Job, table: Table, k: u16) -> bool
         Table::Uses => use_ok(s, job, k),
         Table::Goals => goal_ok(s, job, k),
         Table::TimedFacts => timed_ok(s, job, k),
+        Table::Needs => need_ok(s, job, k),
     }
 }
 
@@ -145,6 +158,7 @@ pub fn count_in(job: Job, table: Table) -> u16
         Table::Uses => job.count.uses,
         Table::Goals => job.count.goals,
         Table::TimedFacts => job.count.timed,
+        Table::Needs => job.count.needs,
     }
 }
 

@@ -5,14 +5,14 @@ use mathlib.Core.Bool.{true, _&&_, _||_, not}
 use mathlib.Core.List.{List}
 use native.Mathlib.Omega.{arith}
 use borrow.Author.Tests.{eqb-true, not-false}
-use lib.Dec.{eqb}
+use lib.Dec.{ltb, eqb}
 use lib.ListN.{length}
 use Rattle.little_endian.specs.Bytes.{u32At}
 use Rattle.laws.proofs.Search.{and-both}
 use Rattle.verdict.specs.Verdict.{number, _then_}
 use Rattle.verdict.proofs.Chain.{then-zero, refuse-zero}
 use Rattle.job.specs.declared.layout.Job.{Job}
-use Rattle.job.specs.Layout.{timedEdition, tableAt, positionsOf, jobOf}
+use Rattle.job.specs.Layout.{timedEdition, needsEdition, tableAt, positionsOf, jobOf}
 use Rattle.job.specs.Laid.{Laid}
 use Rattle.job.specs.Model.{modelOf}
 use Rattle.record_check.specs.declared.Form.{Form}
@@ -30,7 +30,8 @@ agrees-end s j e =
     && eqb (u32At s 36) (j .at .effects)
     && eqb (u32At s 40) (j .at .uses)
     && eqb (u32At s 44) (j .at .goals)
-    && (not (eqb (j .edition) timedEdition) || eqb (u32At s 48) (j .at .timed)))
+    && (ltb (j .edition) timedEdition || eqb (u32At s 48) (j .at .timed))
+    && (not (eqb (j .edition) needsEdition) || eqb (u32At s 56) (j .at .needs)))
     _ e .1)
 
 file-ends : (s : List ℕ) → number (headerCheck s) ≡ 0 → length s ≡ jobOf s .at .end
@@ -48,6 +49,7 @@ header-laid s e =
       effects = omega (arith, n);
       uses = omega (arith, n);
       timed = omega (arith, n);
+      needs = omega (arith, n);
     }
 
 -- so they do where refusals 1 to 6 pass, and of records that were read

@@ -14,7 +14,7 @@ use Rattle.verdict.specs.declared.Verdict.the-variants.{RecordOutOfRange}
 use Rattle.verdict.specs.Verdict.{number, _then_}
 use Rattle.verdict.proofs.Chain.{then-zero, refuse-zero, lowest-zero}
 use Rattle.job.specs.declared.layout.Table.{Table}
-use Rattle.job.specs.declared.layout.Table.the-variants.{Facts, Levels, Steps, Conditions, Effects, Uses, Goals, TimedFacts}
+use Rattle.job.specs.declared.layout.Table.the-variants.{Facts, Levels, Steps, Conditions, Effects, Uses, Goals, TimedFacts, Needs}
 use Rattle.job.specs.declared.layout.Counts.{Counts}
 use Rattle.job.specs.declared.layout.Job.{Job}
 use Rattle.job.specs.Layout.{countList, highest, jobOf, countTooHigh}
@@ -23,7 +23,7 @@ use Rattle.job.specs.Model.{lowestLevel, highestLevel, lowestAmount, highestAmo
 use Rattle.job.specs.WellFormed.{Ranged}
 use Rattle.record_check.specs.declared.Form.{Form}
 use Rattle.header_check.specs.Header.{headerCheck, marksWrong}
-use Rattle.ranges.specs.Ranges.{levelInRange, factOk, levelOk, stepOk, conditionOk, effectOk, useOk, goalOk, timedOk}
+use Rattle.ranges.specs.Ranges.{levelInRange, factOk, levelOk, stepOk, conditionOk, effectOk, useOk, goalOk, timedOk, needOk}
 use Rattle.ranges.specs.Ranges.{recordOk, recordBroken, countIn}
 use Rattle.record_check.specs.Records.{tableCheck, recordCheck, RecordsPromise}
 
@@ -36,7 +36,8 @@ table-zero m t e k h =
 pub tables : (m : Model) → number (recordCheck m) ≡ 0 → (t : Table) (k : ℕ) → k < countIn m t → recordOk m t k ≡ true
 unfolding recordCheck
 tables m e =
-    let t = then-zero _ _ e in
+    let n = then-zero _ _ e in
+    let t = then-zero _ _ (n .0) in
     let g = then-zero _ _ (t .0) in
     let u = then-zero _ _ (g .0) in
     let f = then-zero _ _ (u .0) in
@@ -52,6 +53,7 @@ tables m e =
       | Uses ↦ table-zero m Uses (u .1)
       | Goals ↦ table-zero m Goals (g .1)
       | TimedFacts ↦ table-zero m TimedFacts (t .1)
+      | Needs ↦ table-zero m Needs (n .1)
     ]
 
 deadline : {d : ℕ} → (leb d lastDeadline || eqb d noDeadline) ≡ true → (d ≤ lastDeadline) ⊎ (d ≡ noDeadline)
@@ -137,10 +139,21 @@ timed-in m k e =
     let a = and-both _ _ (b .0) in
     (ltb-true _ _ (a .0), leb-true _ _ (a .1), leb-true _ _ (b .1))
 
+need-in :
+    (m : Model) (k : ℕ) → needOk m k ≡ true → (m .needStep k < m .steps) × (m .needLevel k < m .levels) × (m .needAt k ≤ m .stepLength
+    (m .needStep k)) × (lowestLevel ≤ m .needLeast k) × (m .needLeast k ≤ highestLevel)
+unfolding needOk
+need-in m k e =
+    let c = and-both _ (levelInRange (m .needLeast k)) e in
+    let b = and-both _ _ (c .0) in
+    let a = and-both _ _ (b .0) in
+    let d = and-both (leb lowestLevel (m .needLeast k)) _ (c .1) in
+    (ltb-true _ _ (a .0), ltb-true _ _ (a .1), leb-true _ _ (b .1), leb-true _ _ (d .0), leb-true _ _ (d .1))
+
 -- no count exceeds its highest
-pub counts : (c : Counts) → countTooHigh c ≡ false → (t : ℕ) → t < 8 → getD (countList c) t 0 ≤ getD highest t 0
+pub counts : (c : Counts) → countTooHigh c ≡ false → (t : ℕ) → t < 9 → getD (countList c) t 0 ≤ getD highest t 0
 unfolding countTooHigh
-counts c e t h = ltb-false _ _ (any-false _ 8 e t h)
+counts c e t h = ltb-false _ _ (any-false _ 9 e t h)
 
 -- the header, once refusals 1 to 5 pass
 pub header : (s : List ℕ) → number (headerCheck s) ≡ 0 → (jobOf s .serial ≤ 1) × (countTooHigh (jobOf s .count) ≡ false)
@@ -149,7 +162,7 @@ header s e =
     let a = then-zero _ _ e in
     let b = then-zero _ _ (a .0) in
     let c = then-zero _ _ (b .0) in (
-      ltb-false _ _ (or-both _ _ (refuse-zero _ _ (λ z. let y : _≡_ {A = ℕ} 3 0 = z in omega arith) (c .1)) .0),
+      ltb-false _ _ (or-both _ _ (or-both _ _ (refuse-zero _ _ (λ z. let y : _≡_ {A = ℕ} 3 0 = z in omega arith) (c .1)) .0) .0),
       refuse-zero _ _ (λ z. let y : _≡_ {A = ℕ} 4 0 = z in omega arith) (b .1),
     )
 
@@ -168,6 +181,7 @@ ranged s e =
       effectCount = n 4 (lit< tt);
       useCount = n 5 (lit< tt);
       timedCount = n 7 (lit< tt);
+      needCount = n 8 (lit< tt);
       initialValue = λ k l. fact-in m k (ok Facts k l);
       lengthRange = λ k l. step-in m k (ok Steps k l) .1;
       conditionStep = λ k l. condition-in m k (ok Conditions k l) .0;
@@ -185,6 +199,11 @@ ranged s e =
       timedFact = λ k l. timed-in m k (ok TimedFacts k l) .0;
       timedTick = λ k l. timed-in m k (ok TimedFacts k l) .1;
       timedValue = λ k l. timed-in m k (ok TimedFacts k l) .2;
+      needStep = λ k l. need-in m k (ok Needs k l) .0;
+      needLevel = λ k l. need-in m k (ok Needs k l) .1;
+      needEnd = λ k l. need-in m k (ok Needs k l) .2;
+      needFrom = λ k l. need-in m k (ok Needs k l) .3;
+      needTo = λ k l. need-in m k (ok Needs k l) .4;
     }
 
 -- the records that were read are in range

@@ -6,7 +6,7 @@ use Rattle.verdict.specs.declared.Verdict.{Verdict}
 use Rattle.verdict.specs.declared.Verdict.the-variants.{RecordOutOfRange}
 use Rattle.verdict.specs.Verdict.{number, _then_, refuseLowest}
 use Rattle.job.specs.declared.layout.Table.{Table}
-use Rattle.job.specs.declared.layout.Table.the-variants.{Facts, Levels, Steps, Conditions, Effects, Uses, Goals, TimedFacts}
+use Rattle.job.specs.declared.layout.Table.the-variants.{Facts, Levels, Steps, Conditions, Effects, Uses, Goals, TimedFacts, Needs}
 use Rattle.job.specs.Layout.{jobOf}
 use Rattle.job.specs.Model.{Model, modelOf}
 use Rattle.job.specs.WellFormed.{Ranged}
@@ -26,6 +26,7 @@ recordCheck m =
     then tableCheck m Uses
     then tableCheck m Goals
     then tableCheck m TimedFacts
+    then tableCheck m Needs
 
 -- what the check of the header and the records promises: its verdict, what it read of the header, and the ranges where it accepts
 pub record RecordsPromise (s : List ℕ) (r : Form) : Type 0 where

@@ -43,7 +43,8 @@ fn check_records(s: &[u8], job: Job) -> Verdict
     let v = table_after(v, s, job, Table::Effects);
     let v = table_after(v, s, job, Table::Uses);
     let v = table_after(v, s, job, Table::Goals);
-    table_after(v, s, job, Table::TimedFacts)
+    let v = table_after(v, s, job, Table::TimedFacts);
+    table_after(v, s, job, Table::Needs)
 }
 
 pub fn check_tables<'a>(r: JobReader<'a>) -> Verdict

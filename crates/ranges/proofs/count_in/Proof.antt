@@ -9,7 +9,7 @@ count-in-spec =
     tie.close
     (tie.spec
     (λ c. search needs) (λ c. search needs) (λ c. search needs) (λ c. search needs) (λ c. search needs) (λ c. search needs)
-    (λ c. search needs) (λ c. search needs)
+    (λ c. search needs) (λ c. search needs) (λ c. search needs)
     (λ c s. rw (c .enum-told .given .1) refl)
     (λ c s. rw (c .enum-told2 .given .1) refl)
     (λ c s. rw (c .enum-told3 .given .1) refl)
@@ -17,4 +17,5 @@ count-in-spec =
     (λ c s. rw (c .enum-told5 .given .1) refl)
     (λ c s. rw (c .enum-told6 .given .1) refl)
     (λ c s. rw (c .enum-told7 .given .1) refl)
-    (λ c s. rw (c .enum-told8 .given .1) refl))
+    (λ c s. rw (c .enum-told8 .given .1) refl)
+    (λ c s. rw (c .enum-told9 .given .1) refl))

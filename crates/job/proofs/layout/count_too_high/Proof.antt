@@ -1,4 +1,4 @@
--- The eight tests are those of `any 8`.
+-- The nine tests are those of `any 9`.
 use mathlib.Core.Path.{refl}
 use Rattle.laws.specs.Search.{any}
 use Rattle.job.specs.Layout.{countTooHigh}

@@ -1,4 +1,4 @@
--- The eight tables, chained as in `recordCheck`.
+-- The nine tables, chained as in `recordCheck`.
 use Rattle.record_check.specs.Records.{recordCheck}
 use Rattle.verdict.proofs.Chain.{accepted-then}
 use Rattle.laws.proofs.Search.{contrary}
@@ -22,14 +22,16 @@ check-records-spec =
     (λ c κs. let e = c .before .before .before .before .before in e .before .is-laid .ensures .0 (not-false _ (e .if1 .left)))
     (λ c κs. let e = c .before .before .before .before .before .before in e .before .is-laid .ensures .0 (not-false _ (e .if1 .left)))
     (λ c κs. let e = c .before .before .before .before .before .before .before in e .before .is-laid .ensures .0 (not-false _ (e .if1 .left)))
+    (λ c κs. let e = c .before .before .before .before .before .before .before .before in e .before .is-laid .ensures .0 (not-false _ (e .if1 .left)))
     (λ c. λ l. rw (
-      c .table-after8 .ensures,
-      c .before .table-after7 .ensures,
-      c .before .before .table-after6 .ensures,
-      c .before .before .before .table-after5 .ensures,
-      c .before .before .before .before .table-after4 .ensures,
-      c .before .before .before .before .before .table-after3 .ensures,
-      c .before .before .before .before .before .before .table-after2 .ensures,
-      c .before .before .before .before .before .before .before .table-after .ensures,
+      c .table-after9 .ensures,
+      c .before .table-after8 .ensures,
+      c .before .before .table-after7 .ensures,
+      c .before .before .before .table-after6 .ensures,
+      c .before .before .before .before .table-after5 .ensures,
+      c .before .before .before .before .before .table-after4 .ensures,
+      c .before .before .before .before .before .before .table-after3 .ensures,
+      c .before .before .before .before .before .before .before .table-after2 .ensures,
+      c .before .before .before .before .before .before .before .before .table-after .ensures,
       accepted-then,
     )))

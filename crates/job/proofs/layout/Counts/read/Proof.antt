@@ -11,14 +11,15 @@ read-spec =
     (tie.spec
     (λ c κs. search needs) (λ c. search needs) (λ c κs. search needs) (λ c. search needs) (λ c κs. search needs) (λ c. search needs)
     (λ c κs. search needs) (λ c. search needs) (λ c κs. search needs) (λ c. search needs) (λ c κs. search needs) (λ c. search needs)
-    (λ c κs. search needs) (λ c. search needs) (λ c κs. search needs) (λ c. search needs)
+    (λ c κs. search needs) (λ c. search needs) (λ c κs. search needs) (λ c. search needs) (λ c κs. search needs)
     (λ c. rw (
-      c .u16-at8 .ensures .0,
-      c .before .u16-at7 .ensures .0,
-      c .before .before .u16-at6 .ensures .0,
-      c .before .before .before .u16-at5 .ensures .0,
-      c .before .before .before .before .u16-at4 .ensures .0,
-      c .before .before .before .before .before .u16-at3 .ensures .0,
-      c .before .before .before .before .before .before .u16-at2 .ensures .0,
-      c .before .before .before .before .before .before .before .u16-at .ensures .0,
+      c .needs-counted .ensures,
+      c .before .u16-at8 .ensures .0,
+      c .before .before .u16-at7 .ensures .0,
+      c .before .before .before .u16-at6 .ensures .0,
+      c .before .before .before .before .u16-at5 .ensures .0,
+      c .before .before .before .before .before .u16-at4 .ensures .0,
+      c .before .before .before .before .before .before .u16-at3 .ensures .0,
+      c .before .before .before .before .before .before .before .u16-at2 .ensures .0,
+      c .before .before .before .before .before .before .before .before .u16-at .ensures .0,
     )))

@@ -1,0 +1,2 @@
+-- The verdicts of headers in three editions.
+pub mod HeaderCases
