@@ -23,21 +23,21 @@ use Rattle.form.specs.Refused.{FormRefusal, FormNumber}
 use Rattle.form.proofs.WellFormed.{well-formed}
 use Rattle.form.proofs.Refused.{form-most, form-refusal}
 use Rattle.validity.specs.declared.Rule.{Rule}
-use Rattle.validity.specs.declared.Rule.the-variants.{FixedSteps, Effects, Conditions, Levels, Goals, Steps}
+use Rattle.validity.specs.declared.Rule.the-variants.{FixedSteps, Effects, Conditions, Levels, Needs, Goals, Steps}
 use Rattle.validity.specs.Ticks.{scheduleOf, planned}
 use Rattle.validity.specs.Valid.{Valid}
 use Rattle.validity.specs.Checks.{broken, countUnder, refusalOf, ruleCheck, timingCheck, jobCheck, countCheck, startsCheck, scheduleCheck}
 use Rattle.validity.specs.Refused.{ruleNumber, FirstViolation, UnderItsSentence}
 use Rattle.validity.specs.Promise.{JobPromise, SchedulePromise}
 use Rattle.validity.proofs.Kept.{kept-valid, valid-kept, keeps-unbroken, not-both}
-use Rattle.validity.proofs.Refused.{CheckedTo, From, from-nine, rule-at, rule-most, timing-checked, starts-checked}
+use Rattle.validity.proofs.Refused.{CheckedTo, From, from-nine, not-timed, rules, turn-below, timing-checked, starts-checked}
 use Rattle.validity.proofs.Refused.{timing-from, count-from, starts-from}
 use Rattle.validity.proofs.Clock.{names-step}
 
 module _ (m : Model) (x : ℕ → ℕ) where
   -- what has passed every check keeps every rule
-  passed-valid : {v : Verdict} → CheckedTo m x 14 v → number v ≡ 0 → Valid m x
-  passed-valid c z = kept-valid m x (λ rule. c .kept z rule (rule-most rule))
+  passed-valid : {v : Verdict} → CheckedTo m x rules v → number v ≡ 0 → Valid m x
+  passed-valid c z = kept-valid m x (λ rule. c .kept z rule (turn-below rule))
 
   -- a rule accepts what keeps it
   rule-accepts : ClockedForm m → Valid m x → (rule : Rule) → number (ruleCheck m x rule) ≡ 0
@@ -46,13 +46,15 @@ module _ (m : Model) (x : ℕ → ℕ) where
       zero-lowest (countUnder m rule) (broken m x rule) (refusalOf rule)
       (λ k h. keeps-unbroken m x w (valid-kept m x v Effects) rule k h (valid-kept m x v rule k h))
 
-  -- and so a sound timing passes refusals 10 to 14
+  -- and so a sound timing passes refusals 10 to 14 and 21
   valid-accepted : ClockedForm m → Valid m x → number (timingCheck m x) ≡ 0
   unfolding timingCheck
   valid-accepted w v =
       zero-then _ _
       (zero-then _ _
+      (zero-then _ _
       (zero-then _ _ (zero-then _ _ (rule-accepts w v Effects) (rule-accepts w v Conditions)) (rule-accepts w v Levels))
+      (rule-accepts w v Needs))
       (rule-accepts w v Goals))
       (rule-accepts w v Steps)
 
@@ -75,17 +77,24 @@ module _ (s : List ℕ) (x : ℕ → ℕ) (t : Verdict) {r : Verdict} (e : r ≡
       ⊎-elim (λ (a : number (formCheck s) ≤ 7). omega (arith, q)) (λ (a : number (formCheck s) ≡ 17). n (q ∙ a)) (form-most s)
 
   -- the timing's verdict, where the form passes
-  module _ (from : From 8 t) (c : number (formCheck s) ≡ 0 → CheckedTo M x 14 t) where
-    checked : number (formCheck s) ≡ 0 → CheckedTo M x 14 r
-    checked z = subst (CheckedTo M x 14) (sym (timing-decides z)) (c z)
+  module _ (from : From 8 t) (c : number (formCheck s) ≡ 0 → CheckedTo M x rules t) where
+    checked : number (formCheck s) ≡ 0 → CheckedTo M x rules r
+    checked z = subst (CheckedTo M x rules) (sym (timing-decides z)) (c z)
 
     named : (rule : Rule) → number r ≡ ruleNumber rule → FirstViolation M x rule (place r)
     named rule q =
-        let n = from-nine rule in
         elim (ℕ-discrete (number (formCheck s)) 0) [
           | yes z ↦ checked z .named rule q
-          | no z ↦ absurd (form-only z (omega (arith, n .0)) (λ y. omega (arith, n .1)))
+          | no z ↦ absurd (form-only z (omega (arith, from-nine rule .0)) (λ y. not-timed rule (sym q ∙ y)))
         ]
+
+    -- a timing is never refused with 17
+    never-timed : number (formCheck s) ≡ 0 → number r ≡ 17 → ⊥
+    never-timed z y =
+        ⊎-elim
+        (λ (l : number r ≤ 8). omega arith)
+        (λ (b : (rule : Rule) × (number r ≡ ruleNumber rule)). not-timed (b .0) (sym (b .1) ∙ y))
+        (checked z .only)
 
     form-says : (number r ≡ 0 → ⊥) → FormNumber (number r) → (r ≡ formCheck s) × FormRefusal s r
     form-says n l =
@@ -93,18 +102,25 @@ module _ (s : List ℕ) (x : ℕ → ℕ) (t : Verdict) {r : Verdict} (e : r ≡
           | yes z ↦
               let q = ap number (timing-decides z) in
               let b = from (λ y. n (q ∙ y)) in
-              let a = c z .most in
-              absurd (⊎-elim (λ (y : number r ≤ 7). omega (arith, q)) (λ (y : number r ≡ 17). omega (arith, q)) l)
+              absurd (⊎-elim (λ (y : number r ≤ 7). omega (arith, q)) (λ (y : number r ≡ 17). never-timed z y) l)
           | no z ↦ (form-stands z, form-refusal s (form-stands z))
         ]
 
-    most : (number r ≤ 14) ⊎ (number r ≡ 17)
+    most : (number r ≤ 14) ⊎ ((number r ≡ 17) ⊎ (number r ≡ 21))
     most =
         elim (ℕ-discrete (number (formCheck s)) 0) [
-          | yes z ↦ inl (checked z .most)
+          | yes z ↦
+              ⊎-elim
+              (λ (l : number r ≤ 8). inl (omega arith))
+              (λ (b : (rule : Rule) × (number r ≡ ruleNumber rule)).
+              ⊎-elim
+              (λ (l : ruleNumber (b .0) ≤ 14). inl (omega (arith, b .1)))
+              (λ (q : ruleNumber (b .0) ≡ 21). inr (inr (b .1 ∙ q)))
+              (from-nine (b .0) .1))
+              (checked z .only)
           | no z ↦
               let q = ap number (form-stands z) in
-              ⊎-elim (λ (a : number (formCheck s) ≤ 7). inl (omega (arith, q))) (λ (a : number (formCheck s) ≡ 17). inr (q ∙ a)) (form-most s)
+              ⊎-elim (λ (a : number (formCheck s) ≤ 7). inl (omega (arith, q))) (λ (a : number (formCheck s) ≡ 17). inr (inl (q ∙ a))) (form-most s)
         ]
 
     under-its-sentence : UnderItsSentence s x r
@@ -121,9 +137,11 @@ module _ (s : List ℕ) (x : ℕ → ℕ) (t : Verdict) {r : Verdict} (e : r ≡
           unsound = λ l n v.
               elim (ℕ-discrete (number (formCheck s)) 0) [
                 | yes z ↦
-                    let rule = rule-at (number r) l (checked z .most) in
-                    let f = named (rule .0) (sym (rule .1)) in
-                    not-both M x (rule .0) _ (f .violates) (valid-kept M x v (rule .0) _ (f .counted))
+                    ⊎-elim
+                    (λ (b : number r ≤ 8). omega arith)
+                    (λ (b : (rule : Rule) × (number r ≡ ruleNumber rule)).
+                    let f = named (b .0) (b .1) in not-both M x (b .0) _ (f .violates) (valid-kept M x v (b .0) _ (f .counted)))
+                    (checked z .only)
                 | no z ↦ form-only z (omega arith) n
               ];
           unplaced = unplaced r;
@@ -137,7 +155,7 @@ job-promise s {r} e =
     let m = clocked (modelOf s) in
     let x = planned m in
     let t = timingCheck m x in
-    let c : number (formCheck s) ≡ 0 → CheckedTo m x 14 t = λ z.
+    let c : number (formCheck s) ≡ 0 → CheckedTo m x rules t = λ z.
     timing-checked m x (clocked-form (modelOf s) (well-formed s z)) (λ k h _. getD-tabulate (m .start) (m .steps) k 0 h)
     in
     record {
@@ -165,7 +183,7 @@ schedule-promise s starts {r} e =
     let m = clocked (modelOf s) in
     let x : ℕ → ℕ = scheduleOf starts in
     let t = startsCheck m starts in
-    let c : number (formCheck s) ≡ 0 → CheckedTo m x 14 t = λ z. starts-checked m (clocked-form (modelOf s) (well-formed s z)) starts in
+    let c : number (formCheck s) ≡ 0 → CheckedTo m x rules t = λ z. starts-checked m (clocked-form (modelOf s) (well-formed s z)) starts in
     record {
       answer = e;
       oneEach = λ z.

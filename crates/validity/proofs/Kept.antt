@@ -12,17 +12,17 @@ use Rattle.laws.proofs.Search.{contrary, and-both, or-out, any-elim}
 use Rattle.job.specs.Model.{Model}
 use Rattle.job.specs.Clocked.{ClockedForm}
 use Rattle.validity.specs.declared.Rule.{Rule}
-use Rattle.validity.specs.declared.Rule.the-variants.{FixedSteps, Effects, Conditions, Levels, Goals, Steps}
+use Rattle.validity.specs.declared.Rule.the-variants.{FixedSteps, Effects, Conditions, Levels, Needs, Goals, Steps}
 use Rattle.validity.specs.Ticks.{effectTick, firstTick, useTick, finish}
 use Rattle.validity.specs.Seen.{seen, afterAll}
-use Rattle.validity.specs.Levels.{risesBefore, fallsBefore}
+use Rattle.validity.specs.Levels.{risesBefore, fallsBefore, unmet}
 use Rattle.validity.specs.Valid.{Valid}
 use Rattle.validity.specs.Checks.{moved, meets, conflicts, breaks, conditionFails, passes, levelFails, undoes, late, goalFails, overlaps, crowded}
 use Rattle.validity.specs.Checks.{broken, countUnder}
-use Rattle.validity.specs.Refused.{Keeps, Kept, Violates, ruleNumber}
-use Rattle.validity.specs.Refused.{Moved, ConflictsWith, UnseenAt, OpposedBy, OutOfBounds, LateAt, OverlapsWith}
+use Rattle.validity.specs.Refused.{Keeps, Kept, Violates, turn}
+use Rattle.validity.specs.Refused.{Moved, ConflictsWith, UnseenAt, OpposedBy, OutOfBounds, Unmet, LateAt, OverlapsWith}
 use Rattle.validity.proofs.Tested.{opposes-out, moved-none, none-moved, conflicts-none, none-conflicts, breaks-none, low-everywhere}
-use Rattle.validity.proofs.Tested.{high-everywhere, none-passes, crowded-none, none-crowded, condition-holds, condition-seen}
+use Rattle.validity.proofs.Tested.{high-everywhere, none-passes, unmet-none, none-unmet, crowded-none, none-crowded, condition-holds, condition-seen}
 use Rattle.validity.proofs.Tested.{none-condition-fails, goal-holds, goal-in-time, undone, none-goal-fails}
 
 -- a test of order that fails
@@ -39,6 +39,7 @@ module _ (m : Model) (x : ℕ → ℕ) where
         conditionKept = λ c e h. kept Conditions c h .unopposed e;
         levelLow = λ l t h. kept Levels l h .low t;
         levelHigh = λ l t h. kept Levels l h .high t;
+        needMet = kept Needs;
         goalReached = λ g h. kept Goals g h .reached;
         goalInTime = λ g t h. kept Goals g h .inTime t;
         serialApart = λ s i k h. kept Steps i h s k;
@@ -50,6 +51,7 @@ module _ (m : Model) (x : ℕ → ℕ) where
   valid-kept v Effects e h = λ f g. v .effectsApart e f h g
   valid-kept v Conditions c h = record { seenThroughout = λ t. v .conditionSeen c t h; unopposed = λ e. v .conditionKept c e h }
   valid-kept v Levels l h = record { low = λ t. v .levelLow l t h; high = λ t. v .levelHigh l t h }
+  valid-kept v Needs n h = v .needMet n h
   valid-kept v Goals g h = record { reached = v .goalReached g h; inTime = λ t. v .goalInTime g t h }
   valid-kept v Steps i h = λ s k. v .serialApart s i k h
 
@@ -69,6 +71,7 @@ module _ (m : Model) (x : ℕ → ℕ) where
       (λ (a : m .levelInitial l + risesBefore m x l (v .0) < m .levelLeast l + fallsBefore m x l (suc (v .0))). omega (arith, h .low (v .0)))
       (λ (a : m .levelMost l + fallsBefore m x l (v .0) < m .levelInitial l + risesBefore m x l (suc (v .0))). omega (arith, h .high (v .0)))
       (v .1)
+  not-both Needs n v h = omega arith
   not-both Goals g v h =
       ⊎-elim
       (λ (a : seen m x (m .goalFact g) (afterAll m x) ≡ m .goalValue g → ⊥). a (h .reached))
@@ -93,6 +96,7 @@ module _ (m : Model) (x : ℕ → ℕ) (w : ClockedForm m) where
       }
   unbroken-keeps Levels l h n =
       record { low = λ t. low-everywhere m x l t (w .levelLow l h) n; high = λ t. high-everywhere m x l t (w .levelHigh l h) n }
+  unbroken-keeps Needs k h n = unmet-none m x k n
   unbroken-keeps Goals g h n =
       let b = goal-holds m x g n in record { reached = b .0; inTime = λ t. goal-in-time m x w g t h (b .1) }
   unbroken-keeps Steps i h n = λ s k g. crowded-none m x i k g n s
@@ -104,6 +108,7 @@ module _ (m : Model) (x : ℕ → ℕ) (w : ClockedForm m) where
   keeps-unbroken a Effects e h v = none-conflicts m x e v
   keeps-unbroken a Conditions c h v = none-condition-fails m x w c h v
   keeps-unbroken a Levels l h v = none-passes m x l v
+  keeps-unbroken a Needs n h v = none-unmet m x n v
   keeps-unbroken a Goals g h v = none-goal-fails m x w a g h v
   keeps-unbroken a Steps i h v = none-crowded m x i v
 
@@ -178,6 +183,10 @@ module _ (m : Model) (x : ℕ → ℕ) (w : ClockedForm m) where
         ],
       )
 
+  unmet-violates : (n : ℕ) → unmet m x n ≡ true → Unmet m x n
+  unfolding unmet
+  unmet-violates n e = ltb-true _ _ e
+
   late-violates : Kept m x Effects → (g : ℕ) → g < m .goals → late m x g ≡ true → (t : ℕ) × LateAt m x g t
   unfolding late undoes
   late-violates apart g h e =
@@ -219,12 +228,13 @@ module _ (m : Model) (x : ℕ → ℕ) (w : ClockedForm m) where
       )
 
   pub broken-violates :
-      (rule : Rule) → ((earlier : Rule) → ruleNumber earlier < ruleNumber rule → Kept m x earlier) → (k : ℕ) → k < countUnder m rule
+      (rule : Rule) → ((earlier : Rule) → turn earlier < turn rule → Kept m x earlier) → (k : ℕ) → k < countUnder m rule
       → broken m x rule k ≡ true
       → Violates m x rule k
   broken-violates FixedSteps earlier k h e = moved-violates k e
   broken-violates Effects earlier k h e = conflicts-violates k e
   broken-violates Conditions earlier k h e = condition-violates k h e
   broken-violates Levels earlier k h e = level-violates k e
+  broken-violates Needs earlier k h e = unmet-violates k e
   broken-violates Goals earlier k h e = goal-violates (earlier Effects (omega arith)) k h e
   broken-violates Steps earlier k h e = steps-violate k e

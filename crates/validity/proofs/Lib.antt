@@ -1,4 +1,4 @@
--- Laws of the definitions in specs/, and that the checks say what `Valid` says.
+-- Laws of the definitions in specs/, that the checks say what `Valid` says, and the cases of needs by computing.
 pub mod Seen
 pub mod Levels
 pub mod Planned
@@ -8,3 +8,4 @@ pub mod EndState
 pub mod Refused
 pub mod Clock
 pub mod Accepted
+pub mod Needs

@@ -1,12 +1,12 @@
 -- A chain of checks names the first violation: its number is the rule's, its place the lowest record that violates it.
-use Prim.Native.Nat.{ℕ, suc, _≤_, _<_}
+use Prim.Native.Nat.{ℕ, suc, _+_, _≤_, _<_}
 use mathlib.Core.Path.{_≡_, refl, sym, ap, subst, _∙_}
 use mathlib.Core.Bool.{true, false, cond}
 use mathlib.Core.List.{List}
-use mathlib.Core.Logic.{⊎-elim}
+use mathlib.Core.Logic.{_⊎_, inl, inr, ⊎-elim}
 use native.Mathlib.Decide.{ℕ-discrete, decLe}
 use native.Mathlib.Omega.{arith}
-use lib.Dec.{eqb}
+use lib.Dec.{ltb, eqb}
 use Rattle.laws.specs.Search.{lowest}
 use Rattle.verdict.specs.declared.Verdict.{Verdict}
 use Rattle.verdict.specs.declared.Verdict.the-variants.{Accepted}
@@ -15,10 +15,10 @@ use Rattle.verdict.proofs.Chain.{then-refused, then-accepted, then-either, refu
 use Rattle.job.specs.Model.{Model}
 use Rattle.job.specs.Clocked.{ClockedForm}
 use Rattle.validity.specs.declared.Rule.{Rule}
-use Rattle.validity.specs.declared.Rule.the-variants.{FixedSteps, Effects, Conditions, Levels, Goals, Steps}
+use Rattle.validity.specs.declared.Rule.the-variants.{FixedSteps, Effects, Conditions, Levels, Needs, Goals, Steps}
 use Rattle.validity.specs.Ticks.{scheduleOf}
 use Rattle.validity.specs.Checks.{broken, countUnder, refusalOf, ruleCheck, timingCheck, countCheck, startsCheck}
-use Rattle.validity.specs.Refused.{Kept, ruleNumber, FirstViolation}
+use Rattle.validity.specs.Refused.{Kept, ruleNumber, turn, FirstViolation}
 use Rattle.validity.proofs.Kept.{unbroken-keeps, broken-violates}
 
 -- a rule refuses with its number at the record's place
@@ -27,6 +27,7 @@ numbered FixedSteps k = refl
 numbered Effects k = refl
 numbered Conditions k = refl
 numbered Levels k = refl
+numbered Needs k = refl
 numbered Goals k = refl
 numbered Steps k = refl
 
@@ -35,105 +36,123 @@ placed FixedSteps k = refl
 placed Effects k = refl
 placed Conditions k = refl
 placed Levels k = refl
+placed Needs k = refl
 placed Goals k = refl
 placed Steps k = refl
 
--- from 9 to 14
-pub from-nine : (rule : Rule) → (8 < ruleNumber rule) × (ruleNumber rule ≤ 14)
-from-nine FixedSteps = (omega arith, omega arith)
-from-nine Effects = (omega arith, omega arith)
-from-nine Conditions = (omega arith, omega arith)
-from-nine Levels = (omega arith, omega arith)
-from-nine Goals = (omega arith, omega arith)
-from-nine Steps = (omega arith, omega arith)
+-- from 9 to 14, or 21
+pub from-nine : (rule : Rule) → (8 < ruleNumber rule) × ((ruleNumber rule ≤ 14) ⊎ (ruleNumber rule ≡ 21))
+from-nine FixedSteps = (omega arith, inl (omega arith))
+from-nine Effects = (omega arith, inl (omega arith))
+from-nine Conditions = (omega arith, inl (omega arith))
+from-nine Levels = (omega arith, inl (omega arith))
+from-nine Needs = (omega arith, inr refl)
+from-nine Goals = (omega arith, inl (omega arith))
+from-nine Steps = (omega arith, inl (omega arith))
+
+-- the form check's 17 is no rule's
+pub not-timed : (rule : Rule) → ruleNumber rule ≡ 17 → ⊥
+not-timed rule e =
+    ⊎-elim (λ (l : ruleNumber rule ≤ 14). omega arith) (λ (q : ruleNumber rule ≡ 21). omega arith) (from-nine rule .1)
 
 -- the rule of a number, so that no two rules share one
 abbrev ruleOf : ℕ → Rule
 ruleOf n =
-    cond (eqb n 9) FixedSteps (cond (eqb n 10) Effects (cond (eqb n 11) Conditions (cond (eqb n 12) Levels (cond (eqb n 13) Goals Steps))))
+    cond (eqb n 9) FixedSteps
+    (cond (eqb n 10) Effects (cond (eqb n 11) Conditions (cond (eqb n 12) Levels (cond (eqb n 21) Needs (cond (eqb n 13) Goals Steps)))))
 
 rule-back : (rule : Rule) → ruleOf (ruleNumber rule) ≡ rule
 rule-back FixedSteps = refl
 rule-back Effects = refl
 rule-back Conditions = refl
 rule-back Levels = refl
+rule-back Needs = refl
 rule-back Goals = refl
 rule-back Steps = refl
 
 same-rule : (a b : Rule) → ruleNumber a ≡ ruleNumber b → a ≡ b
 same-rule a b e = sym (rule-back a) ∙ ap ruleOf e ∙ rule-back b
 
-pub rule-most : (rule : Rule) → ruleNumber rule ≤ 14
-rule-most rule = from-nine rule .1
+-- a rule's number by its turn, so that no two rules share one
+abbrev numberAt : ℕ → ℕ
+numberAt t = cond (ltb t 4) (9 + t) (cond (eqb t 4) 21 (8 + t))
 
--- every number from 9 to 14 is a rule's
-pub rule-at : (n : ℕ) → 8 < n → n ≤ 14 → (rule : Rule) × (ruleNumber rule ≡ n)
-rule-at n h l =
-    elim (ℕ-discrete n 9) [
-      | yes e ↦ (FixedSteps, sym e)
-      | no a ↦ elim (ℕ-discrete n 10) [
-        | yes e ↦ (Effects, sym e)
-        | no b ↦ elim (ℕ-discrete n 11) [
-          | yes e ↦ (Conditions, sym e)
-          | no c ↦ elim (ℕ-discrete n 12) [
-            | yes e ↦ (Levels, sym e)
-            | no d ↦ elim (ℕ-discrete n 13) [ yes e ↦ (Goals, sym e) | no f ↦ (Steps, omega arith) ]
-          ]
-        ]
-      ]
-    ]
+number-back : (rule : Rule) → numberAt (turn rule) ≡ ruleNumber rule
+number-back FixedSteps = refl
+number-back Effects = refl
+number-back Conditions = refl
+number-back Levels = refl
+number-back Needs = refl
+number-back Goals = refl
+number-back Steps = refl
 
--- a verdict after the checks up to number n: it refuses with none above, it has passed all of them where it accepts, and where it
+same-turn : (a b : Rule) → turn a ≡ turn b → a ≡ b
+same-turn a b e = same-rule a b (sym (number-back a) ∙ ap numberAt e ∙ number-back b)
+
+-- how many rules there are
+abbrev pub rules : ℕ
+rules = 7
+
+pub turn-below : (rule : Rule) → turn rule < rules
+turn-below FixedSteps = omega arith
+turn-below Effects = omega arith
+turn-below Conditions = omega arith
+turn-below Levels = omega arith
+turn-below Needs = omega arith
+turn-below Goals = omega arith
+turn-below Steps = omega arith
+
+-- a verdict after the first n rules: it refuses by a rule or with 8 or less, it has passed those rules where it accepts, and where it
 -- refuses by a rule it names the first violation
 pub record CheckedTo (m : Model) (x : ℕ → ℕ) (n : ℕ) (v : Verdict) : Type 0 where
-  pub most : number v ≤ n
-  pub kept : number v ≡ 0 → (rule : Rule) → ruleNumber rule ≤ n → Kept m x rule
+  pub only : (number v ≤ 8) ⊎ ((rule : Rule) × (number v ≡ ruleNumber rule))
+  pub kept : number v ≡ 0 → (rule : Rule) → turn rule < n → Kept m x rule
   pub named : (rule : Rule) → number v ≡ ruleNumber rule → FirstViolation m x rule (place v)
 
 module _ (m : Model) (x : ℕ → ℕ) where
   -- checks below every rule
-  pub below-rules : (n : ℕ) (v : Verdict) → n ≤ 8 → number v ≤ n → CheckedTo m x n v
-  below-rules n v h l =
+  pub below-rules : (v : Verdict) → number v ≤ 8 → CheckedTo m x 0 v
+  below-rules v l =
       record {
-        most = l;
-        kept = λ z rule k. absurd (omega (arith, from-nine rule .0));
+        only = inl l;
+        kept = λ z rule h. absurd (omega arith);
         named = λ rule e. absurd (omega (arith, from-nine rule .0));
       }
 
   -- a check and the next one
-  pub then-checked : (n n' : ℕ) (v w : Verdict) → n ≤ n' → CheckedTo m x n v → (number v ≡ 0 → CheckedTo m x n' w) → CheckedTo m x n' (v then w)
-  then-checked n n' v w h a b =
+  pub then-checked : (n n' : ℕ) (v w : Verdict) → CheckedTo m x n v → (number v ≡ 0 → CheckedTo m x n' w) → CheckedTo m x n' (v then w)
+  then-checked n n' v w a b =
       elim (ℕ-discrete (number v) 0) [
         | yes z ↦ subst (CheckedTo m x n') (then-accepted v w z) (b z)
         | no z ↦ subst (CheckedTo m x n') (then-refused v w z)
-            (record { most = omega (arith, a .most); kept = λ e. absurd (z e); named = a .named })
+            (record { only = a .only; kept = λ e. absurd (z e); named = a .named })
       ]
 
   -- one rule, where those before it are kept
   pub rule-checked :
-      ClockedForm m → (rule : Rule) (n : ℕ) → n ≡ ruleNumber rule → ((earlier : Rule) → ruleNumber earlier < n → Kept m x earlier)
-      → CheckedTo m x n (ruleCheck m x rule)
+      ClockedForm m → (rule : Rule) (n : ℕ) → n ≡ turn rule → ((earlier : Rule) → turn earlier < n → Kept m x earlier)
+      → CheckedTo m x (suc n) (ruleCheck m x rule)
   unfolding ruleCheck
   rule-checked w rule n q before =
-      let before' : (earlier : Rule) → ruleNumber earlier < ruleNumber rule → Kept m x earlier = λ r h. before r (omega arith) in
+      let before' : (earlier : Rule) → turn earlier < turn rule → Kept m x earlier = λ r h. before r (omega arith) in
       ⊎-elim
       (λ (a : (ruleCheck m x rule ≡ Accepted) × ((k : ℕ) → k < countUnder m rule → broken m x rule k ≡ false)).
-      subst (CheckedTo m x n) (sym (a .0))
+      subst (CheckedTo m x (suc n)) (sym (a .0))
       (record {
-        most = omega arith;
+        only = inl (omega arith);
         kept = λ _ other h.
-            elim (decLe n (ruleNumber other)) [
+            elim (decLe n (turn other)) [
               | yes l ↦
-                  subst (Kept m x) (same-rule rule other (omega arith)) (λ k g. unbroken-keeps m x w rule k g (a .1 k g))
+                  subst (Kept m x) (same-turn rule other (omega arith)) (λ k g. unbroken-keeps m x w rule k g (a .1 k g))
               | no l ↦ before other (omega arith)
             ];
         named = λ other e. absurd (omega (arith, from-nine other .0));
       }))
       (λ (a : (k : ℕ) × (k < countUnder m rule) × (broken m x rule k ≡ true) × ((j : ℕ) → j < k → broken m x rule j ≡ false)
       × (ruleCheck m x rule ≡ refusalOf rule k)).
-      subst (CheckedTo m x n) (sym (a .4))
+      subst (CheckedTo m x (suc n)) (sym (a .4))
       (record {
-        most = omega (arith, numbered rule (a .0));
+        only = inr (rule, numbered rule (a .0));
         kept = λ z. absurd (omega (arith, numbered rule (a .0), from-nine rule .0));
         named = λ other e.
             subst (λ (r : Rule). FirstViolation m x r (place (refusalOf rule (a .0)))) (same-rule rule other (sym (numbered rule (a .0)) ∙ e))
@@ -149,30 +168,31 @@ module _ (m : Model) (x : ℕ → ℕ) where
 
   -- one more rule
   next-checked :
-      ClockedForm m → (rule : Rule) (n : ℕ) (v : Verdict) → suc n ≡ ruleNumber rule → CheckedTo m x n v
+      ClockedForm m → (rule : Rule) (n : ℕ) (v : Verdict) → n ≡ turn rule → CheckedTo m x n v
       → CheckedTo m x (suc n) (v then ruleCheck m x rule)
   next-checked w rule n v q a =
-      then-checked n (suc n) v (ruleCheck m x rule) (omega arith) a (λ z. rule-checked w rule (suc n) q (λ r h. a .kept z r (omega arith)))
+      then-checked n (suc n) v (ruleCheck m x rule) a (λ z. rule-checked w rule n q (λ r h. a .kept z r h))
 
-  -- refusals 10 to 14
-  pub timing-checked : ClockedForm m → Kept m x FixedSteps → CheckedTo m x 14 (timingCheck m x)
+  -- refusals 10 to 14 and 21
+  pub timing-checked : ClockedForm m → Kept m x FixedSteps → CheckedTo m x rules (timingCheck m x)
   unfolding timingCheck
   timing-checked w fixed =
-      next-checked w Steps 13 _ refl
-      (next-checked w Goals 12 _ refl
-      (next-checked w Levels 11 _ refl
-      (next-checked w Conditions 10 _ refl
-      (rule-checked w Effects 10 refl
-      (λ r h. subst (Kept m x) (same-rule FixedSteps r (omega (arith, from-nine r .0))) fixed)))))
+      next-checked w Steps 6 _ refl
+      (next-checked w Goals 5 _ refl
+      (next-checked w Needs 4 _ refl
+      (next-checked w Levels 3 _ refl
+      (next-checked w Conditions 2 _ refl
+      (rule-checked w Effects 1 refl
+      (λ r h. subst (Kept m x) (same-turn FixedSteps r (omega arith)) fixed))))))
 
--- refusals 8 to 14
-pub starts-checked : (m : Model) → ClockedForm m → (starts : List ℕ) → CheckedTo m (scheduleOf starts) 14 (startsCheck m starts)
+-- refusals 8 to 14 and 21
+pub starts-checked : (m : Model) → ClockedForm m → (starts : List ℕ) → CheckedTo m (scheduleOf starts) rules (startsCheck m starts)
 unfolding startsCheck countCheck
 starts-checked m w starts =
     let x : ℕ → ℕ = scheduleOf starts in
-    let counted = below-rules m x 8 (countCheck m starts) (omega arith) (refuse-either (λ (v : Verdict). number v ≤ 8) _ _ (omega arith) (omega arith)) in
-    let nine = next-checked m x w FixedSteps 8 _ refl counted in
-    then-checked m x 9 14 _ (timingCheck m x) (omega arith) nine (λ z. timing-checked m x w (nine .kept z FixedSteps (omega arith)))
+    let counted = below-rules m x (countCheck m starts) (refuse-either (λ (v : Verdict). number v ≤ 8) _ _ (omega arith) (omega arith)) in
+    let first = next-checked m x w FixedSteps 0 _ refl counted in
+    then-checked m x 1 rules _ (timingCheck m x) first (λ z. timing-checked m x w (first .kept z FixedSteps (omega arith)))
 
 -- and no refusal of the timing has a lower number
 abbrev pub From : ℕ → Verdict → Type 0
@@ -189,8 +209,10 @@ module _ (m : Model) (x : ℕ → ℕ) where
       then-either (From 10) _ _
       (then-either (From 10) _ _
       (then-either (From 10) _ _
+      (then-either (From 10) _ _
       (then-either (From 10) _ _ (rule-from Effects 10 (omega arith)) (rule-from Conditions 10 (omega arith)))
       (rule-from Levels 10 (omega arith)))
+      (rule-from Needs 10 (omega arith)))
       (rule-from Goals 10 (omega arith)))
       (rule-from Steps 10 (omega arith))
 

@@ -5,7 +5,7 @@ use mathlib.Core.Bool.{Bool, true, false, not, _&&_, _||_, cond}
 use mathlib.Core.Logic.{_⊎_, inl, inr, ⊎-elim}
 use native.Mathlib.Decide.{ℕ-discrete, decLe}
 use native.Mathlib.Omega.{arith}
-use borrow.Author.Tests.{ltb-true, leb-true, eqb-true, eqb-false, not-true, not-false, lt-ltb, le-leb, eq-eqb, ne-eqb}
+use borrow.Author.Tests.{ltb-true, ltb-false, leb-true, eqb-true, eqb-false, not-true, not-false, lt-ltb, le-ltb, le-leb, eq-eqb, ne-eqb}
 use lib.Dec.{leb, eqb}
 use Rattle.laws.specs.Search.{any}
 use Rattle.laws.proofs.Search.{either, contrary, and-both, or-both, any-none, any-false}
@@ -15,9 +15,9 @@ use Rattle.job.specs.Model.{noDeadline}
 use Rattle.job.specs.Clocked.{ClockedForm}
 use Rattle.validity.specs.Ticks.{effectTick, firstTick, lastTick, useTick, finish, opposes}
 use Rattle.validity.specs.Seen.{seen, afterAll}
-use Rattle.validity.specs.Levels.{risesBefore, fallsBefore, usedBy, rise, fall, aboveLeast, belowMost}
+use Rattle.validity.specs.Levels.{risesBefore, fallsBefore, usedBy, rise, fall, aboveLeast, belowMost, unmet}
 use Rattle.validity.specs.Checks.{moved, meets, conflicts, breaks, conditionFails, passes, levelFails, undoes, late, goalFails, overlaps, crowded}
-use Rattle.validity.specs.declared.Rule.the-variants.{Effects, Steps}
+use Rattle.validity.specs.declared.Rule.the-variants.{Effects, Needs, Steps}
 use Rattle.validity.specs.Refused.{Keeps, Kept, ConditionHolds, LevelHolds, GoalHolds}
 use Rattle.validity.proofs.Seen.{Giver, seen-persists, seen-other}
 use Rattle.validity.proofs.Levels.{rises-idle, falls-idle, rises-ascend, falls-ascend, last-use}
@@ -168,6 +168,15 @@ module _ (m : Model) (x : ℕ → ℕ) where
       contrary
       (ap₂ _&&_ (le-leb _ _ (v .low (useTick m x u))) (le-leb _ _ (v .high (useTick m x u))))
       (not-true _ (b .1))))
+
+  -- refusal 21
+  pub unmet-none : (n : ℕ) → unmet m x n ≡ false → Keeps m x Needs n
+  unfolding unmet
+  unmet-none n h = ltb-false _ _ h
+
+  pub none-unmet : (n : ℕ) → Keeps m x Needs n → unmet m x n ≡ false
+  unfolding unmet
+  none-unmet n v = le-ltb _ _ v
 
   -- refusal 14
   pub crowded-none :

@@ -1,4 +1,4 @@
--- Refusals 8 to 14, in checking order. Rules that speak of every tick are tested at the ticks where something happens.
+-- Refusals 8 to 14 and 21, in checking order: 21 comes after 12. Rules that speak of every tick are tested at the ticks where something happens.
 use Prim.Native.Nat.{ℕ, suc}
 use mathlib.Core.Bool.{Bool, _&&_, _||_, not}
 use mathlib.Core.List.{List}
@@ -7,17 +7,17 @@ use lib.Dec.{ltb, leb, eqb}
 use Rattle.laws.specs.Search.{any}
 use Rattle.verdict.specs.declared.Verdict.{Verdict}
 use Rattle.verdict.specs.declared.Verdict.the-variants.{StartsMiscounted, FixedStepMoved, EffectsConflict, ConditionFails, LevelOutOfBounds}
-use Rattle.verdict.specs.declared.Verdict.the-variants.{GoalFails, StepsOverlap}
+use Rattle.verdict.specs.declared.Verdict.the-variants.{GoalFails, StepsOverlap, NeedUnmet}
 use Rattle.verdict.specs.Verdict.{_then_, refuseIf, refuseLowest}
 use Rattle.job.specs.Model.{Model, modelOf}
 use Rattle.job.specs.Clocked.{clocked}
 use Rattle.job.specs.Model.{noDeadline}
 use Rattle.form.specs.Refusals.{formCheck}
 use Rattle.validity.specs.declared.Rule.{Rule}
-use Rattle.validity.specs.declared.Rule.the-variants.{FixedSteps, Effects, Conditions, Levels, Goals, Steps}
+use Rattle.validity.specs.declared.Rule.the-variants.{FixedSteps, Effects, Conditions, Levels, Needs, Goals, Steps}
 use Rattle.validity.specs.Ticks.{scheduleOf, planned, effectTick, firstTick, lastTick, useTick, finish, opposes, ofAnother}
 use Rattle.validity.specs.Seen.{seen, afterAll}
-use Rattle.validity.specs.Levels.{aboveLeast, belowMost}
+use Rattle.validity.specs.Levels.{aboveLeast, belowMost, unmet}
 
 -- refusal 9: a fixed step has another start
 unfoldable pub moved : Model → (ℕ → ℕ) → ℕ → Bool
@@ -76,12 +76,13 @@ overlaps m x i k = not (eqb i k) && not (leb (finish m x i) (x k)) && not (leb (
 unfoldable pub crowded : Model → (ℕ → ℕ) → ℕ → Bool
 crowded m x i = eqb (m .serial) 1 && any (m .steps) (overlaps m x i)
 
--- whether the k-th fixed step, effect, condition, level, goal or step breaks its rule
+-- whether the k-th fixed step, effect, condition, level, need, goal or step breaks its rule
 abbrev pub broken : Model → (ℕ → ℕ) → Rule → ℕ → Bool
 broken m x FixedSteps k = moved m x k
 broken m x Effects k = conflicts m x k
 broken m x Conditions k = conditionFails m x k
 broken m x Levels k = levelFails m x k
+broken m x Needs k = unmet m x k
 broken m x Goals k = goalFails m x k
 broken m x Steps k = crowded m x k
 
@@ -91,6 +92,7 @@ countUnder m FixedSteps = m .steps
 countUnder m Effects = m .effects
 countUnder m Conditions = m .conditions
 countUnder m Levels = m .levels
+countUnder m Needs = m .needs
 countUnder m Goals = m .goals
 countUnder m Steps = m .steps
 
@@ -100,6 +102,7 @@ refusalOf FixedSteps k = FixedStepMoved k
 refusalOf Effects k = EffectsConflict k
 refusalOf Conditions k = ConditionFails k
 refusalOf Levels k = LevelOutOfBounds k
+refusalOf Needs k = NeedUnmet k
 refusalOf Goals k = GoalFails k
 refusalOf Steps k = StepsOverlap k
 
@@ -107,13 +110,14 @@ refusalOf Steps k = StepsOverlap k
 unfoldable pub ruleCheck : Model → (ℕ → ℕ) → Rule → Verdict
 ruleCheck m x rule = refuseLowest (countUnder m rule) (broken m x rule) (refusalOf rule)
 
--- refusals 10 to 14
+-- refusals 10 to 14 and 21
 unfoldable pub timingCheck : Model → (ℕ → ℕ) → Verdict
 timingCheck m x =
-    ruleCheck m x Effects then ruleCheck m x Conditions then ruleCheck m x Levels then ruleCheck m x Goals
+    ruleCheck m x Effects then ruleCheck m x Conditions then ruleCheck m x Levels then ruleCheck m x Needs
+    then ruleCheck m x Goals
     then ruleCheck m x Steps
 
--- the job check: 1 to 7 and 17, then 10 to 14 on the written starts, of the job with its timed facts as effects of the clock
+-- the job check: 1 to 7 and 17, then 10 to 14 and 21 on the written starts, of the job with its timed facts as effects of the clock
 unfoldable pub jobCheck : List ℕ → Verdict
 jobCheck s = formCheck s then timingCheck (clocked (modelOf s)) (planned (modelOf s))
 
@@ -121,11 +125,11 @@ jobCheck s = formCheck s then timingCheck (clocked (modelOf s)) (planned (modelO
 unfoldable pub countCheck : Model → List ℕ → Verdict
 countCheck m starts = refuseIf (not (eqb (length starts) (m .steps))) StartsMiscounted
 
--- refusals 8 to 14
+-- refusals 8 to 14 and 21
 unfoldable pub startsCheck : Model → List ℕ → Verdict
 startsCheck m starts =
     countCheck m starts then ruleCheck m (scheduleOf starts) FixedSteps then timingCheck m (scheduleOf starts)
 
--- the timing check: 1 to 7 and 17, then 8 to 14
+-- the timing check: 1 to 7 and 17, then 8 to 14 and 21
 unfoldable pub scheduleCheck : List ℕ → List ℕ → Verdict
 scheduleCheck s starts = formCheck s then startsCheck (clocked (modelOf s)) starts

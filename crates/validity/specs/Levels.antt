@@ -1,11 +1,11 @@
--- Levels: the rises and falls of a level before a tick, and the rule of "At each tick, the level from earlier ticks".
+-- Levels: the rises and falls of a level before a tick, the rule of "At each tick, the level from earlier ticks", and when a need is met.
 use Prim.Native.Nat.{ℕ, suc, _+_, _-_}
-use mathlib.Core.Bool.{Bool, _&&_, cond}
+use mathlib.Core.Bool.{Bool, _&&_, _||_, not, cond}
 use lib.Dec.{eqb, leb, ltb}
 use Rattle.laws.specs.Fold.{largest, sum}
 use Rattle.little_endian.specs.Bytes.{signBias}
 use Rattle.job.specs.Model.{Model}
-use Rattle.validity.specs.Ticks.{useTick}
+use Rattle.validity.specs.Ticks.{useTick, needTick}
 
 -- a use raises its level by this much, or lowers it by this much; the other is 0
 abbrev pub rise : Model → ℕ → ℕ
@@ -34,6 +34,24 @@ aboveLeast m x level t =
 abbrev pub belowMost : Model → (ℕ → ℕ) → ℕ → ℕ → Bool
 belowMost m x level t =
     leb (m .levelInitial level + risesBefore m x level (suc t)) (m .levelMost level + fallsBefore m x level t)
+
+-- whether a use counts against need n: it is of the need's level and at an earlier tick, or another step's at the need's tick
+abbrev pub countsAgainst : Model → (ℕ → ℕ) → ℕ → ℕ → Bool
+countsAgainst m x n u =
+    eqb (m .useLevel u) (m .needLevel n)
+    && (ltb (useTick m x u) (needTick m x n) || (eqb (useTick m x u) (needTick m x n) && not (eqb (m .useStep u) (m .needStep n))))
+
+-- all falls that count against it
+unfoldable pub fallsAgainst : Model → (ℕ → ℕ) → ℕ → ℕ
+fallsAgainst m x n = sum (m .uses) (λ u. cond (countsAgainst m x n u) (fall m u) 0)
+
+-- what the level of need n has risen to before its tick
+abbrev pub risenTo : Model → (ℕ → ℕ) → ℕ → ℕ
+risenTo m x n = m .levelInitial (m .needLevel n) + risesBefore m x (m .needLevel n) (needTick m x n)
+
+-- refusal 21: "A need is met if the level from earlier ticks, plus all other steps' falls at its tick, reaches its least"
+unfoldable pub unmet : Model → (ℕ → ℕ) → ℕ → Bool
+unmet m x n = ltb (risenTo m x n) (m .needLeast n + fallsAgainst m x n)
 
 -- a tick after all uses
 unfoldable pub afterUses : Model → (ℕ → ℕ) → ℕ

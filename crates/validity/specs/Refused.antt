@@ -1,4 +1,4 @@
--- Part of the promise: what each refusal says. One plain predicate a rule from 9 to 14, of one record, in the words of `Valid`.
+-- Part of the promise: what each refusal says. One plain predicate a rule, 9 to 14 and 21, of one record, in the words of `Valid`.
 use Prim.Native.Nat.{ℕ, suc, _+_, _≤_, _<_}
 use mathlib.Core.Path.{_≡_}
 use mathlib.Core.List.{List}
@@ -11,10 +11,10 @@ use Rattle.job.specs.Clocked.{clocked}
 use Rattle.form.specs.Refusals.{formCheck}
 use Rattle.form.specs.Refused.{FormRefusal, FormNumber}
 use Rattle.validity.specs.declared.Rule.{Rule}
-use Rattle.validity.specs.declared.Rule.the-variants.{FixedSteps, Effects, Conditions, Levels, Goals, Steps}
+use Rattle.validity.specs.declared.Rule.the-variants.{FixedSteps, Effects, Conditions, Levels, Needs, Goals, Steps}
 use Rattle.validity.specs.Ticks.{effectTick, firstTick, lastTick, finish}
 use Rattle.validity.specs.Seen.{seen, afterAll}
-use Rattle.validity.specs.Levels.{risesBefore, fallsBefore}
+use Rattle.validity.specs.Levels.{risesBefore, fallsBefore, fallsAgainst, risenTo}
 use Rattle.validity.specs.Valid.{Valid}
 use Rattle.validity.specs.Checks.{countUnder}
 
@@ -37,7 +37,7 @@ pub record GoalHolds (m : Model) (x : ℕ → ℕ) (g : ℕ) : Type 0 where
   pub reached : seen m x (m .goalFact g) (afterAll m x) ≡ m .goalValue g
   pub inTime : (t : ℕ) → (m .goalDeadline g ≡ noDeadline → ⊥) → m .goalDeadline g < t → seen m x (m .goalFact g) t ≡ m .goalValue g
 
--- the k-th fixed step, effect, condition, level, goal or step keeps its rule: what `Valid` asks of it
+-- the k-th fixed step, effect, condition, level, need, goal or step keeps its rule: what `Valid` asks of it
 abbrev pub Keeps : Model → (ℕ → ℕ) → Rule → ℕ → Type 0
 Keeps m x FixedSteps k = m .fixed k ≡ 1 → x k ≡ m .start k
 Keeps m x Effects e =
@@ -46,6 +46,7 @@ Keeps m x Effects e =
     → m .effectValue e ≡ m .effectValue f
 Keeps m x Conditions c = ConditionHolds m x c
 Keeps m x Levels l = LevelHolds m x l
+Keeps m x Needs n = m .needLeast n + fallsAgainst m x n ≤ risenTo m x n
 Keeps m x Goals g = GoalHolds m x g
 Keeps m x Steps i = m .serial ≡ 1 → (k : ℕ) → k < m .steps → (i ≡ k → ⊥) → (finish m x i ≤ x k) ⊎ (finish m x k ≤ x i)
 
@@ -87,6 +88,10 @@ OutOfBounds m x l t =
     (m .levelInitial l + risesBefore m x l t < m .levelLeast l + fallsBefore m x l (suc t))
     ⊎ (m .levelMost l + fallsBefore m x l t < m .levelInitial l + risesBefore m x l (suc t))
 
+-- 21: the level from earlier ticks, plus all other steps' falls at its tick, stays below the need's least
+abbrev pub Unmet : Model → (ℕ → ℕ) → ℕ → Type 0
+Unmet m x n = risenTo m x n < m .needLeast n + fallsAgainst m x n
+
 -- 13: at tick t after the deadline another value is seen
 pub record LateAt (m : Model) (x : ℕ → ℕ) (g t : ℕ) : Type 0 where
   pub deadline : m .goalDeadline g ≡ noDeadline → ⊥
@@ -101,12 +106,13 @@ pub record OverlapsWith (m : Model) (x : ℕ → ℕ) (i k : ℕ) : Type 0 where
   pub before : x k < finish m x i
   pub after : x i < finish m x k
 
--- the k-th fixed step, effect, condition, level, goal or step violates its rule
+-- the k-th fixed step, effect, condition, level, need, goal or step violates its rule
 abbrev pub Violates : Model → (ℕ → ℕ) → Rule → ℕ → Type 0
 Violates m x FixedSteps k = Moved m x k
 Violates m x Effects e = (f : ℕ) × ConflictsWith m x e f
 Violates m x Conditions c = ((t : ℕ) × UnseenAt m x c t) ⊎ ((e : ℕ) × OpposedBy m x c e)
 Violates m x Levels l = (t : ℕ) × OutOfBounds m x l t
+Violates m x Needs n = Unmet m x n
 Violates m x Goals g = (seen m x (m .goalFact g) (afterAll m x) ≡ m .goalValue g → ⊥) ⊎ ((t : ℕ) × LateAt m x g t)
 Violates m x Steps i = (k : ℕ) × OverlapsWith m x i k
 
@@ -116,15 +122,26 @@ ruleNumber FixedSteps = 9
 ruleNumber Effects = 10
 ruleNumber Conditions = 11
 ruleNumber Levels = 12
+ruleNumber Needs = 21
 ruleNumber Goals = 13
 ruleNumber Steps = 14
+
+-- a rule's turn in checking order, which its number does not tell: 21 comes after 12
+abbrev pub turn : Rule → ℕ
+turn FixedSteps = 0
+turn Effects = 1
+turn Conditions = 2
+turn Levels = 3
+turn Needs = 4
+turn Goals = 5
+turn Steps = 6
 
 -- record k violates the rule, every lower one keeps it, and so does every record under each rule checked before
 pub record FirstViolation (m : Model) (x : ℕ → ℕ) (rule : Rule) (k : ℕ) : Type 0 where
   pub counted : k < countUnder m rule
   pub violates : Violates m x rule k
   pub lowerKeep : (j : ℕ) → j < k → Keeps m x rule j
-  pub earlierKept : (earlier : Rule) → ruleNumber earlier < ruleNumber rule → Kept m x earlier
+  pub earlierKept : (earlier : Rule) → turn earlier < turn rule → Kept m x earlier
 
 -- "each refusal only under its sentence": what the verdict r on the file s and the schedule x says; timed facts act as effects of the clock
 pub record UnderItsSentence (s : List ℕ) (x : ℕ → ℕ) (r : Verdict) : Type 0 where
@@ -132,7 +149,7 @@ pub record UnderItsSentence (s : List ℕ) (x : ℕ → ℕ) (r : Verdict) : Typ
   pub form : (number r ≡ 0 → ⊥) → FormNumber (number r) → (r ≡ formCheck s) × FormRefusal s r
   -- above 7 the file is well formed, but for 17
   pub wellFormed : 7 < number r → (number r ≡ 17 → ⊥) → WellFormed (modelOf s)
-  -- from 9 to 14 the number is that of the first rule that is violated, the place the lowest record that violates it
+  -- from 9 to 14 and 21 the number is that of the first rule that is violated, the place the lowest record that violates it
   pub first : (rule : Rule) → number r ≡ ruleNumber rule → FirstViolation (clocked (modelOf s)) x rule (place r)
   -- 10 names an effect of a step
   pub ofStep : number r ≡ 10 → place r < modelOf s .effects
@@ -140,4 +157,4 @@ pub record UnderItsSentence (s : List ℕ) (x : ℕ → ℕ) (r : Verdict) : Typ
   pub unsound : 8 < number r → (number r ≡ 17 → ⊥) → Valid (clocked (modelOf s)) x → ⊥
   -- 0 to 5 and 8 name no place
   pub unplaced : (number r ≤ 5) ⊎ (number r ≡ 8) → place r ≡ nowhere
-  pub most : (number r ≤ 14) ⊎ (number r ≡ 17)
+  pub most : (number r ≤ 14) ⊎ ((number r ≡ 17) ⊎ (number r ≡ 21))

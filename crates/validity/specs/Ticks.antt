@@ -33,6 +33,10 @@ lastTick m x c = x (m .conditionStep c) + m .conditionTo c
 abbrev pub useTick : Model → (ℕ → ℕ) → ℕ → ℕ
 useTick m x u = x (m .useStep u) + m .useAt u
 
+-- the tick of a need
+abbrev pub needTick : Model → (ℕ → ℕ) → ℕ → ℕ
+needTick m x n = x (m .needStep n) + m .needAt n
+
 -- when a step finishes: start + length
 abbrev pub finish : Model → (ℕ → ℕ) → ℕ → ℕ
 finish m x k = x k + m .stepLength k

@@ -6,7 +6,7 @@ use Rattle.job.specs.Model.{Model}
 use Rattle.job.specs.Model.{noDeadline}
 use Rattle.validity.specs.Ticks.{effectTick, firstTick, lastTick, finish}
 use Rattle.validity.specs.Seen.{seen, afterAll}
-use Rattle.validity.specs.Levels.{risesBefore, fallsBefore}
+use Rattle.validity.specs.Levels.{risesBefore, fallsBefore, fallsAgainst, risenTo}
 
 pub record Valid (m : Model) (x : ℕ → ℕ) : Type 0 where
   -- no two steps' opposing effects share a tick
@@ -29,6 +29,8 @@ pub record Valid (m : Model) (x : ℕ → ℕ) : Type 0 where
   -- that level plus all that tick's rises is at most the most
   pub levelHigh :
       (l t : ℕ) → l < m .levels → m .levelInitial l + risesBefore m x l (suc t) ≤ m .levelMost l + fallsBefore m x l t
+  -- the level from earlier ticks, plus all other steps' falls at its tick, reaches the need's least
+  pub needMet : (n : ℕ) → n < m .needs → m .needLeast n + fallsAgainst m x n ≤ risenTo m x n
   -- after all effects each goal has its value
   pub goalReached : (g : ℕ) → g < m .goals → seen m x (m .goalFact g) (afterAll m x) ≡ m .goalValue g
   -- a goal with a deadline has it seen at every tick after the deadline

@@ -6,6 +6,7 @@ pub enum Rule {
     Effects,
     Conditions,
     Levels,
+    Needs,
     Goals,
     Steps,
 }

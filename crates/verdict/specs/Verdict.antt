@@ -6,7 +6,7 @@ use Rattle.laws.specs.Search.{lowest}
 use Rattle.verdict.specs.declared.Verdict.{Verdict}
 use Rattle.verdict.specs.declared.Verdict.the-variants.{Accepted, FileTooShort, UnknownEdition, MarkOutOfRange, CountTooHigh, LayoutDisagrees}
 use Rattle.verdict.specs.declared.Verdict.the-variants.{RecordOutOfRange, StepAgainstItself, StartsMiscounted, FixedStepMoved, EffectsConflict}
-use Rattle.verdict.specs.declared.Verdict.the-variants.{ConditionFails, LevelOutOfBounds, GoalFails, StepsOverlap, TimedFactsConflict}
+use Rattle.verdict.specs.declared.Verdict.the-variants.{ConditionFails, LevelOutOfBounds, GoalFails, StepsOverlap, TimedFactsConflict, NeedUnmet}
 
 -- the place where none is named
 abbrev pub nowhere : ℕ
@@ -30,6 +30,7 @@ number (LevelOutOfBounds k) = 12
 number (GoalFails k) = 13
 number (StepsOverlap k) = 14
 number (TimedFactsConflict k) = 17
+number (NeedUnmet k) = 21
 
 -- the place of a refusal
 abbrev pub place : Verdict → ℕ
@@ -49,6 +50,7 @@ place (LevelOutOfBounds k) = k
 place (GoalFails k) = k
 place (StepsOverlap k) = k
 place (TimedFactsConflict k) = k
+place (NeedUnmet k) = k
 
 infixl 20 _then_
 -- a check, and where it accepts the next one

@@ -20,6 +20,7 @@ pub enum Verdict {
     GoalFails(u16),
     StepsOverlap(u16),
     TimedFactsConflict(u16),
+    NeedUnmet(u16),
 }
 
 // The place where none is named.
@@ -46,6 +47,7 @@ pub fn number(v: Verdict) -> u16
         Verdict::GoalFails(_) => 13,
         Verdict::StepsOverlap(_) => 14,
         Verdict::TimedFactsConflict(_) => 17,
+        Verdict::NeedUnmet(_) => 21,
     }
 }
 
@@ -70,6 +72,7 @@ pub fn place(v: Verdict) -> u16
         Verdict::GoalFails(k) => k,
         Verdict::StepsOverlap(k) => k,
         Verdict::TimedFactsConflict(k) => k,
+        Verdict::NeedUnmet(k) => k,
     }
 }
 
