@@ -24,3 +24,6 @@ module _ (m : Model) (w : ClockedForm m) where
 
   pub use-near : (u : ℕ) → u < m .uses → m .useAt u ≤ longest
   use-near u h = omega (arith, w .useEnd u h, w .lengthRange (m .useStep u) (w .useStep u h))
+
+  pub need-near : (n : ℕ) → n < m .needs → m .needAt n ≤ longest
+  need-near n h = omega (arith, w .needEnd n h, w .lengthRange (m .needStep n) (w .needStep n h))

@@ -12,15 +12,15 @@ use Rattle.laws.specs.Fold.{largest}
 use Rattle.laws.proofs.Fold.{largest-ge}
 use Rattle.job.specs.Model.{Model, longest, lastTimed}
 use Rattle.job.specs.Clocked.{ClockedForm}
-use Rattle.validity.specs.Ticks.{effectTick, firstTick, lastTick, useTick, finish, opposes}
+use Rattle.validity.specs.Ticks.{effectTick, firstTick, lastTick, useTick, needTick, finish, opposes}
 use Rattle.order_file.specs.Contents.{initialState, gapBias}
 use Rattle.orders.specs.Links.{conditionLink}
 use Rattle.orders.specs.Gaps.{strictly, supportOrder, supportGap, opposingOrder, opposingGap, beforeOrder, afterOrder, conditionGap}
-use Rattle.orders.specs.Gaps.{levelOrder, levelGap, serialGap, gapOf}
+use Rattle.orders.specs.Gaps.{levelOrder, levelGap, needOrder, useOrder, needGap, serialGap, gapOf}
 use Rattle.validity.specs.Valid.{Valid}
-use Rattle.orders.specs.Windows.{clockGap, clockLatest, latestOf}
+use Rattle.orders.specs.Windows.{clockGap, latestOf}
 use Rattle.orders.specs.Obeys.{Obeys}
-use Rattle.orders.proofs.Near.{room, from-near, use-near}
+use Rattle.orders.proofs.Near.{room, from-near, use-near, need-near}
 use Rattle.orders.proofs.Limits.{limit-fixed, limit-free, latest-fixed, latest-free, clock-bound}
 use Rattle.orders.proofs.Planned.{clock-fits}
 
@@ -52,6 +52,7 @@ module _ (m : Model) (x : ℕ → ℕ) where
       (i k : ℕ) → (i ≡ k → ⊥)
       → (supportGap m x i k ≤ gapOf m x i k) × (opposingGap m x i k ≤ gapOf m x i k) × (conditionGap m x i k ≤ gapOf m x i k)
       × (levelGap m x i k ≤ gapOf m x i k)
+      × (needGap m x i k ≤ gapOf m x i k)
       × (serialGap m x i k ≤ gapOf m x i k)
   unfolding gapOf
   gap-rules i k d = rw (ne-eqb i k d) (omega arith)
@@ -125,6 +126,32 @@ module _ (m : Model) (x : ℕ → ℕ) where
       pair-under (m .useStep u) (m .useStep v) _ _ _ _ (eq-eqb _ _ a) l
       (pairs-ge (levelOrder m x (m .useStep u) (m .useStep v)) (m .uses) (m .uses) u v h g)
 
+  pub need-ge :
+      (i k n u : ℕ) → n < m .needs → u < m .uses
+      → (needOrder m x i k n u ≤ needGap m x i k) × (useOrder m x i k n u ≤ needGap m x i k)
+  unfolding needGap
+  need-ge i k n u h l =
+      let most =
+      largest-ge (λ j. max (largest (m .uses) (needOrder m x i k j)) (largest (m .uses) (useOrder m x i k j))) (m .needs) n h
+      in (
+        omega (arith, largest-ge (needOrder m x i k n) (m .uses) u l, most),
+        omega (arith, largest-ge (useOrder m x i k n) (m .uses) u l, most),
+      )
+
+  need-gap :
+      (n u : ℕ) → n < m .needs → u < m .uses → m .useLevel u ≡ m .needLevel n → needTick m x n < useTick m x u
+      → strictly (m .needAt n) (m .useAt u) ≤ needGap m x (m .needStep n) (m .useStep u)
+  unfolding needOrder
+  need-gap n u h g a l =
+      pair-under (m .needStep n) (m .useStep u) _ _ _ _ (eq-eqb _ _ a) l (need-ge _ _ n u h g .0)
+
+  use-gap :
+      (n u : ℕ) → n < m .needs → u < m .uses → m .useLevel u ≡ m .needLevel n → useTick m x u < needTick m x n
+      → strictly (m .useAt u) (m .needAt n) ≤ needGap m x (m .useStep u) (m .needStep n)
+  unfolding useOrder
+  use-gap n u h g a l =
+      pair-under (m .useStep u) (m .needStep n) _ _ _ _ (eq-eqb _ _ a) l (need-ge _ _ n u h g .1)
+
   serial-gap :
       (i k : ℕ) → m .serial ≡ 1 → finish m x i ≤ x k → (not (leb (finish m x k) (x i)) || ltb i k) ≡ true
       → m .stepLength i + gapBias ≤ serialGap m x i k
@@ -191,7 +218,7 @@ module _ (m : Model) (x y : ℕ → ℕ) (w : ClockedForm m) (s : Valid m x) (ze
         | no d ↦ omega (arith, clock-roomy i k h g d)
       ]
 
-  -- and two uses of levels
+  -- and two points on levels
   keeps-points :
       {i k gap : ℕ} (p q : ℕ) → i < m .steps → k < m .steps → q ≤ lastTimed → strictly p q ≤ gap
       → ((i ≡ k → ⊥) → gap ≤ gapOf m x i k)
@@ -249,12 +276,27 @@ module _ (m : Model) (x y : ℕ → ℕ) (w : ClockedForm m) (s : Valid m x) (ze
       keeps-points (m .useAt u) (m .useAt v) (w .useStep u h) (w .useStep v g) (near (use-near m w v g)) (level-gap m x u v h g a l)
       (λ s. gap-rules m x _ _ s .3) l
 
+  -- with rule 4: a need before a use of its level, and after one
+  pub kept-need :
+      (n u : ℕ) → n < m .needs → u < m .uses → m .useLevel u ≡ m .needLevel n → needTick m x n < useTick m x u
+      → needTick m y n < useTick m y u
+  kept-need n u h g a l =
+      keeps-points (m .needAt n) (m .useAt u) (w .needStep n h) (w .useStep u g) (near (use-near m w u g)) (need-gap m x n u h g a l)
+      (λ s. gap-rules m x _ _ s .4) l
+
+  pub kept-use :
+      (n u : ℕ) → n < m .needs → u < m .uses → m .useLevel u ≡ m .needLevel n → useTick m x u < needTick m x n
+      → useTick m y u < needTick m y n
+  kept-use n u h g a l =
+      keeps-points (m .useAt u) (m .needAt n) (w .useStep u g) (w .needStep n h) (near (need-near m w n h)) (use-gap m x n u h g a l)
+      (λ s. gap-rules m x _ _ s .4) l
+
   -- rule 5
   kept-first :
       (i k : ℕ) → m .serial ≡ 1 → i < m .steps → k < m .steps → (i ≡ k → ⊥) → finish m x i ≤ x k
       → (not (leb (finish m x k) (x i)) || ltb i k) ≡ true
       → finish m y i ≤ y k
-  kept-first i k a h g d l b = omega (arith, serial-gap m x i k a l b, gap-rules m x i k d .4, roomy i k h g)
+  kept-first i k a h g d l b = omega (arith, serial-gap m x i k a l b, gap-rules m x i k d .5, roomy i k h g)
 
   pub kept-serial :
       (i k : ℕ) → m .serial ≡ 1 → i < m .steps → k < m .steps → (i ≡ k → ⊥) → finish m x i ≤ x k

@@ -19,7 +19,7 @@ use Rattle.validity.specs.Valid.{Valid}
 use Rattle.order_file.specs.Contents.{initialState, noLatest, gapBias}
 use Rattle.orders.specs.Links.{conditionLink, goalLink}
 use Rattle.orders.specs.Gaps.{strictly, supportOrder, supportGap, opposingOrder, opposingGap, beforeOrder, afterOrder, conditionGap}
-use Rattle.orders.specs.Gaps.{levelOrder, levelGap, serialGap, gapOf}
+use Rattle.orders.specs.Gaps.{levelOrder, levelGap, needOrder, useOrder, needGap, serialGap, gapOf}
 use Rattle.orders.specs.Windows.{clockGap, clockLatest, limitOf, allowed, latestOf}
 use Rattle.orders.specs.Supporter.{byInitialState, byEffect, ConditionLinkedTo}
 use Rattle.orders.specs.Obeys.{Obeys}
@@ -102,6 +102,22 @@ module _ (m : Model) (x : ℕ → ℕ) (w : ClockedForm m) (s : Valid m x) where
       largest-le (levelOrder m x i k u) (m .uses) (room x i k)
       (λ v _. ordered x i k (m .useStep u) (m .useStep v) (m .useAt u) (m .useAt v) (eqb (m .useLevel u) (m .useLevel v))))
 
+  need-fits : (i k : ℕ) → needGap m x i k ≤ room x i k
+  unfolding needGap needOrder useOrder
+  need-fits i k =
+      largest-le (λ n. max (largest (m .uses) (needOrder m x i k n)) (largest (m .uses) (useOrder m x i k n))) (m .needs) (room x i k)
+      (λ n _.
+      let o : ℕ → Bool = λ u. eqb (m .useLevel u) (m .needLevel n) in
+      let b : largest (m .uses) (needOrder m x i k n) ≤ room x i k =
+      largest-le (needOrder m x i k n) (m .uses) (room x i k)
+      (λ u _. ordered x i k (m .needStep n) (m .useStep u) (m .needAt n) (m .useAt u) (o u))
+      in
+      let a : largest (m .uses) (useOrder m x i k n) ≤ room x i k =
+      largest-le (useOrder m x i k n) (m .uses) (room x i k)
+      (λ u _. ordered x i k (m .useStep u) (m .needStep n) (m .useAt u) (m .needAt n) (o u))
+      in
+      omega arith)
+
   serial-fits : (i k : ℕ) → serialGap m x i k ≤ room x i k
   unfolding serialGap
   serial-fits i k =
@@ -120,7 +136,7 @@ module _ (m : Model) (x : ℕ → ℕ) (w : ClockedForm m) (s : Valid m x) where
       ⊎-elim
       (λ (e : eqb i k ≡ true). rw e (omega arith))
       (λ (e : eqb i k ≡ false).
-      rw e (omega (arith, support-fits i k, opposing-fits i k, condition-fits i k, level-fits i k, serial-fits i k)))
+      rw e (omega (arith, support-fits i k, opposing-fits i k, condition-fits i k, level-fits i k, need-fits i k, serial-fits i k)))
       (either (eqb i k))
 
   -- what a goal allows of a step it has started by

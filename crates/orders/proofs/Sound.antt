@@ -1,20 +1,24 @@
 -- What obeys is valid. Conflicting effects keep their order, a condition's opposing effects stay before its first tick or after its
 -- last, its link before its first tick; so at each of its ticks the last earlier effect on the fact does not oppose it. A goal is
 -- carried the same way, a deadline by its link's latest start. For levels let T be the planned tick of the last use before t: uses
--- up to t were planned up to T, and uses planned before T lie before t; so the bounds carry over by two inequalities of sums.
+-- up to t were planned up to T, and uses planned before T lie before t; so the bounds carry over by two inequalities of sums. What falls
+-- against a need fell against it as planned, and what rose before it still does.
 use Prim.Native.Nat.{ℕ, suc, _+_, _-_, _≤_, _<_}
-use mathlib.Core.Path.{_≡_, sym, ap, _∙_}
+use mathlib.Core.Path.{_≡_, sym, ap, ap₂, _∙_}
+use mathlib.Core.Bool.{true, false, _&&_, _||_, not, cond}
 use mathlib.Core.Logic.{_⊎_, inl, inr, ⊎-elim}
 use native.Mathlib.Decide.{ℕ-discrete, decLt}
 use native.Mathlib.Omega.{arith}
-use Rattle.laws.proofs.Search.{by-order}
-use Rattle.laws.proofs.Fold.{least-le}
+use borrow.Author.Tests.{lt-ltb, le-ltb, eq-eqb, ne-eqb, ltb-true, eqb-true, eqb-false, not-true}
+use lib.Dec.{ltb, eqb}
+use Rattle.laws.proofs.Search.{either, and-both, or-out, by-order}
+use Rattle.laws.proofs.Fold.{least-le, sum-le}
 use Rattle.job.specs.Model.{Model}
 use Rattle.job.specs.Model.{noDeadline}
 use Rattle.job.specs.Clocked.{ClockedForm}
-use Rattle.validity.specs.Ticks.{effectTick, firstTick, lastTick, useTick, finish}
+use Rattle.validity.specs.Ticks.{effectTick, firstTick, lastTick, useTick, needTick, finish}
 use Rattle.validity.specs.Seen.{seen, afterAll}
-use Rattle.validity.specs.Levels.{risesBefore, fallsBefore}
+use Rattle.validity.specs.Levels.{fall, risesBefore, fallsBefore, countsAgainst, fallsAgainst, risenTo}
 use Rattle.validity.specs.Valid.{Valid}
 use Rattle.validity.proofs.Seen.{Giver, seen-by-effect, seen-by-initial, afterAll-ge}
 use Rattle.validity.proofs.Levels.{Within, rises-within, falls-within, last-use}
@@ -23,10 +27,29 @@ use Rattle.orders.specs.Links.{conditionLink, goalLink}
 use Rattle.orders.specs.Windows.{allowed, latestOf}
 use Rattle.orders.specs.Supporter.{byInitialState, byEffect, ConditionLinkedTo, GoalLinkedTo}
 use Rattle.orders.specs.Obeys.{Obeys}
-use Rattle.orders.proofs.Orders.{Opposer, fixed-kept, kept-opposing, kept-support, kept-before, kept-after, kept-uses, kept-serial}
+use Rattle.orders.proofs.Orders.{Opposer, fixed-kept, kept-opposing, kept-support, kept-before, kept-after, kept-uses, kept-need, kept-use, kept-serial}
 use Rattle.orders.proofs.Supporter.{giver, giver-opposes, condition-supported, goal-supported}
 use Rattle.orders.proofs.Links.{goal-link-in-time}
 use Rattle.orders.proofs.Limits.{latest-free, allowed-linked}
+
+-- a use counts against a need exactly if it is no later, and at the need's tick of another step
+against-out : (a b i k : ℕ) → (ltb a b || (eqb a b && not (eqb i k))) ≡ true → (a ≤ b) × (i ≡ k → a ≡ b → ⊥)
+against-out a b i k t =
+    ⊎-elim
+    (λ (l : ltb a b ≡ true). (omega (arith, ltb-true a b l), λ _ q. omega (arith, ltb-true a b l)))
+    (λ (e : (eqb a b && not (eqb i k)) ≡ true).
+    let c = and-both (eqb a b) (not (eqb i k)) e in
+    (omega (arith, eqb-true a b (c .0)), λ q _. eqb-false _ _ (not-true _ (c .1)) q))
+    (or-out _ _ t)
+
+against-in : (a b i k : ℕ) → a ≤ b → (i ≡ k → a ≡ b → ⊥) → (ltb a b || (eqb a b && not (eqb i k))) ≡ true
+against-in a b i k l n =
+    elim (decLt a b) [
+      | yes r ↦ ap (λ c. c || (eqb a b && not (eqb i k))) (lt-ltb _ _ r)
+      | no r ↦
+          let q : a ≡ b = omega arith in
+          ap₂ _||_ (le-ltb a b (omega arith)) (ap₂ _&&_ (eq-eqb _ _ q) (ap not (ne-eqb _ _ (λ e. n e q))))
+    ]
 
 module _ (m : Model) (x y : ℕ → ℕ) (w : ClockedForm m) (s : Valid m x) (zero : x (m .steps) ≡ 0) (clock : y (m .steps) ≡ 0) (o : Obeys m x y) where
   -- effects
@@ -232,6 +255,43 @@ module _ (m : Model) (x y : ℕ → ℕ) (w : ClockedForm m) (s : Valid m x) (ze
       let T = planned-tick l t in
       omega (arith, s .levelHigh l (T .0) h, rises-within m y x l (suc t) (suc (T .0)) (T .1), falls-within m x y l (T .0) t (T .2))
 
+  -- needs: what counts against one was planned so
+  against-planned : (n u : ℕ) → n < m .needs → u < m .uses → countsAgainst m y n u ≡ true → countsAgainst m x n u ≡ true
+  against-planned n u h g t =
+      let b = and-both _ _ t in
+      let a : m .useLevel u ≡ m .needLevel n = eqb-true _ _ (b .0) in
+      let c = against-out (useTick m y u) (needTick m y n) (m .useStep u) (m .needStep n) (b .1) in
+      ap₂ _&&_ (b .0)
+      (against-in (useTick m x u) (needTick m x n) (m .useStep u) (m .needStep n)
+      (elim (decLt (needTick m x n) (useTick m x u)) [
+        | yes l ↦ absurd (omega (arith, c .0, kept-need m x y w s zero clock o n u h g a l))
+        | no l ↦ omega arith
+      ])
+      (λ e q.
+      let p : x (m .useStep u) ≡ x (m .needStep n) = ap x e in
+      let r : y (m .useStep u) ≡ y (m .needStep n) = ap y e in
+      c .1 e (omega arith)))
+
+  falls-planned : (n : ℕ) → n < m .needs → fallsAgainst m y n ≤ fallsAgainst m x n
+  unfolding fallsAgainst
+  falls-planned n h =
+      sum-le (λ u. cond (countsAgainst m y n u) (fall m u) 0) (λ u. cond (countsAgainst m x n u) (fall m u) 0) (m .uses)
+      (λ u g.
+      ⊎-elim
+      (λ (t : countsAgainst m y n u ≡ true). rw (t, against-planned n u h g t) (omega arith))
+      (λ (t : countsAgainst m y n u ≡ false). rw t (omega arith))
+      (either (countsAgainst m y n u)))
+
+  need-met : (n : ℕ) → n < m .needs → m .needLeast n + fallsAgainst m y n ≤ risenTo m y n
+  need-met n h =
+      omega (
+        arith,
+        s .needMet n h,
+        falls-planned n h,
+        rises-within m x y (m .needLevel n) (needTick m x n) (needTick m y n)
+            (λ u g a l. kept-use m x y w s zero clock o n u h g a l),
+      )
+
   -- serial jobs
   serial-apart :
       m .serial ≡ 1 → (i k : ℕ) → i < m .steps → k < m .steps → (i ≡ k → ⊥) → (finish m y i ≤ y k) ⊎ (finish m y k ≤ y i)
@@ -254,6 +314,7 @@ module _ (m : Model) (x y : ℕ → ℕ) (w : ClockedForm m) (s : Valid m x) (ze
         conditionKept = condition-kept;
         levelLow = level-low;
         levelHigh = level-high;
+        needMet = need-met;
         goalReached = goal-reached;
         goalInTime = goal-in-time;
         serialApart = serial-apart;

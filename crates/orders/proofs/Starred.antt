@@ -1,6 +1,6 @@
--- The starred table, and those of timed facts and of ties, by computing. To find each order by its number takes a search among 4,096
--- pairs of steps, itself with counting at each pair. So the orders are first proved to be the pairs that pass, listed in one pass that
--- looks at the gaps of counted steps only.
+-- The starred table, and those of timed facts, of ties and of needs, by computing. To find each order by its number takes a search among
+-- 4,096 pairs of steps, itself with counting at each pair. So the orders are first proved to be the pairs that pass, listed in one pass
+-- that looks at the gaps of counted steps only.
 use Prim.Native.Nat.{ℕ, zero, suc, _+_, _/_, _%_, _<_}
 use mathlib.Core.Path.{_≡_, refl, sym, ap, ap₂, _∙_, fun-ext}
 use mathlib.Core.Bool.{Bool, true, false, _&&_, not, cond}
@@ -33,12 +33,13 @@ use Rattle.against.specs.Clock.{timedBothWays, timedConflicts, timedCheck}
 use Rattle.form.specs.Refusals.{formCheck}
 use Rattle.validity.specs.Ticks.{planned}
 use Rattle.validity.specs.Seen.{givenAt, lastGiven, seen, afterAll}
-use Rattle.validity.specs.Levels.{risesBefore, fallsBefore}
+use Rattle.validity.specs.Levels.{risesBefore, fallsBefore, fallsAgainst, unmet}
+use Rattle.validity.specs.Needs.{shelves}
 use Rattle.validity.specs.Checks.{meets, conflicts, breaks, conditionFails, passes, levelFails, undoes, late, goalFails, overlaps, crowded, ruleCheck}
 use Rattle.validity.specs.Checks.{timingCheck, jobCheck}
 use Rattle.orders.specs.Links.{producer, earliestProduced, tied, favours, supporter, linkOf, conditionLink, goalLink, nthLink}
 use Rattle.orders.specs.Gaps.{supportOrder, supportGap, opposingOrder, opposingGap, beforeOrder, afterOrder, conditionGap, levelOrder, levelGap}
-use Rattle.orders.specs.Gaps.{serialGap, gapOf}
+use Rattle.orders.specs.Gaps.{needOrder, useOrder, needGap, serialGap, gapOf}
 use Rattle.orders.specs.Windows.{clockGap, clockLimit, limitOf, clockLatest, allowed, latestOf}
 use Rattle.rounds.specs.Rounds.{demand, raised, after, unchanged, rounds, earliest}
 use Rattle.orders.specs.File.{linkNumber, ordered, fileWith, fileOf}
@@ -47,6 +48,7 @@ use Rattle.orders.specs.Starred.{editionOf, jobBytes, Window, window, Or
 use Rattle.orders.specs.Starred.{contentsWith, Expected, refused, accepted, Answers, Case, AllAnswer}
 use Rattle.orders.specs.Starred.{small, nothing, levelled, serially, starred, withTimed, givenWithClock, timedCases}
 use Rattle.orders.specs.Ties.{givenAtFive, wants, givesOwn, givesOther, givesClock, free, tieCases}
+use Rattle.orders.specs.Needs.{NeedFile, Files, AllFile, unmoved, needFiles}
 use Rattle.order_file.specs.Contents.{Contents}
 use Rattle.order_file.specs.Agree.{Agree}
 use Rattle.order_file.specs.Table.{rowWidth, tableSize}
@@ -217,8 +219,8 @@ unfolding AllAnswerBy AnswersBy starred small nothing levelled serially jobBytes
     opposesOwn setBefore usedBefore opposesAny bothWaysStep usesTwiceStep opposesOwnStep headerCheck tableCheck recordCheck
     againstStep stepCheck timedBothWays timedConflicts timedCheck formCheck givenAt lastGiven seen afterAll risesBefore fallsBefore meets
     conflicts breaks conditionFails passes levelFails undoes late goalFails overlaps crowded ruleCheck timingCheck jobCheck producer earliestProduced
-    tied favours supporter linkOf conditionLink goalLink supportOrder supportGap opposingOrder opposingGap beforeOrder afterOrder
-    conditionGap levelOrder levelGap serialGap gapOf clockGap clockLimit limitOf clockLatest allowed latestOf demand raised after unchanged rounds earliest
+    tied favours supporter linkOf conditionLink goalLink supportOrder supportGap opposingOrder opposingGap beforeOrder afterOrder conditionGap
+    levelOrder levelGap needGap serialGap gapOf clockGap clockLimit limitOf clockLatest allowed latestOf demand raised after unchanged rounds earliest
 starred-computed =
     (refl, refl, refl, refl, refl)
     also (refl, refl, refl, refl, refl)
@@ -246,8 +248,8 @@ unfolding AllAnswerBy AnswersBy timedCases withTimed givenWithClock jobBytes tim
     opposesOwn setBefore usedBefore opposesAny bothWaysStep usesTwiceStep opposesOwnStep headerCheck tableCheck recordCheck
     againstStep stepCheck timedBothWays timedConflicts timedCheck formCheck givenAt lastGiven seen afterAll risesBefore fallsBefore meets
     conflicts breaks conditionFails passes levelFails undoes late goalFails overlaps crowded ruleCheck timingCheck jobCheck producer earliestProduced
-    tied favours supporter linkOf conditionLink goalLink supportOrder supportGap opposingOrder opposingGap beforeOrder afterOrder
-    conditionGap levelOrder levelGap serialGap gapOf clockGap clockLimit limitOf clockLatest allowed latestOf demand raised after unchanged rounds earliest
+    tied favours supporter linkOf conditionLink goalLink supportOrder supportGap opposingOrder opposingGap beforeOrder afterOrder conditionGap
+    levelOrder levelGap needGap serialGap gapOf clockGap clockLimit limitOf clockLatest allowed latestOf demand raised after unchanged rounds earliest
 timed-computed =
     (refl, refl, refl, refl, refl)
     also (refl, refl, refl, refl, refl)
@@ -278,8 +280,8 @@ unfolding AllAnswerBy AnswersBy tieCases givenAtFive wants givesOwn givesOther g
     opposesOwn setBefore usedBefore opposesAny bothWaysStep usesTwiceStep opposesOwnStep headerCheck tableCheck recordCheck
     againstStep stepCheck timedBothWays timedConflicts timedCheck formCheck givenAt lastGiven seen afterAll risesBefore fallsBefore meets
     conflicts breaks conditionFails passes levelFails undoes late goalFails overlaps crowded ruleCheck timingCheck jobCheck producer earliestProduced
-    tied favours supporter linkOf conditionLink goalLink supportOrder supportGap opposingOrder opposingGap beforeOrder afterOrder
-    conditionGap levelOrder levelGap serialGap gapOf clockGap clockLimit limitOf clockLatest allowed latestOf demand raised after unchanged rounds earliest
+    tied favours supporter linkOf conditionLink goalLink supportOrder supportGap opposingOrder opposingGap beforeOrder afterOrder conditionGap
+    levelOrder levelGap needGap serialGap gapOf clockGap clockLimit limitOf clockLatest allowed latestOf demand raised after unchanged rounds earliest
 tie-computed =
     (refl, refl, refl, refl, refl)
     also (refl, refl, refl, refl, refl)
@@ -293,3 +295,49 @@ tie-computed =
 -- and that of ties
 pub tie-answers : AllAnswer tieCases
 tie-answers = all-answer-by tieCases tie-computed
+
+-- what is computed of a job with needs
+FilesBy : NeedFile → Type 0
+FilesBy f =
+    let m = f .job in
+    let c = fileOf m (planned m) in
+    (timingCheck (clocked m) (planned m) ≡ Accepted) × (c .rounds ≡ f .rounds) × (listed (c .steps) (windowOf c) ≡ f .windows)
+    × (ordersOf (clocked m) (planned m) ≡ f .orders) × (listed (c .links) (c .link) ≡ [])
+
+files-by : (f : NeedFile) → FilesBy f → Files f
+unfolding FilesBy fileOf
+files-by f h =
+    let m = f .job in
+    (h .0, agree-listed (fileOf m (planned m)) (h .1) (h .2) (orders-listed (linkNumber m) (clocked m) (planned m) ∙ h .3) (h .4))
+
+AllFileBy : List NeedFile → Type 0
+AllFileBy [] = Unit
+AllFileBy (f ∷ fs) = FilesBy f × AllFileBy fs
+
+all-file-by : (fs : List NeedFile) → AllFileBy fs → AllFile fs
+unfolding AllFileBy
+all-file-by [] h = h
+all-file-by (f ∷ fs) h = (files-by f (h .0), all-file-by fs (h .1))
+
+need-computed : AllFileBy needFiles
+unfolding AllFileBy FilesBy needFiles shelves free unmoved listed windowOf ordersOf orderAt orderedPair orderedIf passing extend fileWith fileOf
+    largest least sum tabulate any all lowest _then_ refuseIf refuseLowest risesBefore fallsBefore fallsAgainst unmet passes levelFails crowded ruleCheck
+    timingCheck supportGap opposingGap conditionGap levelOrder levelGap needOrder useOrder needGap serialGap gapOf clockGap clockLimit limitOf clockLatest
+    latestOf demand raised after unchanged rounds earliest
+need-computed =
+    (refl, refl, refl, refl, refl)
+    also (refl, refl, refl, refl, refl)
+    also (refl, refl, refl, refl, refl)
+    also (refl, refl, refl, refl, refl)
+    also (refl, refl, refl, refl, refl)
+    also (refl, refl, refl, refl, refl)
+    also (refl, refl, refl, refl, refl)
+    also (refl, refl, refl, refl, refl)
+    also (refl, refl, refl, refl, refl)
+    also (refl, refl, refl, refl, refl)
+    also (refl, refl, refl, refl, refl)
+    also tt
+
+-- and that of needs
+pub need-files : AllFile needFiles
+need-files = all-file-by needFiles need-computed

@@ -22,13 +22,13 @@ use Rattle.order_file.specs.Contents.{initialState, noLatest, lastLink, orderLi
 use Rattle.order_file.specs.Table.{rowWidth, tableSize}
 use Rattle.orders.specs.Links.{conditionLink, nthLink}
 use Rattle.orders.specs.Gaps.{strictly, supportOrder, supportGap, opposingOrder, opposingGap, beforeOrder, afterOrder, conditionGap, levelOrder}
-use Rattle.orders.specs.Gaps.{levelGap, serialFirst, serialGap, gapOf}
+use Rattle.orders.specs.Gaps.{levelGap, needOrder, useOrder, needGap, serialFirst, serialGap, gapOf}
 use Rattle.orders.specs.Windows.{limitOf, allowed, latestOf}
 use Rattle.rounds.specs.Rounds.{earliest}
 use Rattle.orders.specs.Supporter.{LinkedTo, byInitialState, byEffect}
 use Rattle.orders.specs.File.{roundsOf, earliestOf, ordered, pairOf, fileWith}
 use Rattle.rounds.proofs.Rounds.{after-above, rounds-le}
-use Rattle.orders.proofs.Near.{from-near, to-near, use-near}
+use Rattle.orders.proofs.Near.{from-near, to-near, use-near, need-near}
 use Rattle.orders.proofs.Supporter.{condition-supported, goal-supported}
 use Rattle.orders.proofs.Limits.{latest-fixed, latest-free}
 use Rattle.orders.proofs.Planned.{planned-obeys}
@@ -123,6 +123,18 @@ module _ (m : Model) (x : ℕ → ℕ) (w : ClockedForm m) (s : Valid m x) where
         (λ v r. near x i k (m .useStep u) (m .useStep v) (m .useAt u) (m .useAt v) (eqb (m .useLevel u) (m .useLevel v)) (λ _. use-near m w u l)
         (λ _. use-near m w v r)))
 
+    need-span : Span (needGap m x i k)
+    unfolding needGap needOrder useOrder
+    need-span =
+        span-largest (λ n. max (largest (m .uses) (needOrder m x i k n)) (largest (m .uses) (useOrder m x i k n))) (m .needs)
+        (λ n l.
+        let o : ℕ → Bool = λ u. eqb (m .useLevel u) (m .needLevel n) in
+        span-max
+        (span-largest (needOrder m x i k n) (m .uses)
+        (λ u r. near x i k (m .needStep n) (m .useStep u) (m .needAt n) (m .useAt u) (o u) (λ _. need-near m w n l) (λ _. use-near m w u r)))
+        (span-largest (useOrder m x i k n) (m .uses)
+        (λ u r. near x i k (m .useStep u) (m .needStep n) (m .useAt u) (m .needAt n) (o u) (λ _. use-near m w u r) (λ _. need-near m w n l))))
+
     serial-span : Span (serialGap m x i k)
     unfolding serialGap
     serial-span =
@@ -138,7 +150,7 @@ module _ (m : Model) (x : ℕ → ℕ) (w : ClockedForm m) (s : Valid m x) where
         ⊎-elim
         (λ (e : eqb i k ≡ true). rw e (inl refl))
         (λ (e : eqb i k ≡ false).
-        rw e (span-max (span-max (span-max (span-max support-span opposing-span) condition-span) level-span) serial-span))
+        rw e (span-max (span-max (span-max (span-max (span-max support-span opposing-span) condition-span) level-span) need-span) serial-span))
         (either (eqb i k))
 
     filed-span : (gapOf m x i k ≡ 0 → ⊥) → (leastGap ≤ gapOf m x i k) × (gapOf m x i k ≤ mostGap)

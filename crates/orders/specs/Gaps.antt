@@ -5,7 +5,7 @@ use mathlib.Core.Bool.{Bool, _&&_, _||_, not, cond}
 use lib.Dec.{ltb, leb, eqb}
 use Rattle.laws.specs.Fold.{largest}
 use Rattle.job.specs.Model.{Model}
-use Rattle.validity.specs.Ticks.{effectTick, firstTick, lastTick, useTick, finish, opposes}
+use Rattle.validity.specs.Ticks.{effectTick, firstTick, lastTick, useTick, needTick, finish, opposes}
 use Rattle.order_file.specs.Contents.{initialState, gapBias}
 use Rattle.orders.specs.Links.{conditionLink}
 
@@ -72,6 +72,29 @@ levelOrder m x i k u v =
 unfoldable pub levelGap : Model → (ℕ → ℕ) → ℕ → ℕ → ℕ
 levelGap m x i k = largest (m .uses) (λ u. largest (m .uses) (levelOrder m x i k u))
 
+-- "A need and another step's use of that level at different ticks are ordered as they lie", which counts with rule 4: need n of step i
+-- before use u of step k
+unfoldable pub needOrder : Model → (ℕ → ℕ) → ℕ → ℕ → ℕ → ℕ → ℕ
+needOrder m x i k n u =
+    cond
+    (eqb (m .needStep n) i && eqb (m .useStep u) k && eqb (m .useLevel u) (m .needLevel n)
+    && ltb (needTick m x n) (useTick m x u))
+    (strictly (m .needAt n) (m .useAt u))
+    0
+
+-- use u of step i before need n of step k
+unfoldable pub useOrder : Model → (ℕ → ℕ) → ℕ → ℕ → ℕ → ℕ → ℕ
+useOrder m x i k n u =
+    cond
+    (eqb (m .useStep u) i && eqb (m .needStep n) k && eqb (m .useLevel u) (m .needLevel n)
+    && ltb (useTick m x u) (needTick m x n))
+    (strictly (m .useAt u) (m .needAt n))
+    0
+
+unfoldable pub needGap : Model → (ℕ → ℕ) → ℕ → ℕ → ℕ
+needGap m x i k =
+    largest (m .needs) (λ n. max (largest (m .uses) (needOrder m x i k n)) (largest (m .uses) (useOrder m x i k n)))
+
 -- rule 5: in a serial job the step that finishes no later than the other starts is first; both ways, the lower step
 abbrev pub serialFirst : Model → (ℕ → ℕ) → ℕ → ℕ → Bool
 serialFirst m x i k = eqb (m .serial) 1 && leb (finish m x i) (x k) && (not (leb (finish m x k) (x i)) || ltb i k)
@@ -83,4 +106,6 @@ serialGap m x i k = cond (serialFirst m x i k) (m .stepLength i + gapBias) 0
 unfoldable pub gapOf : Model → (ℕ → ℕ) → ℕ → ℕ → ℕ
 gapOf m x i k =
     cond (eqb i k) 0
-    (max (max (max (max (supportGap m x i k) (opposingGap m x i k)) (conditionGap m x i k)) (levelGap m x i k)) (serialGap m x i k))
+    (max
+    (max (max (max (max (supportGap m x i k) (opposingGap m x i k)) (conditionGap m x i k)) (levelGap m x i k)) (needGap m x i k))
+    (serialGap m x i k))
