@@ -4,4 +4,5 @@ pub mod Fold
 pub mod Nth
 pub mod Listed
 pub mod Linked
+pub mod Noted
 pub mod Chosen

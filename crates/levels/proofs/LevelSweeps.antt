@@ -172,7 +172,7 @@ passes-level m x l u hit =
 module _ (m : Model) (x : ℕ → ℕ) {l : ℕ} {points : List ℕ} {low high : ℕ} (known : UsesPlaced m x l points low high) where
   -- sums over the places before tick t are those of the uses before it
   module _ (t r : ℕ) (parts : Parted points low high t r) where
-    total : (g : ℕ → ℕ) → sumFrom low g points r ≡ sum (m .uses) (λ u. cond (usedBy m x l t u) (g u) 0)
+    pub total : (g : ℕ → ℕ) → sumFrom low g points r ≡ sum (m .uses) (λ u. cond (usedBy m x l t u) (g u) 0)
     total g =
         sum-placed known t r parts (m .uses) g (usedBy m x l t)
         (λ u p. p .0)
@@ -181,7 +181,7 @@ module _ (m : Model) (x : ℕ → ℕ) {l : ℕ} {points : List ℕ} {low high :
         let both = and-both (eqb (m .useLevel u) l) (ltb (useTick m x u) t) e in
         ((a, eqb-true (m .useLevel u) l (both .0)), ltb-true (useTick m x u) t (both .1)))
 
-    sums-before :
+    pub sums-before :
         {sums : Sums} → Summed m points low high sums → sums .place ≡ r → (sums .rises ≡ risesBefore m x l t)
         × (sums .falls ≡ fallsBefore m x l t)
     unfolding risesBefore fallsBefore

@@ -88,7 +88,7 @@ module _ {m : Model} {x : ℕ → ℕ} {points begins : List ℕ} (known : Point
   pub levels-listed : LevelsListed (m .facts) (m .levels) points begins
   levels-listed =
       record {
-        room = known .room;
+        room = omega (arith, known .room);
         ends = λ l h. known .used l h .ends;
         rises = λ l h. known .used l h .rises;
       }

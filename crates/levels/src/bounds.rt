@@ -24,7 +24,7 @@ pub struct Sums {
 }
 
 // The sums with use u at the place.
-fn with_use(s: &[u8], job: Job, sums: Sums, u: u16) -> Sums
+pub fn with_use(s: &[u8], job: Job, sums: Sums, u: u16) -> Sums
     requires { ⌜ (sums .place < placeLimit) × (sums .rises ≤ sumLimit) × (sums .falls ≤ sumLimit) ⌝ }
     ensures { λ r. ⌜ Added (clocked (view job (now (s .entry)))) u sums r ⌝ }
 {

@@ -68,6 +68,19 @@ module _ {m : Model} (form : Ranged m) where
         step = omega arith;
       }
 
+  pub need-parts : (n : ℕ) → n < m .needs
+      → Parts (m .facts + m .facts + m .levels + m .needLevel n) (m .needAt n) (m .needAt n) n 0 (m .needStep n)
+  need-parts n h =
+      let step = form .needStep n h in
+      record {
+        group = omega (arith, form .needLevel n h);
+        rises = omega arith;
+        within = omega (arith, form .needEnd n h, form .lengthRange (m .needStep n) step);
+        number = omega arith;
+        value = omega arith;
+        step = omega arith;
+      }
+
 -- The word and the tick of a timed fact, as an effect of the clock.
 pub clock-word :
     (m : Model) (x : ℕ → ℕ) (j : ℕ)

@@ -15,6 +15,7 @@ untimed j =
         uses = j .count .uses;
         goals = j .count .goals;
         timed = 0;
+        needs = j .count .needs;
       };
       at = j .at;
     }

@@ -1,4 +1,4 @@
-// The word of each condition, effect, timed fact and use of a job.
+// The word of each condition, effect, timed fact, use and need of a job.
 ghost use mathlib.Core.Path.{_≡_};
 ghost use Prim.Native.Nat.{_+_, _<_};
 ghost use Rattle.timeline.specs.Words.{tickSpan};
@@ -6,14 +6,15 @@ ghost use Rattle.job.specs.Model.{view};
 ghost use Rattle.job.specs.WellFormed.{Ranged};
 ghost use Rattle.job.specs.Clocked.{clocked};
 ghost use Rattle.job.specs.Laid.{Laid};
-ghost use Rattle.validity.specs.Ticks.{scheduleOf, effectTick, firstTick, useTick};
-ghost use Rattle.point_words.specs.Words.{conditionWord, effectWord, useWord};
+ghost use Rattle.validity.specs.Ticks.{scheduleOf, effectTick, firstTick, useTick, needTick};
+ghost use Rattle.point_words.specs.Words.{conditionWord, effectWord, useWord, needWord};
 
 pub mod own;
 
 use job::layout::Job;
 use job_reader::laid::condition_of;
 use job_reader::laid::effect_of;
+use job_reader::laid::need_of;
 use job_reader::laid::timed_of;
 use job_reader::laid::use_of;
 use ticks::start_of;
@@ -67,6 +68,23 @@ pub fn use_word(s: &[u8], job: Job, starts: &[u32], u: u16) -> u64
         facts + facts + p.level as usize,
         start_of(starts, p.step) + p.at,
         u,
+        0,
+        p.step,
+    )
+}
+
+pub fn need_word(s: &[u8], job: Job, starts: &[u32], n: u16) -> u64
+    requires { ⌜ Ranged (view job (now s)) × (n < job .count .needs) × Laid job (now s) ⌝ }
+    ensures { λ r. ⌜ (r ≡ needWord (view job (now (s .entry))) (scheduleOf (now (starts .entry))) n)
+        × (needTick (view job (now (s .entry))) (scheduleOf (now (starts .entry))) n < tickSpan) ⌝ }
+{
+    let p = need_of(s, job, n);
+    let facts = job.count.facts as usize;
+    let levels = job.count.levels as usize;
+    word_of(
+        facts + facts + levels + p.level as usize,
+        start_of(starts, p.step) + p.at,
+        n,
         0,
         p.step,
     )

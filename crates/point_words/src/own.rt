@@ -17,6 +17,7 @@ pub fn untimed(job: Job) -> Job
         uses: job.count.uses,
         goals: job.count.goals,
         timed: 0,
+        needs: job.count.needs,
     };
     let at = job.at;
     Job {

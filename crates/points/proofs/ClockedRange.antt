@@ -16,6 +16,7 @@ clocked-range m w =
       conditionCount = w .conditionCount;
       effectCount = omega (arith, w .effectCount, w .timedCount);
       useCount = w .useCount;
+      needCount = w .needCount;
       initialValue = w .initialValue;
       conditionStep = w .conditionStep;
       conditionFact = w .conditionFact;
@@ -26,6 +27,8 @@ clocked-range m w =
       effectValue = of-both m (λ n. n ≤ 1) (m .effectValue) (m .timedValue) (w .effectValue) (w .timedValue);
       useStep = w .useStep;
       useLevel = w .useLevel;
+      needStep = w .needStep;
+      needLevel = w .needLevel;
     }
 
 pub form-range : {m : Model} → ClockedForm m → ClockedRange m
@@ -37,6 +40,7 @@ form-range w =
       conditionCount = w .conditionCount;
       effectCount = w .effectCount;
       useCount = w .useCount;
+      needCount = w .needCount;
       initialValue = w .initialValue;
       conditionStep = w .conditionStep;
       conditionFact = w .conditionFact;
@@ -46,4 +50,6 @@ form-range w =
       effectValue = w .effectValue;
       useStep = w .useStep;
       useLevel = w .useLevel;
+      needStep = w .needStep;
+      needLevel = w .needLevel;
     }

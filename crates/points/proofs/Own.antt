@@ -46,7 +46,13 @@ module _ (m : Model) (none : m .timed ≡ 0) where
 
   pub own-known : (x : ℕ → ℕ) {points begins : List ℕ} → PointsKnown (clocked m) x points begins → PointsKnown m x points begins
   own-known x k =
-      record { room = k .room; setters = λ f h. own-setters x f (k .setters f h); wanted = λ f h. k .wanted f h; used = λ l h. k .used l h }
+      record {
+        room = k .room;
+        setters = λ f h. own-setters x f (k .setters f h);
+        wanted = λ f h. k .wanted f h;
+        used = λ l h. k .used l h;
+        needed = λ l h. k .needed l h;
+      }
 
 -- a job whose timed facts are left out
 module _ (j : Job) (s : List ℕ) where
@@ -61,6 +67,7 @@ module _ (j : Job) (s : List ℕ) where
         effectCount = w .effectCount;
         useCount = w .useCount;
         timedCount = omega arith;
+        needCount = w .needCount;
         initialValue = w .initialValue;
         lengthRange = w .lengthRange;
         conditionStep = w .conditionStep;
@@ -78,12 +85,24 @@ module _ (j : Job) (s : List ℕ) where
         timedFact = λ k h. absurd (omega arith);
         timedTick = λ k h. absurd (omega arith);
         timedValue = λ k h. absurd (omega arith);
+        needStep = w .needStep;
+        needLevel = w .needLevel;
+        needEnd = w .needEnd;
+        needFrom = w .needFrom;
+        needTo = w .needTo;
       }
 
   pub untimed-laid : Laid j s → Laid (untimed j) s
   unfolding untimed
   untimed-laid w =
-      record { steps = w .steps; conditions = w .conditions; effects = w .effects; uses = w .uses; timed = omega (arith, w .timed) }
+      record {
+        steps = w .steps;
+        conditions = w .conditions;
+        effects = w .effects;
+        uses = w .uses;
+        timed = omega (arith, w .timed);
+        needs = w .needs;
+      }
 
   pub untimed-room :
       {spare points begins : List ℕ} → PointRoom (view j s) spare points begins
@@ -96,4 +115,4 @@ module _ (j : Job) (s : List ℕ) where
   unfolding untimed
   untimed-known x k =
       let own = own-known (view (untimed j) s) refl x k in
-      record { room = own .room; setters = own .setters; wanted = own .wanted; used = own .used }
+      record { room = own .room; setters = own .setters; wanted = own .wanted; used = own .used; needed = own .needed }

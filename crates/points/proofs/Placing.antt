@@ -6,8 +6,9 @@ use native.Mathlib.Decide.{decLt}
 use native.Mathlib.Omega.{arith}
 use lib.ListN.{length, getD}
 use Rattle.job.specs.Model.{Model}
-use Rattle.points.specs.Points.{ClockedRange, Setter, Wanting, Using, wantedGroup, usedGroup, groupCount, PointsKnown}
-use Rattle.point_words.specs.Words.{conditionWord, effectWord, useWord}
+use Rattle.points.specs.Points.{ClockedRange, Setter, Wanting, Using, Needing, PointsKnown}
+use Rattle.points.specs.Points.{wantedGroup, usedGroup, neededGroup, groupCount}
+use Rattle.point_words.specs.Words.{conditionWord, effectWord, useWord, needWord}
 use Rattle.points.specs.Words.{pointCount, WordsListed}
 use Rattle.timeline.proofs.Words.{step-back, value-back, number-back, tick-back, group-back}
 use Rattle.timeline.specs.Placed.{Placed}
@@ -15,7 +16,7 @@ use Rattle.insertion.specs.Arranged.{Distinct, Rearranged}
 use Rattle.sort.specs.Sorted.{Grouped}
 use Rattle.timeline.specs.Words.{wordOf, wordStep, wordValue, wordNumber, wordTick, wordGroup, numberAt, tickAt, groupAt}
 use Rattle.timeline.specs.Words.{stepSpan, valueSpan, numberSpan, tickSpan}
-use Rattle.validity.specs.Ticks.{effectTick, firstTick, useTick}
+use Rattle.validity.specs.Ticks.{effectTick, firstTick, useTick, needTick}
 
 -- A word and what it is made of, within the spans.
 pub record Made (w g t k v s : ℕ) : Type 0 where
@@ -188,13 +189,24 @@ module _ {m : Model} {x : ℕ → ℕ} {list : List ℕ} (form : ClockedRange m)
         step = omega (arith, form .useStep u h, form .stepCount);
       }
 
+  need-made : (n : ℕ) → n < m .needs → Made (needWord m x n) (neededGroup m (m .needLevel n)) (needTick m x n) n 0 (m .needStep n)
+  need-made n h =
+      record {
+        is = refl;
+        tick = known .needs n h .1;
+        number = omega (arith, form .needCount);
+        value = omega arith;
+        step = omega (arith, form .needStep n h, form .stepCount);
+      }
+
   -- what holds of every place and word holds of each kind's
   each : (Q : ℕ → ℕ → Type 0)
       → ((c : ℕ) → c < m .conditions → Q c (conditionWord m x c))
       → ((e : ℕ) → e < m .effects → Q (m .conditions + e) (effectWord m x e))
       → ((u : ℕ) → u < m .uses → Q (m .conditions + m .effects + u) (useWord m x u))
+      → ((n : ℕ) → n < m .needs → Q (m .conditions + m .effects + m .uses + n) (needWord m x n))
       → (j : ℕ) → j < pointCount m → Q j (getD list j 0)
-  each Q conditions effects uses j h =
+  each Q conditions effects uses needs j h =
       elim (decLt j (m .conditions)) [
         | yes l ↦ subst (Q j) (sym (known .conditions j l .0)) (conditions j l)
         | no l ↦
@@ -205,12 +217,21 @@ module _ {m : Model} {x : ℕ → ℕ} {list : List ℕ} (form : ClockedRange m)
                   let q : i ≡ j = omega arith in
                   subst (λ i. Q i (getD list i 0)) q (subst (Q i) (sym (known .effects e (omega arith) .0)) (effects e (omega arith)))
                   )
-              | no r ↦ (
-                  let u = j - (m .conditions + m .effects) in
-                  let i = m .conditions + m .effects + u in
-                  let q : i ≡ j = omega arith in
-                  subst (λ i. Q i (getD list i 0)) q (subst (Q i) (sym (known .uses u (omega arith) .0)) (uses u (omega arith)))
-                  )
+              | no r ↦
+                  elim (decLt j (m .conditions + m .effects + m .uses)) [
+                    | yes b ↦ (
+                        let u = j - (m .conditions + m .effects) in
+                        let i = m .conditions + m .effects + u in
+                        let q : i ≡ j = omega arith in
+                        subst (λ i. Q i (getD list i 0)) q (subst (Q i) (sym (known .uses u (omega arith) .0)) (uses u (omega arith)))
+                        )
+                    | no b ↦ (
+                        let n = j - (m .conditions + m .effects + m .uses) in
+                        let i = m .conditions + m .effects + m .uses + n in
+                        let q : i ≡ j = omega arith in
+                        subst (λ i. Q i (getD list i 0)) q (subst (Q i) (sym (known .needs n (omega arith) .0)) (needs n (omega arith)))
+                        )
+                  ]
             ]
       ]
 
@@ -218,12 +239,14 @@ module _ {m : Model} {x : ℕ → ℕ} {list : List ℕ} (form : ClockedRange m)
   groups-low =
       each (λ j w. wordGroup w < groupCount m) (λ c h. omega (arith, group-is (condition-made c h), form .conditionFact c h))
       (λ e h. omega (arith, group-is (effect-made e h), form .effectFact e h)) (λ u h. omega (arith, group-is (use-made u h), form .useLevel u h))
+      (λ n h. omega (arith, group-is (need-made n h), form .needLevel n h))
 
   -- the place of a word, by its group and number
   Home : ℕ → ℕ → Type 0
   Home j w =
       (wordGroup w < m .facts → j ≡ m .conditions + wordNumber w) × (m .facts ≤ wordGroup w → wordGroup w < m .facts + m .facts → j ≡ wordNumber w)
-      × (m .facts + m .facts ≤ wordGroup w → j ≡ m .conditions + m .effects + wordNumber w)
+      × (m .facts + m .facts ≤ wordGroup w → wordGroup w < m .facts + m .facts + m .levels → j ≡ m .conditions + m .effects + wordNumber w)
+      × (m .facts + m .facts + m .levels ≤ wordGroup w → j ≡ m .conditions + m .effects + m .uses + wordNumber w)
 
   home : (j : ℕ) → j < pointCount m → Home j (getD list j 0)
   unfolding Home
@@ -233,16 +256,30 @@ module _ {m : Model} {x : ℕ → ℕ} {list : List ℕ} (form : ClockedRange m)
       let g = group-is (condition-made c h) in let n = number-is (condition-made c h) in let f = form .conditionFact c h in (
         λ l. omega arith,
         λ l r. omega arith,
+        λ l r. omega arith,
         λ l. omega arith,
       ))
       (λ e h.
       let g = group-is (effect-made e h) in let n = number-is (effect-made e h) in let f = form .effectFact e h in (
         λ l. omega arith,
         λ l r. omega arith,
+        λ l r. omega arith,
         λ l. omega arith,
       ))
       (λ u h.
-      let g = group-is (use-made u h) in let n = number-is (use-made u h) in (λ l. omega arith, λ l r. omega arith, λ l. omega arith))
+      let g = group-is (use-made u h) in let n = number-is (use-made u h) in let f = form .useLevel u h in (
+        λ l. omega arith,
+        λ l r. omega arith,
+        λ l r. omega arith,
+        λ l. omega arith,
+      ))
+      (λ k h.
+      let g = group-is (need-made k h) in let n = number-is (need-made k h) in (
+        λ l. omega arith,
+        λ l r. omega arith,
+        λ l r. omega arith,
+        λ l. omega arith,
+      ))
 
   distinct-words : Distinct (pointCount m) list
   unfolding Home
@@ -256,11 +293,15 @@ module _ {m : Model} {x : ℕ → ℕ} {list : List ℕ} (form : ClockedRange m)
         | no l ↦
             elim (decLt (groupAt list p) (m .facts + m .facts)) [
               | yes r ↦ omega (arith, a .1 (omega arith) r, b .1 (omega arith) (omega arith))
-              | no r ↦ omega (arith, a .2 (omega arith), b .2 (omega arith))
+              | no r ↦
+                  elim (decLt (groupAt list p) (m .facts + m .facts + m .levels)) [
+                    | yes u ↦ omega (arith, a .2 (omega arith) u, b .2 (omega arith) (omega arith))
+                    | no u ↦ omega (arith, a .3 (omega arith), b .3 (omega arith))
+                  ]
             ]
       ]
 
-  -- the words of a fact's setters, of its conditions, and of a level's uses
+  -- the words of a fact's setters, of its conditions, of a level's uses, and of its needs
   module _ (f : ℕ) (low : f < m .facts) where
     MadeSetter : ℕ → ℕ → Type 0
     MadeSetter e w = Made w f (effectTick m x e) e (m .effectValue e) (m .effectStep e)
@@ -277,7 +318,7 @@ module _ {m : Model} {x : ℕ → ℕ} {list : List ℕ} (form : ClockedRange m)
               each (λ j w. wordGroup w ≡ f → (e : ℕ) × Setter m f e × MadeSetter e w)
               (λ c h g. absurd (omega (arith, group-is (condition-made c h))))
               (λ e h g. let t : Setter m f e = (h, sym (group-is (effect-made e h)) ∙ g) in (e, t, setter-made e t))
-              (λ u h g. absurd (omega (arith, group-is (use-made u h))));
+              (λ u h g. absurd (omega (arith, group-is (use-made u h)))) (λ n h g. absurd (omega (arith, group-is (need-made n h))));
           listed = λ e t. (m .conditions + e, omega arith, subst (MadeSetter e) (sym (known .effects e (t .0) .0)) (setter-made e t));
         }
 
@@ -299,7 +340,7 @@ module _ {m : Model} {x : ℕ → ℕ} {list : List ℕ} (form : ClockedRange m)
               (λ c h g.
               let q = group-is (condition-made c h) in let t : Wanting m f c = (h, omega arith) in (c, t, wanting-made c t))
               (λ e h g. absurd (omega (arith, group-is (effect-made e h), form .effectFact e h)))
-              (λ u h g. absurd (omega (arith, group-is (use-made u h))));
+              (λ u h g. absurd (omega (arith, group-is (use-made u h)))) (λ n h g. absurd (omega (arith, group-is (need-made n h))));
           listed = λ c t. (c, omega arith, subst (MadeWanting c) (sym (known .conditions c (t .0) .0)) (wanting-made c t));
         }
 
@@ -319,8 +360,30 @@ module _ {m : Model} {x : ℕ → ℕ} {list : List ℕ} (form : ClockedRange m)
               each (λ j w. wordGroup w ≡ usedGroup m l → (u : ℕ) × Using m l u × MadeUsing u w)
               (λ c h g. absurd (omega (arith, group-is (condition-made c h), form .conditionFact c h)))
               (λ e h g. absurd (omega (arith, group-is (effect-made e h), form .effectFact e h)))
-              (λ u h g. let q = group-is (use-made u h) in let t : Using m l u = (h, omega arith) in (u, t, using-made u t));
+              (λ u h g. let q = group-is (use-made u h) in let t : Using m l u = (h, omega arith) in (u, t, using-made u t))
+              (λ n h g. absurd (omega (arith, group-is (need-made n h))));
           listed = λ u t. (m .conditions + m .effects + u, omega arith, subst (MadeUsing u) (sym (known .uses u (t .0) .0)) (using-made u t));
+        }
+
+    MadeNeeding : ℕ → ℕ → Type 0
+    MadeNeeding n w = Made w (neededGroup m l) (needTick m x n) n 0 (m .needStep n)
+
+    needing-made : (n : ℕ) → Needing m l n → MadeNeeding n (needWord m x n)
+    unfolding MadeNeeding
+    needing-made n t = subst (λ l. Made (needWord m x n) (neededGroup m l) (needTick m x n) n 0 (m .needStep n)) (t .1) (need-made n (t .0))
+
+    needed-held : Held (Needing m l) (neededGroup m l) (needTick m x) (λ _. 0) (m .needStep) (pointCount m) list
+    unfolding MadeNeeding
+    needed-held =
+        record {
+          given =
+              each (λ j w. wordGroup w ≡ neededGroup m l → (n : ℕ) × Needing m l n × MadeNeeding n w)
+              (λ c h g. absurd (omega (arith, group-is (condition-made c h), form .conditionFact c h)))
+              (λ e h g. absurd (omega (arith, group-is (effect-made e h), form .effectFact e h)))
+              (λ u h g. absurd (omega (arith, group-is (use-made u h), form .useLevel u h)))
+              (λ n h g. let q = group-is (need-made n h) in let t : Needing m l n = (h, omega arith) in (n, t, needing-made n t));
+          listed = λ n t.
+              (m .conditions + m .effects + m .uses + n, omega arith, subst (MadeNeeding n) (sym (known .needs n (t .0) .0)) (needing-made n t));
         }
 
   pub points-known : {points begins : List ℕ} → Rearranged (pointCount m) list points → Grouped (pointCount m) (groupCount m) points begins
@@ -333,4 +396,5 @@ module _ {m : Model} {x : ℕ → ℕ} {list : List ℕ} (form : ClockedRange m)
         setters = λ f low. placed (setters-held f low) distinct-words same grouped (omega arith) fits;
         wanted = λ f low. placed (wanted-held f low) distinct-words same grouped (omega arith) fits;
         used = λ l low. placed (used-held l low) distinct-words same grouped (omega arith) fits;
+        needed = λ l low. placed (needed-held l low) distinct-words same grouped (omega arith) fits;
       }

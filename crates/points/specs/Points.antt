@@ -1,13 +1,14 @@
--- Between crates: what is known of a job's points before they are walked along: the setters of each fact, its conditions, and the uses of each level.
+-- Between crates: what is known of a job's points before they are walked along: the setters of each fact, its conditions, and the uses and the
+-- needs of each level.
 use Prim.Native.Nat.{ℕ, _+_, _≤_, _<_}
 use mathlib.Core.Path.{_≡_}
 use mathlib.Core.List.{List}
 use lib.ListN.{length, getD}
-use Rattle.job.specs.Layout.{mostFacts, mostLevels, mostSteps, mostConditions, mostUses}
+use Rattle.job.specs.Layout.{mostFacts, mostLevels, mostSteps, mostConditions, mostUses, mostNeeds}
 use Rattle.job.specs.Model.{Model}
 use Rattle.job.specs.Clocked.{mostSetters}
 use Rattle.timeline.specs.Placed.{Placed}
-use Rattle.validity.specs.Ticks.{effectTick, firstTick, useTick}
+use Rattle.validity.specs.Ticks.{effectTick, firstTick, useTick, needTick}
 
 -- what the points of a job rely on, its timed facts among its effects: what refusals 1 to 6 leave of it
 pub record ClockedRange (m : Model) : Type 0 where
@@ -17,6 +18,7 @@ pub record ClockedRange (m : Model) : Type 0 where
   pub conditionCount : m .conditions ≤ mostConditions
   pub effectCount : m .effects ≤ mostSetters
   pub useCount : m .uses ≤ mostUses
+  pub needCount : m .needs ≤ mostNeeds
   pub initialValue : (k : ℕ) → k < m .facts → m .initial k ≤ 1
   pub conditionStep : (k : ℕ) → k < m .conditions → m .conditionStep k < m .steps
   pub conditionFact : (k : ℕ) → k < m .conditions → m .conditionFact k < m .facts
@@ -26,8 +28,10 @@ pub record ClockedRange (m : Model) : Type 0 where
   pub effectValue : (k : ℕ) → k < m .effects → m .effectValue k ≤ 1
   pub useStep : (k : ℕ) → k < m .uses → m .useStep k < m .steps
   pub useLevel : (k : ℕ) → k < m .uses → m .useLevel k < m .levels
+  pub needStep : (k : ℕ) → k < m .needs → m .needStep k < m .steps
+  pub needLevel : (k : ℕ) → k < m .needs → m .needLevel k < m .levels
 
--- an effect on fact f, a condition on fact f, a use of level l
+-- an effect on fact f, a condition on fact f, a use of level l, a need of level l
 abbrev pub Setter : Model → ℕ → ℕ → Type 0
 Setter m f e = (e < m .effects) × (m .effectFact e ≡ f)
 
@@ -37,15 +41,21 @@ Wanting m f c = (c < m .conditions) × (m .conditionFact c ≡ f)
 abbrev pub Using : Model → ℕ → ℕ → Type 0
 Using m l u = (u < m .uses) × (m .useLevel u ≡ l)
 
--- the group of a fact's conditions, of a level's uses, and how many groups there are; that of a fact's setters has the fact's number
+abbrev pub Needing : Model → ℕ → ℕ → Type 0
+Needing m l n = (n < m .needs) × (m .needLevel n ≡ l)
+
+-- the group of a fact's conditions, of a level's uses and its needs, and how many groups there are; that of a fact's setters has the fact's number
 abbrev pub wantedGroup : Model → ℕ → ℕ
 wantedGroup m f = m .facts + f
 
 abbrev pub usedGroup : Model → ℕ → ℕ
 usedGroup m l = m .facts + m .facts + l
 
+abbrev pub neededGroup : Model → ℕ → ℕ
+neededGroup m l = m .facts + m .facts + m .levels + l
+
 abbrev pub groupCount : Model → ℕ
-groupCount m = m .facts + m .facts + m .levels
+groupCount m = m .facts + m .facts + m .levels + m .levels
 
 -- the points of a schedule x, group by group in the order of their ticks, and where each group begins
 pub record PointsKnown (m : Model) (x : ℕ → ℕ) (points begins : List ℕ) : Type 0 where
@@ -60,6 +70,9 @@ pub record PointsKnown (m : Model) (x : ℕ → ℕ) (points begins : List ℕ) 
   pub used :
       (l : ℕ) → l < m .levels
       → Placed (Using m l) (useTick m x) (λ _. 0) (m .useStep) points (getD begins (usedGroup m l) 0) (getD begins (usedGroup m l + 1) 0)
+  pub needed :
+      (l : ℕ) → l < m .levels
+      → Placed (Needing m l) (needTick m x) (λ _. 0) (m .needStep) points (getD begins (neededGroup m l) 0) (getD begins (neededGroup m l + 1) 0)
 
 -- no two effects give a fact different values at one tick: what refusals 7 and 10 leave
 abbrev pub OneValue : Model → (ℕ → ℕ) → Type 0

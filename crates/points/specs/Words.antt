@@ -1,5 +1,5 @@
 -- Between crates: the points of a job as words: those of its conditions, then of its effects, its timed facts behind them, then of its uses,
--- before they are sorted.
+-- then of its needs, before they are sorted.
 use Prim.Native.Nat.{ℕ, _+_, _≤_, _<_}
 use mathlib.Core.Path.{_≡_}
 use mathlib.Core.List.{List}
@@ -7,14 +7,14 @@ use lib.ListN.{length, getD}
 use Rattle.job.specs.declared.layout.Counts.{Counts}
 use Rattle.job.specs.Model.{Model}
 use Rattle.job.specs.Clocked.{clocked}
-use Rattle.point_words.specs.Words.{conditionWord, effectWord, useWord}
+use Rattle.point_words.specs.Words.{conditionWord, effectWord, useWord, needWord}
 use Rattle.points.specs.Points.{groupCount}
 use Rattle.timeline.specs.Words.{tickSpan}
-use Rattle.validity.specs.Ticks.{effectTick, firstTick, useTick}
+use Rattle.validity.specs.Ticks.{effectTick, firstTick, useTick, needTick}
 
 -- how many points a job has
 abbrev pub pointCount : Model → ℕ
-pointCount m = m .conditions + m .effects + m .uses
+pointCount m = m .conditions + m .effects + m .uses + m .needs
 
 -- a list with the words of n points from place `from` on, whose ticks are within the span; before that place nothing is changed
 pub record WordsPut (from n : ℕ) (word tick : ℕ → ℕ) (before list : List ℕ) : Type 0 where
@@ -22,7 +22,7 @@ pub record WordsPut (from n : ℕ) (word tick : ℕ → ℕ) (before list : List
   pub each : (k : ℕ) → k < n → (getD list (from + k) 0 ≡ word k) × (tick k < tickSpan)
   pub kept : (p : ℕ) → p < from → getD list p 0 ≡ getD before p 0
 
--- the words of a job's conditions in the first places, those of its effects in the next ones, and those of its uses behind them
+-- the words of a job's conditions in the first places, those of its effects in the next ones, and those of its uses and its needs behind them
 abbrev pub ConditionsPut : Model → (ℕ → ℕ) → List ℕ → List ℕ → Type 0
 ConditionsPut m x = WordsPut 0 (m .conditions) (conditionWord m x) (firstTick m x)
 
@@ -37,11 +37,17 @@ TimedPut m x =
 abbrev pub UsesPut : Model → (ℕ → ℕ) → List ℕ → List ℕ → Type 0
 UsesPut m x = WordsPut (m .conditions + m .effects) (m .uses) (useWord m x) (useTick m x)
 
+abbrev pub NeedsPut : Model → (ℕ → ℕ) → List ℕ → List ℕ → Type 0
+NeedsPut m x = WordsPut (m .conditions + m .effects + m .uses) (m .needs) (needWord m x) (needTick m x)
+
 -- all of them
 pub record WordsListed (m : Model) (x : ℕ → ℕ) (list : List ℕ) : Type 0 where
   pub conditions : (c : ℕ) → c < m .conditions → (getD list c 0 ≡ conditionWord m x c) × (firstTick m x c < tickSpan)
   pub effects : (e : ℕ) → e < m .effects → (getD list (m .conditions + e) 0 ≡ effectWord m x e) × (effectTick m x e < tickSpan)
   pub uses : (u : ℕ) → u < m .uses → (getD list (m .conditions + m .effects + u) 0 ≡ useWord m x u) × (useTick m x u < tickSpan)
+  pub needs :
+      (n : ℕ) → n < m .needs
+      → (getD list (m .conditions + m .effects + m .uses + n) 0 ≡ needWord m x n) × (needTick m x n < tickSpan)
 
 -- lists long enough for a job's points, for sorting them, and for the beginnings of their groups and one more
 pub record PointRoom (m : Model) (spare points begins : List ℕ) : Type 0 where
@@ -54,9 +60,9 @@ abbrev pub fewPoints : ℕ
 fewPoints = 192
 
 abbrev pub fewGroups : ℕ
-fewGroups = 80
+fewGroups = 96
 
 -- the counts of a small job
 pub record Small (n : Counts) : Type 0 where
-  pub points : n .conditions + n .effects + n .timed + n .uses ≤ fewPoints
-  pub groups : n .facts + n .facts + n .levels ≤ fewGroups
+  pub points : n .conditions + n .effects + n .timed + n .uses + n .needs ≤ fewPoints
+  pub groups : n .facts + n .facts + n .levels + n .levels ≤ fewGroups

@@ -1,4 +1,4 @@
-// The points of a job as words: those of its conditions, effects, timed facts and uses, listed and then sorted by group, tick and number.
+// The points of a job as words: those of its conditions, effects, timed facts, uses and needs, listed and then sorted by group, tick and number.
 ghost use mathlib.Core.Path.{_≡_};
 ghost use mathlib.Core.Bool.{true};
 ghost use Prim.Native.Nat.{_+_, _≤_, _<_};
@@ -9,12 +9,13 @@ ghost use Rattle.job.specs.Model.{view};
 ghost use Rattle.job.specs.WellFormed.{Ranged};
 ghost use Rattle.points.specs.Points.{PointsKnown};
 ghost use Rattle.points.specs.Words.{pointCount};
-ghost use Rattle.points.specs.Words.{ConditionsPut, EffectsPut, TimedPut, UsesPut, WordsListed, PointRoom, Small};
+ghost use Rattle.points.specs.Words.{ConditionsPut, EffectsPut, TimedPut, UsesPut, NeedsPut, WordsListed, PointRoom, Small};
 ghost use Rattle.validity.specs.Ticks.{scheduleOf};
 use job::layout::Counts;
 use job::layout::Job;
 use point_words::condition_word;
 use point_words::effect_word;
+use point_words::need_word;
 use point_words::own::untimed;
 use point_words::timed_word;
 use point_words::use_word;
@@ -24,28 +25,30 @@ use sort::sort_points;
 pub const MOST_POINTS: usize = Job::CONDITIONS as usize
     + Job::EFFECTS as usize
     + Job::TIMED as usize
-    + Job::USES as usize;
+    + Job::USES as usize
+    + Job::NEEDS as usize;
 
-pub const MOST_GROUPS: usize = 2 * Job::FACTS as usize + Job::LEVELS as usize;
+pub const MOST_GROUPS: usize = 2 * Job::FACTS as usize + 2 * Job::LEVELS as usize;
 
 // How many a small job has at most: its lists are shorter, since it would hardly use the long ones that it clears.
 pub const FEW_POINTS: usize = 192;
 
-pub const FEW_GROUPS: usize = 80;
+pub const FEW_GROUPS: usize = 96;
 
 // How many points a job has, and in how many groups.
 fn points_counted(count: Counts) -> usize
-    ensures { λ r. ⌜ r ≡ count .conditions + (count .effects + count .timed) + count .uses ⌝ }
+    ensures { λ r. ⌜ r ≡ count .conditions + (count .effects + count .timed) + count .uses + count .needs ⌝ }
 {
     let setters = count.effects as usize + count.timed as usize;
-    count.conditions as usize + setters + count.uses as usize
+    count.conditions as usize + setters + count.uses as usize + count.needs as usize
 }
 
 fn groups_counted(count: Counts) -> usize
-    ensures { λ r. ⌜ r ≡ count .facts + count .facts + count .levels ⌝ }
+    ensures { λ r. ⌜ r ≡ count .facts + count .facts + count .levels + count .levels ⌝ }
 {
     let facts = count.facts as usize;
-    facts + facts + count.levels as usize
+    let levels = count.levels as usize;
+    facts + facts + levels + levels
 }
 
 // Whether a job is small.
@@ -112,6 +115,21 @@ fn put_uses(s: &[u8], job: Job, starts: &[u32], points: &mut [u64])
     }
 }
 
+// Puts those of all needs behind them.
+fn put_needs(s: &[u8], job: Job, starts: &[u32], points: &mut [u64])
+    requires { ⌜ Ranged (view job (now s)) × (pointCount (clocked (view job (now s))) ≤ length (now points)) × Laid job (now s) ⌝ }
+    ensures { λ _. ⌜ NeedsPut (clocked (view job (now (s .entry)))) (scheduleOf (now (starts .entry))) (now (points .entry)) (now (points .exit)) ⌝ }
+{
+    let setters = job.count.effects as usize + job.count.timed as usize;
+    let from = job.count.conditions as usize + setters + job.count.uses as usize;
+    let total = job.count.needs;
+    let mut n = 0;
+    while n < total {
+        points[from + n as usize] = need_word(s, job, starts, n);
+        n += 1;
+    }
+}
+
 // Lists the words of all points of a job.
 fn put_words(s: &[u8], job: Job, starts: &[u32], points: &mut [u64])
     requires { ⌜ Ranged (view job (now s)) × (pointCount (clocked (view job (now s))) ≤ length (now points)) × Laid job (now s) ⌝ }
@@ -122,6 +140,7 @@ fn put_words(s: &[u8], job: Job, starts: &[u32], points: &mut [u64])
     put_effects(s, job, starts, points);
     put_timed(s, job, starts, points);
     put_uses(s, job, starts, points);
+    put_needs(s, job, starts, points);
 }
 
 // Lists the points of a job at the given starts, its timed facts among its effects, group by group in the order of their ticks.

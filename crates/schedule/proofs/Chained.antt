@@ -1,6 +1,6 @@
 -- A rule's refusal in the chain, by the lowest that breaks it, and what a timing without conflicts is.
 use Prim.Native.Nat.{ℕ, _≤_, _<_}
-use mathlib.Core.Path.{_≡_, sym, ap, subst, _∙_}
+use mathlib.Core.Path.{_≡_, ap, subst, _∙_}
 use mathlib.Core.Bool.{Bool, not}
 use mathlib.Core.List.{List}
 use native.Mathlib.Omega.{arith}
@@ -12,10 +12,10 @@ use Rattle.laws.proofs.Search.{lowest-facts}
 use Rattle.verdict.specs.declared.Verdict.{Verdict}
 use Rattle.verdict.specs.declared.Verdict.the-variants.{Accepted, EffectsConflict, StartsMiscounted}
 use Rattle.verdict.specs.Verdict.{number, _then_, refuseIf, refuseLowest}
-use Rattle.verdict.proofs.Chain.{first-refused, lowest-refused, lowest-passed, then-zero, refuse-zero}
+use Rattle.verdict.proofs.Chain.{then-refused, first-refused, lowest-refused, lowest-passed, then-zero, refuse-zero}
 use Rattle.job.specs.Model.{Model}
 use Rattle.job.specs.Clocked.{ClockedForm}
-use Rattle.validity.specs.declared.Rule.the-variants.{FixedSteps, Effects, Conditions, Levels, Goals, Steps}
+use Rattle.validity.specs.declared.Rule.the-variants.{FixedSteps, Effects, Conditions, Levels, Needs, Goals, Steps}
 use Rattle.validity.specs.Ticks.{scheduleOf}
 use Rattle.validity.specs.Checks.{conflicts, countCheck, ruleCheck, timingCheck}
 use Rattle.validity.proofs.Tested.{conflicts-none}
@@ -41,9 +41,10 @@ pub starts-counted :
     (m : Model) (starts : List ℕ) → number (countCheck m starts then ruleCheck m (scheduleOf starts) FixedSteps) ≡ 0 → length starts ≡ m .steps
 starts-counted m starts z = counted m starts (then-zero (countCheck m starts) (ruleCheck m (scheduleOf starts) FixedSteps) z .0)
 
--- a refusal stands through four more checks
-refused-through : (a b c d e : Verdict) → (number a ≡ 0 → ⊥) → a ≡ (a then b then c then d then e)
-refused-through a b c d e h = subst (λ v. a ≡ (v then d then e)) (first-refused a b c h) (first-refused a d e h)
+-- a refusal stands through five more checks
+refused-through : (a b c d e f : Verdict) → (number a ≡ 0 → ⊥) → a ≡ (a then b then c then d then e then f)
+refused-through a b c d e f h =
+    subst (λ v. a ≡ (v then f)) (subst (λ v. a ≡ (v then d then e)) (first-refused a b c h) (first-refused a d e h)) (then-refused a f h)
 
 module _ (m : Model) (x : ℕ → ℕ) {k : ℕ} (found : k ≡ lowest (m .effects) (conflicts m x)) where
   -- a conflict of effects is refused
@@ -52,7 +53,8 @@ module _ (m : Model) (x : ℕ → ℕ) {k : ℕ} (found : k ≡ lowest (m .effec
   conflict-refused h =
       let refused = lowest-refused (m .effects) (conflicts m x) EffectsConflict found h in
       refused
-      ∙ refused-through (ruleCheck m x Effects) (ruleCheck m x Conditions) (ruleCheck m x Levels) (ruleCheck m x Goals) (ruleCheck m x Steps)
+      ∙ refused-through (ruleCheck m x Effects) (ruleCheck m x Conditions) (ruleCheck m x Levels) (ruleCheck m x Needs) (ruleCheck m x Goals)
+      (ruleCheck m x Steps)
       (λ z. let ten : _≡_ {A = ℕ} 10 0 = ap number refused ∙ z in omega arith)
 
   -- where there is none, the other rules decide

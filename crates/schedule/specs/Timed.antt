@@ -10,7 +10,7 @@ use Rattle.job.specs.declared.layout.Job.{Job}
 use Rattle.job.specs.Model.{Model, view}
 use Rattle.job.specs.WellFormed.{WellFormed}
 use Rattle.job.specs.Clocked.{clocked}
-use Rattle.validity.specs.declared.Rule.the-variants.{Conditions, Levels, Goals, Steps}
+use Rattle.validity.specs.declared.Rule.the-variants.{Conditions, Levels, Needs, Goals, Steps}
 use Rattle.validity.specs.Ticks.{scheduleOf}
 use Rattle.validity.specs.Checks.{conditionFails, ruleCheck}
 use Rattle.points.specs.Points.{PointsKnown, OneValue}
@@ -47,6 +47,8 @@ pub record Settled (m : Model) (starts points begins : List ℕ) (c : ℕ) : Typ
   pub counted : length starts ≡ m .steps
   pub failing : c ≡ lowest (m .conditions) (conditionFails (clocked m) (scheduleOf starts))
 
--- refusals 11 to 14 after a verdict
+-- refusals 11 to 14 and 21 after a verdict
 abbrev pub settledCheck : Model → (ℕ → ℕ) → Verdict → Verdict
-settledCheck m x v = v then ruleCheck m x Conditions then ruleCheck m x Levels then ruleCheck m x Goals then ruleCheck m x Steps
+settledCheck m x v =
+    v then ruleCheck m x Conditions then ruleCheck m x Levels then ruleCheck m x Needs then ruleCheck m x Goals
+    then ruleCheck m x Steps

@@ -3,5 +3,4 @@ mod Against
 mod Breaks
 pub mod Contested
 pub mod Conflicts
-mod Noted
 mod Walked

@@ -16,10 +16,10 @@ use Rattle.points.specs.Points.{wantedGroup, Wanting}
 use Rattle.values.specs.declared.conditions.Setters.{Setters}
 use Rattle.values.specs.declared.conditions.Walk.{Walk}
 use Rattle.values.specs.Contested.{contested}
-use Rattle.values.specs.Noted.{Noted}
+use Rattle.laws.specs.Noted.{Noted}
 use Rattle.opposing.specs.Against.{OfValue}
 use Rattle.values.specs.Conditions.{ConditionsKnown, SettersOf, Stands, NotPast, Come, ConditionAt}
-use Rattle.values.proofs.Noted.{noted-start, noted-more, noted-when, noted-both}
+use Rattle.laws.proofs.Noted.{noted-start, noted-more, noted-when, noted-both}
 
 -- the conditions at the places of a fact's group up to q
 abbrev pub Met : Model → List ℕ → List ℕ → ℕ → ℕ → ℕ → Type 0

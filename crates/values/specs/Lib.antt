@@ -1,4 +1,3 @@
 -- What the setters of a fact say of its effects and conditions.
 pub mod Conditions
 pub mod Contested
-pub mod Noted

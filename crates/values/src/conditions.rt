@@ -11,7 +11,7 @@ ghost use Rattle.timeline.specs.Words.{wordTick, wordNumber, valueAt};
 ghost use Rattle.validity.specs.Ticks.{scheduleOf};
 ghost use Rattle.points.specs.Points.{Wanting};
 ghost use Rattle.values.specs.Contested.{Opposed, contested, ScannedBefore};
-ghost use Rattle.values.specs.Noted.{Noted};
+ghost use Rattle.laws.specs.Noted.{Noted};
 ghost use Rattle.opposing.specs.Against.{Rising};
 ghost use Rattle.values.specs.Conditions.{ConditionsKnown, ConditionAt, NotPast, Come};
 use job::layout::Job;

@@ -24,14 +24,16 @@ check-clear-spec =
     let start = c .before .before .before .before .before .before .before in
     let m = clocked (view (start .args .job) (now (start .args .s))) in
     let passed = sym (ap number (c .before .before .check-starts .ensures)) ∙ sym (c .before .number .ensures) ∙ c .if1 .left in
-    let p = start .pre in
-    record {
-      form = p .0 .form;
-      known = p .0 .known;
-      oneValue = p .1 .oneValue;
-      counted = starts-counted m (now (start .args .starts)) passed;
-      failing = p .1 .noneFails;
-    })
+    let p = start .pre in (
+      record {
+        form = p .0 .form;
+        known = p .0 .known;
+        oneValue = p .1 .oneValue;
+        counted = starts-counted m (now (start .args .starts)) passed;
+        failing = p .1 .noneFails;
+      },
+      p .2,
+    ))
     (λ c.
     let p = c .before .before .before .before .before .before .before .before .pre in
     decides (c .before .before .before .check-starts .ensures) (c .before .before .number .ensures) (c .before .if1 .left)

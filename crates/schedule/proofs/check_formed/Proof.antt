@@ -22,5 +22,5 @@ check-formed-spec =
     let start = c .before .before .before .before .before .before .before in
     let m = clocked (view (start .args .job) (now (start .args .s))) in
     let passed = sym (ap number (c .before .before .check-starts .ensures)) ∙ sym (c .before .number .ensures) ∙ c .if1 .left in
-    (start .pre, starts-counted m (now (start .args .starts)) passed))
+    (start .pre .0, starts-counted m (now (start .args .starts)) passed, start .pre .1))
     (λ c. decides (c .before .before .before .check-starts .ensures) (c .before .before .number .ensures) (c .before .if1 .left) (c .check-timing .ensures)))

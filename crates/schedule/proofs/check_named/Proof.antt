@@ -17,5 +17,5 @@ check-named-spec =
     (λ c κs.
     let p = c .before .before .before .before .before .before .before .pre in
     let passed = sym (ap number (c .before .before .check-against .ensures)) ∙ sym (c .before .number .ensures) ∙ c .if1 .left in
-    record { form = read-formed (p .read) passed; known = p .known })
+    (record { form = read-formed (p .read) passed; known = p .known }, read-lies (p .read)))
     (λ c. decides (c .before .before .before .check-against .ensures) (c .before .before .number .ensures) (c .before .if1 .left) (c .check-formed .ensures)))

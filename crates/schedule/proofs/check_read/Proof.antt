@@ -18,8 +18,8 @@ check-read-spec =
     let w = read-in-range r in (
       w,
       record {
-        listed = omega (arith, w .conditionCount, w .effectCount, w .timedCount, w .useCount);
-        sorted = omega (arith, w .conditionCount, w .effectCount, w .timedCount, w .useCount);
+        listed = omega (arith, w .conditionCount, w .effectCount, w .timedCount, w .useCount, w .needCount);
+        sorted = omega (arith, w .conditionCount, w .effectCount, w .timedCount, w .useCount, w .needCount);
         grouped = omega (arith, w .factCount, w .levelCount);
       },
       read-lies r,

@@ -23,7 +23,7 @@ list-points-spec =
     (record {
       size = p .1 .listed;
       spareSize = omega (arith, listed .1, p .1 .sorted);
-      few = omega (arith, p .0 .conditionCount, p .0 .effectCount, p .0 .timedCount, p .0 .useCount);
+      few = omega (arith, p .0 .conditionCount, p .0 .effectCount, p .0 .timedCount, p .0 .useCount, p .0 .needCount);
       room = p .1 .grouped;
       known = groups-low (clocked-range (view (a .args .job) (a .args .s .now)) (p .0)) (listed .0);
     }))

@@ -27,19 +27,33 @@ put-words-spec =
     let conditions = effects .before .before .before .before in
     let p = conditions .before .before .before .before .before .pre in
     (p .0, omega (arith, timed .put-timed .ensures .size, effects .put-effects .ensures .size, conditions .put-conditions .ensures .size), p .2))
-    (λ c.
-    let uses = c .before .before in
+    (λ c κs.
+    let uses = c .before .before .before in
     let timed = uses .before .before .before .before in
     let effects = timed .before .before .before .before in
     let conditions = effects .before .before .before .before in
-    uses .put-uses .ensures .size ∙ timed .put-timed .ensures .size ∙ effects .put-effects .ensures .size ∙ conditions .put-conditions .ensures .size)
+    let p = conditions .before .before .before .before .before .pre in
+    let size =
+    uses .put-uses .ensures .size ∙ timed .put-timed .ensures .size ∙ effects .put-effects .ensures .size ∙ conditions .put-conditions .ensures .size
+    in
+    (p .0, omega (arith, size), p .2))
     (λ c.
-    let uses = c .before .before in
+    let wants = c .before .before in
+    let uses = wants .before .before .before .before in
+    let timed = uses .before .before .before .before in
+    let effects = timed .before .before .before .before in
+    let conditions = effects .before .before .before .before in
+    wants .put-needs .ensures .size ∙ uses .put-uses .ensures .size ∙ timed .put-timed .ensures .size ∙ effects .put-effects .ensures .size
+    ∙ conditions .put-conditions .ensures .size)
+    (λ c.
+    let wants = c .before .before in
+    let uses = wants .before .before .before .before in
     let timed = uses .before .before .before .before in
     let effects = timed .before .before .before .before in
     let conditions = effects .before .before .before .before in
     let a = conditions .before .before .before .before .before .args in (
       words-listed (view (a .job) (a .s .now)) (scheduleOf (a .starts .now)) (conditions .put-conditions .ensures) (effects .put-effects .ensures)
-          (timed .put-timed .ensures) (uses .put-uses .ensures),
-      uses .put-uses .ensures .size ∙ timed .put-timed .ensures .size ∙ effects .put-effects .ensures .size ∙ conditions .put-conditions .ensures .size,
+          (timed .put-timed .ensures) (uses .put-uses .ensures) (wants .put-needs .ensures),
+      wants .put-needs .ensures .size ∙ uses .put-uses .ensures .size ∙ timed .put-timed .ensures .size ∙ effects .put-effects .ensures .size
+          ∙ conditions .put-conditions .ensures .size,
     )))

@@ -6,8 +6,8 @@ use Rattle.job.specs.Clocked.{clocked}
 use Rattle.job.specs.Model.{view}
 use Rattle.validity.specs.Ticks.{scheduleOf}
 use Rattle.values.specs.Contested.{contested}
-use Rattle.values.specs.Noted.{Noted}
-use Rattle.values.proofs.Noted.{noted-start, noted-lowest}
+use Rattle.laws.specs.Noted.{Noted}
+use Rattle.laws.proofs.Noted.{noted-start, noted-lowest}
 use Rattle.values.proofs.Walked.{fact-more}
 use Rattle.values.proofs.conditions.first_contested.Statement.{statement}
 use Rattle.values.proofs.conditions.first_contested.Tie as tie

@@ -1,4 +1,4 @@
--- Inner: the lowest index that passes, noted while the indexes are met in any order.
+-- Between crates: the lowest index that passes, noted while the indexes are met in any order.
 use Prim.Native.Nat.{ℕ, _≤_, _<_}
 use mathlib.Core.Path.{_≡_}
 use mathlib.Core.Bool.{Bool, true}

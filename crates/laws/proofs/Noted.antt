@@ -5,9 +5,9 @@ use mathlib.Core.Bool.{Bool, true, false, cond}
 use mathlib.Core.Logic.{_⊎_, ⊎-elim}
 use native.Mathlib.Decide.{decLt}
 use native.Mathlib.Omega.{arith}
 use Rattle.laws.specs.Search.{lowest}
 use Rattle.laws.proofs.Search.{either, contrary, lowest-is}
-use Rattle.values.specs.Noted.{Noted}
+use Rattle.laws.specs.Noted.{Noted}
 
 module _ {n : ℕ} {p : ℕ → Bool} where
   pub noted-start : (Met : ℕ → Type 0) → ((k : ℕ) → Met k → ⊥) → Noted n p Met n
