@@ -1,4 +1,4 @@
--- Rules 2, 3 and 4: a table raised to the orders between groups of points is raised by the rule's gaps.
+-- Rules 2, 3 and 4, with needs: a table raised to the orders between groups of points is raised by the rule's gaps.
 use Prim.Native.Nat.{ℕ, _+_, _%_, _≤_, _<_, max}
 use mathlib.Core.Path.{_≡_, refl, sym, ap, ap₂, subst, _∙_}
 use mathlib.Core.Bool.{Bool, true, not, _&&_}
@@ -16,18 +16,20 @@ use Rattle.job.specs.Model.{Model}
 use Rattle.job.specs.Clocked.{clocked}
 use Rattle.job.proofs.Clocked.{step-near, clocked-form}
 use Rattle.timeline.specs.Words.{wordStep, wordValue, wordTick, numberAt, valueSpan}
-use Rattle.validity.specs.Ticks.{scheduleOf, effectTick, firstTick, lastTick, useTick, opposes}
-use Rattle.points.specs.Points.{wantedGroup, usedGroup}
+use Rattle.validity.specs.Ticks.{scheduleOf, effectTick, firstTick, lastTick, useTick, needTick, opposes}
+use Rattle.points.specs.Points.{wantedGroup, usedGroup, neededGroup}
 use Rattle.orders.specs.Gaps.{opposingOrder, opposingGap, beforeOrder, afterOrder, conditionGap, levelOrder, levelGap}
-use Rattle.orders.proofs.Orders.{condition-ge}
-use Rattle.orders.proofs.Near.{from-near, to-near, use-near}
+use Rattle.orders.specs.Gaps.{needOrder, useOrder, needGap}
+use Rattle.orders.proofs.Orders.{condition-ge, need-ge}
+use Rattle.orders.proofs.Near.{from-near, to-near, use-near, need-near}
 use Rattle.rows.specs.declared.origin.Fact.{Fact}
 use Rattle.rows.specs.declared.origin.Origin.{Origin}
+use Rattle.rows.specs.declared.origin.Span.{Span}
 use Rattle.rows.specs.Raised.{Raised}
 use Rattle.gaps.specs.Rules.{ValidPoints}
 use Rattle.rows.specs.Points.{pointOrigin, lastOrigin, Group, FactKnown, Reached, Among}
-use Rattle.gaps.specs.Rules.{factAt}
-use Rattle.rows.specs.Points.{FromSetters, FromConditions, FactOrder, FromPoints}
+use Rattle.gaps.specs.Rules.{factAt, spanAt}
+use Rattle.rows.specs.Points.{FromSetters, FromConditions, FactOrder, FromPoints, FromTo, Between}
 use Rattle.rows.proofs.Reached.{reached-raised}
 use Rattle.gaps.proofs.Pairs.{Listed, Rule, listed-offset, listed-group, rule-under, rule-over, rule-raised}
 
@@ -49,12 +51,27 @@ given-points n x points before after turn {low} {high} {low'} {high'} d e w =
     subst (λ l. Reached n (FromPoints x points l high' turn) before after) d
     (subst (λ h. Reached n (FromPoints x points low h turn) before after) e w)
 
--- the orders of rule 2 of a fact, and of rule 4 of a level of a job of so many facts
+pub given-group :
+    {n : ℕ} {starts points : List ℕ} {span given : Span} → span ≡ given → Group n starts points (given .low) (given .high)
+    → Group n starts points (span .low) (span .high)
+given-group {n} {starts} {points} e w = subst (λ s. Group n starts points (s .low) (s .high)) (sym e) w
+
+pub given-between :
+    (n : ℕ) (x : ℕ → ℕ) (points before after : List ℕ) {first second first' second' : Span} → first ≡ first' → second ≡ second'
+    → Reached n (Between x points first second) before after
+    → Reached n (Between x points first' second') before after
+given-between n x points before after {first} {second} {first'} {second'} d e w =
+    subst (λ f. Reached n (Between x points f second') before after) d (subst (λ g. Reached n (Between x points first g) before after) e w)
+
+-- the orders of rule 2 of a fact, and of rule 4 and the needs of a level of a job of so many facts and levels
 abbrev pub OpposingOrder : (ℕ → ℕ) → List ℕ → List ℕ → ℕ → ℕ → ℕ → ℕ → Type 0
 OpposingOrder x points begins f = FromPoints x points (getD begins f 0) (getD begins (f + 1) 0) 1
 
 abbrev pub LevelOrder : ℕ → (ℕ → ℕ) → List ℕ → List ℕ → ℕ → ℕ → ℕ → ℕ → Type 0
 LevelOrder facts x points begins l = FromPoints x points (getD begins (facts + facts + l) 0) (getD begins (facts + facts + l + 1) 0) 0
+
+abbrev pub NeedOrder : ℕ → ℕ → (ℕ → ℕ) → List ℕ → List ℕ → ℕ → ℕ → ℕ → ℕ → Type 0
+NeedOrder facts levels x points begins l = Between x points (spanAt begins (facts + facts + l)) (spanAt begins (facts + facts + levels + l))
 
 -- what lies at least a tick later is later
 later-by-one : (a b : ℕ) → a + 1 ≤ b → ltb a b ≡ true
@@ -103,6 +120,27 @@ module _ {m : Model} {x : ℕ → ℕ} {points begins : List ℕ} where
             (sym (eqb-true _ _ (both .0)), omega (arith, first .two a h, second .two b l));
         waiting = waiting;
         waited = waited;
+      }
+
+  -- Points on levels, which have no value: those of one kind against those of the same or of another.
+  level-rule :
+      {first second : Listed m x points begins} (fits sooner : ℕ → ℕ → Bool) → first .groups ≡ second .groups
+      → ((a b : ℕ) → second .value b ≡ (first .value a + 0) % valueSpan)
+      → ((a b : ℕ) → second .group b ≡ first .group a → fits a b ≡ true)
+      → ((a b : ℕ) → fits a b ≡ true → second .group b ≡ first .group a)
+      → ((a b : ℕ) → sooner a b ≡ ltb (first .tick a) (second .tick b))
+      → Rule m x points begins first second (pointOrigin x 0) (first .at) 1 0 fits sooner
+  level-rule {first} {second} fits sooner alike none fitting fitted same =
+      record {
+        from = λ w. refl;
+        valued = λ w. refl;
+        due = λ w. refl;
+        facing = λ g h. omega (arith, alike);
+        ended = λ g p h a b. listed-offset first g h p a b .0;
+        fitting = λ a b h l e z. fitting a b e;
+        fitted = λ a b h l r. (fitted a b r, none a b);
+        waiting = λ a b h l r d t. same a b ∙ later-by-one _ _ t;
+        waited = λ a b h l t. one-later _ _ (sym (same a b) ∙ t);
       }
 
   module _ (known : ValidPoints m x points begins) where
@@ -164,6 +202,26 @@ module _ {m : Model} {x : ℕ → ℕ} {points begins : List ℕ} where
           timed = λ u. refl;
           inside = f .useStep;
           near = use-near (clocked m) (clocked-form m f);
+        }
+
+    unfoldable needList : Listed m x points begins
+    needList =
+        let f = known .form in
+        record {
+          count = m .needs;
+          groups = m .levels;
+          place = neededGroup m;
+          group = m .needLevel;
+          tick = needTick m x;
+          value = λ _. 0;
+          step = m .needStep;
+          at = m .needAt;
+          placed = known .known .needed;
+          within = f .needLevel;
+          two = λ n h. omega arith;
+          timed = λ n. refl;
+          inside = f .needStep;
+          near = need-near (clocked m) (clocked-form m f);
         }
 
     -- Rule 2.
@@ -257,23 +315,63 @@ module _ {m : Model} {x : ℕ → ℕ} {points begins : List ℕ} where
         (λ u v. ltb (useTick m x u) (useTick m x v))
     unfolding useList
     levels-is =
-        record {
-          from = λ w. refl;
-          valued = λ w. refl;
-          due = λ w. refl;
-          facing = λ g h. h;
-          ended = λ g p h a b. listed-offset useList g h p a b .0;
-          fitting = λ u v h l e z. eq-eqb _ _ (sym e);
-          fitted = λ u v h l r. (sym (eqb-true _ _ r), omega arith);
-          waiting = λ u v h l r d t. later-by-one _ _ t;
-          waited = λ u v h l t. one-later _ _ t;
-        }
+        level-rule _ _ refl (λ u v. refl) (λ u v e. eq-eqb _ _ (sym e)) (λ u v r. sym (eqb-true _ _ r)) (λ u v. refl)
 
     pub levels-raised :
         (before after : List ℕ) → Reached (m .steps) (Among 0 (m .levels) (LevelOrder (m .facts) x points begins)) before after
         → Raised (m .steps) (levelGap m x) before after
     unfolding useList levelGap levelOrder
     levels-raised before after w = rule-raised levels-is before after (known .form .stepCount) w
+
+    -- With rule 4: a need before the uses of its level, and after them.
+    needs-is :
+        Rule m x points begins needList useList (pointOrigin x 0) (m .needAt) 1 0 (λ n u. eqb (m .useLevel u) (m .needLevel n))
+        (λ n u. ltb (needTick m x n) (useTick m x u))
+    unfolding needList useList
+    needs-is = level-rule _ _ refl (λ n u. refl) (λ n u e. eq-eqb _ _ e) (λ n u r. eqb-true _ _ r) (λ n u. refl)
+
+    uses-is :
+        Rule m x points begins useList needList (pointOrigin x 0) (m .useAt) 1 0 (λ u n. eqb (m .useLevel u) (m .needLevel n))
+        (λ u n. ltb (useTick m x u) (needTick m x n))
+    unfolding needList useList
+    uses-is = level-rule _ _ refl (λ u n. refl) (λ u n e. eq-eqb _ _ (sym e)) (λ u n r. sym (eqb-true _ _ r)) (λ u n. refl)
+
+    need-le :
+        (i k bound : ℕ) → ((n u : ℕ) → n < m .needs → u < m .uses → needOrder m x i k n u ≤ bound)
+        → ((u n : ℕ) → u < m .uses → n < m .needs → useOrder m x i k n u ≤ bound)
+        → needGap m x i k ≤ bound
+    unfolding needGap
+    need-le i k bound before after =
+        largest-le (λ n. max (largest (m .uses) (needOrder m x i k n)) (largest (m .uses) (useOrder m x i k n))) (m .needs) bound
+        (λ n h. omega (
+          arith,
+          largest-le (needOrder m x i k n) (m .uses) bound (λ u l. before n u h l),
+          largest-le (useOrder m x i k n) (m .uses) bound (λ u l. after u n l h),
+        ))
+
+    pub needs-raised :
+        (before after : List ℕ) → Reached (m .steps) (Among 0 (m .levels) (NeedOrder (m .facts) (m .levels) x points begins)) before after
+        → Raised (m .steps) (needGap m x) before after
+    unfolding needList useList needOrder useOrder
+    needs-raised before after w =
+        reached-raised (m .steps) (Among 0 (m .levels) (NeedOrder (m .facts) (m .levels) x points begins)) (needGap m x) before after
+        (known .form .stepCount) w
+        (λ i k gap a o.
+        ⊎-elim
+        (λ (r : FromTo x points (used (o .0)) (needed (o .0)) 0 i k gap).
+        rule-under uses-is (o .0) i k gap (needGap m x i k) (o .2) (a .2) r (λ u n l h. need-ge m x i k n u h l .1))
+        (λ (r : FromTo x points (needed (o .0)) (used (o .0)) 0 i k gap).
+        rule-under needs-is (o .0) i k gap (needGap m x i k) (o .2) (a .2) r (λ n u h l. need-ge m x i k n u h l .0))
+        (o .3))
+        (λ i k bound a all.
+        need-le i k bound (rule-over needs-is i k bound (λ l gap h o. all gap (l, omega arith, h, inr o)))
+        (rule-over uses-is i k bound (λ l gap h o. all gap (l, omega arith, h, inl o))))
+      where
+        used : ℕ → Span
+        used l = spanAt begins (usedGroup m l)
+
+        needed : ℕ → Span
+        needed l = spanAt begins (neededGroup m l)
 
 -- What the rules order, if each step has a start.
 module _ {m : Model} {starts points begins : List ℕ} (known : ValidPoints m (scheduleOf starts) points begins) (each : m .steps ≤ length starts) where
@@ -292,3 +390,7 @@ module _ {m : Model} {starts points begins : List ℕ} (known : ValidPoints m (s
   pub level-known : (l : ℕ) → l < m .levels → Group (m .steps) starts points (getD begins (usedGroup m l) 0) (getD begins (usedGroup m l + 1) 0)
   unfolding useList
   level-known l h = listed-group (useList known) l h each
+
+  pub need-known : (l : ℕ) → l < m .levels → Group (m .steps) starts points (getD begins (neededGroup m l) 0) (getD begins (neededGroup m l + 1) 0)
+  unfolding needList
+  need-known l h = listed-group (needList known) l h each

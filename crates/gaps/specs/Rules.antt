@@ -14,6 +14,7 @@ use Rattle.links.specs.LinkList.{LinksOf}
 use Rattle.orders.specs.Gaps.{serialGap}
 use Rattle.order_file.specs.Table.{Gaps, rowWidth, noOrder}
 use Rattle.rows.specs.declared.origin.Fact.{Fact}
+use Rattle.rows.specs.declared.origin.Span.{Span}
 use Rattle.rows.specs.Raised.{single, Raised}
 
 -- a table whose first n own entries, of a step and itself, are cleared
@@ -52,6 +53,10 @@ factAt begins facts f =
       after = getD begins (facts + f) 0;
       until = getD begins (facts + f + 1) 0;
     }
+
+-- the places of a group
+abbrev pub spanAt : List ℕ → ℕ → Span
+spanAt begins g = record { low = getD begins g 0; high = getD begins (g + 1) 0 }
 
 -- rule 5 between steps that start together
 abbrev pub tieGap : Model → (ℕ → ℕ) → ℕ → ℕ → ℕ

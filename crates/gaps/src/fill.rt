@@ -15,6 +15,7 @@ ghost use Rattle.gaps.specs.Table.{Writable, Fillable, TableOf};
 ghost use Rattle.rows.specs.Raised.{single, EntryKnown, Raised};
 ghost use Rattle.gaps.specs.Rules.{Cleared, SupportKnown, RaisedByLinks, ValidPoints, tieGap, tieRow, serialRow, entryFrom, laterGap};
 ghost use Rattle.gaps.specs.Rules.{factAt};
+use crate::needs::fill_needs;
 use job::layout::Job;
 use job_fields::step_length;
 use job_reader::laid::condition_of;
@@ -274,6 +275,7 @@ pub fn fill_gaps(
     fill_opposing(job, starts, points, begins, gaps);
     fill_conditions(s, job, starts, points, begins, gaps);
     fill_levels(job, starts, points, begins, gaps);
+    fill_needs(job, starts, points, begins, gaps);
     fill_serial(s, job, starts, gaps);
     clear_own(gaps);
 }

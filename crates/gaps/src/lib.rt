@@ -1,2 +1,3 @@
 // The table of gaps, filled by the rules.
 pub mod fill;
+mod needs;

@@ -66,6 +66,7 @@ module _ (j : Job) (s : List ℕ) where
         effectCount = omega arith;
         useCount = omega arith;
         timedCount = w .timedCount;
+        needCount = omega arith;
         initialValue = w .initialValue;
         lengthRange = w .lengthRange;
         conditionStep = λ k h. absurd (omega arith);
@@ -83,6 +84,11 @@ module _ (j : Job) (s : List ℕ) where
         timedFact = w .timedFact;
         timedTick = w .timedTick;
         timedValue = w .timedValue;
+        needStep = λ k h. absurd (omega arith);
+        needLevel = λ k h. absurd (omega arith);
+        needEnd = λ k h. absurd (omega arith);
+        needFrom = λ k h. absurd (omega arith);
+        needTo = λ k h. absurd (omega arith);
       }
 
   pub only-laid : Laid j s → Laid (onlyTimed j) s
@@ -94,6 +100,7 @@ module _ (j : Job) (s : List ℕ) where
         effects = omega (arith, w .effects);
         uses = omega (arith, w .uses);
         timed = w .timed;
+        needs = omega (arith, w .needs);
       }
 
   pub only-room :

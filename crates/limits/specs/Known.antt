@@ -23,6 +23,7 @@ onlyTimed j =
         uses = 0;
         goals = j .count .goals;
         timed = j .count .timed;
+        needs = 0;
       };
       at = j .at;
     }

@@ -38,6 +38,7 @@ fn only_timed(job: Job) -> Job
         uses: 0,
         goals: job.count.goals,
         timed: job.count.timed,
+        needs: 0,
     };
     let at = job.at;
     Job {

@@ -18,8 +18,8 @@ use Rattle.verdict.specs.declared.Verdict.the-variants.{FileTooShort, UnknownEd
 use Rattle.verdict.specs.Verdict.{number, place, _then_, refuseIf}
 use Rattle.verdict.proofs.Chain.{then-refused, first-refused, then-zero, refuse-zero}
 use Rattle.job.specs.declared.layout.Counts.{Counts}
-use Rattle.job.specs.Layout.{timedEdition, shortestHeader, longestHeader, headerWidth, countsOf, countList, highest, tableAt, positionsOf, jobOf}
-use Rattle.job.specs.Layout.{countTooHigh}
+use Rattle.job.specs.Layout.{timedEdition, needsEdition, shortestHeader, longestHeader, headerWidth, countsOf, countList, highest, tableAt}
+use Rattle.job.specs.Layout.{positionsOf, jobOf, countTooHigh}
 use Rattle.header_check.specs.Header.{editionKnown, marksWrong, layoutAgrees, headerCheck}
 use Rattle.form.specs.Refusals.{formCheck}
 use Rattle.validity.specs.Checks.{jobCheck}
@@ -34,22 +34,26 @@ front s =
     refuseIf (ltb (length s) shortestHeader) FileTooShort
     then refuseIf (not (editionKnown (jobOf s .edition))) UnknownEdition
     then refuseIf (ltb (length s) (headerWidth (jobOf s .edition))) FileTooShort
-    then refuseIf (marksWrong (jobOf s)) MarkOutOfRange
+    then refuseIf (marksWrong s (jobOf s)) MarkOutOfRange
     then refuseIf (countTooHigh (jobOf s .count)) CountTooHigh
 
 header-most : (edition : ℕ) → headerWidth edition ≤ longestHeader
 unfolding headerWidth
 header-most edition =
     ⊎-elim
-    (λ (t : eqb edition timedEdition ≡ true). rw t (omega arith))
-    (λ (t : eqb edition timedEdition ≡ false). rw t (omega arith))
-    (either (eqb edition timedEdition))
+    (λ (n : eqb edition needsEdition ≡ true). rw n (omega arith))
+    (λ (n : eqb edition needsEdition ≡ false).
+    ⊎-elim
+    (λ (t : eqb edition timedEdition ≡ true). rw (n, t) (omega arith))
+    (λ (t : eqb edition timedEdition ≡ false). rw (n, t) (omega arith))
+    (either (eqb edition timedEdition)))
+    (either (eqb edition needsEdition))
 
 -- the tables end within the longest job where no count is too high
-end-most : (header : ℕ) (c : Counts) → header ≤ longestHeader → countTooHigh c ≡ false → tableAt header c 8 ≤ mostJob
+end-most : (header : ℕ) (c : Counts) → header ≤ longestHeader → countTooHigh c ≡ false → tableAt header c 9 ≤ mostJob
 unfolding countTooHigh tableAt
 end-most header c h e =
-    let n : (t : ℕ) → t < 8 → getD (countList c) t 0 ≤ getD highest t 0 = λ t h. ltb-false _ _ (any-false _ 8 e t h) in
+    let n : (t : ℕ) → t < 9 → getD (countList c) t 0 ≤ getD highest t 0 = λ t h. ltb-false _ _ (any-false _ 9 e t h) in
     omega (
       arith,
       n 0 (omega arith),
@@ -60,12 +64,13 @@ end-most header c h e =
       n 5 (omega arith),
       n 6 (omega arith),
       n 7 (omega arith),
+      n 8 (omega arith),
     )
 
 module _ (s : List ℕ) (long : mostJob < length s) where
-  whole : layoutAgrees s (jobOf s) ≡ true → length s ≡ tableAt (headerWidth (u16At s 0)) (countsOf s) 8
+  whole : layoutAgrees s (jobOf s) ≡ true → length s ≡ tableAt (headerWidth (u16At s 0)) (countsOf s) 9
   unfolding layoutAgrees jobOf positionsOf
-  whole t = eqb-true (length s) (tableAt (headerWidth (u16At s 0)) (countsOf s) 8) (search (and-l, and-r, t))
+  whole t = eqb-true (length s) (tableAt (headerWidth (u16At s 0)) (countsOf s) 9) (search (and-l, and-r, t))
 
   disagrees : countTooHigh (jobOf s .count) ≡ false → layoutAgrees s (jobOf s) ≡ false
   unfolding jobOf
@@ -110,7 +115,7 @@ module _ (s : List ℕ) (long : mostJob < length s) where
 
 -- two files with the same header
 module _ (s t : List ℕ) (long : longestHeader ≤ length s) (other : longestHeader ≤ length t)
-    (r : (at : ℕ) → at < shortestHeader → u16At s at ≡ u16At t at) where
+    (r : (at : ℕ) → at < longestHeader → u16At s at ≡ u16At t at) where
   job-same : jobOf s ≡ jobOf t
   unfolding jobOf countsOf
   job-same =
@@ -125,10 +130,11 @@ module _ (s t : List ℕ) (long : longestHeader ≤ length s) (other : longestHe
         r 14 (omega arith),
         r 16 (omega arith),
         r 18 (omega arith),
+        r 52 (omega arith),
       )
 
   front-same : front s ≡ front t
-  unfolding front
+  unfolding front marksWrong
   front-same =
       rw (
         le-ltb (length s) shortestHeader (omega arith),
@@ -136,6 +142,7 @@ module _ (s t : List ℕ) (long : longestHeader ≤ length s) (other : longestHe
         le-ltb (length s) (headerWidth (jobOf s .edition)) (omega (arith, header-most (jobOf s .edition))),
         le-ltb (length t) (headerWidth (jobOf t .edition)) (omega (arith, header-most (jobOf t .edition))),
         job-same,
+        r 54 (omega arith),
       )
 
 read-beginning : (n : ℕ) (s : List ℕ) (at : ℕ) → at + 1 < n → u16At (take n s) at ≡ u16At s at

@@ -5,8 +5,8 @@ use mathlib.Core.Path.{_≡_}
 use mathlib.Core.List.{List}
 use lib.ListN.{length, take}
 use Rattle.verdict.specs.Verdict.{number, place}
-use Rattle.job.specs.Layout.{longestHeader, factWidth, levelWidth, stepWidth, conditionWidth, effectWidth, useWidth, goalWidth, timedWidth}
-use Rattle.job.specs.Layout.{mostFacts, mostLevels, mostSteps, mostConditions, mostEffects, mostUses, mostGoals, mostTimed}
+use Rattle.job.specs.Layout.{longestHeader, factWidth, levelWidth, stepWidth, conditionWidth, effectWidth, useWidth, goalWidth, timedWidth, needWidth}
+use Rattle.job.specs.Layout.{mostFacts, mostLevels, mostSteps, mostConditions, mostEffects, mostUses, mostGoals, mostTimed, mostNeeds}
 use Rattle.validity.specs.Checks.{jobCheck}
 use Rattle.order_file.specs.Contents.{stepLimit, orderLimit}
 use Rattle.sheet.specs.Text.{sheetText, refusedText, sheetMost}
@@ -26,6 +26,7 @@ abbrev pub mostJob : ℕ
 mostJob =
     longestHeader + factWidth * mostFacts + levelWidth * mostLevels + stepWidth * mostSteps + conditionWidth * mostConditions
     + effectWidth * mostEffects + useWidth * mostUses + goalWidth * mostGoals + timedWidth * mostTimed
+    + needWidth * mostNeeds
 
 -- as much of any input decides what is shown of it
 abbrev pub inputMost : ℕ

@@ -10,6 +10,7 @@ use job::layout::GOAL;
 use job::layout::Job;
 use job::layout::LEVEL;
 use job::layout::LONGEST_HEADER;
+use job::layout::NEED;
 use job::layout::STEP;
 use job::layout::TIMED;
 use job::layout::USE;
@@ -34,7 +35,8 @@ const MOST_JOB: usize = LONGEST_HEADER
     + WIDTHS[EFFECT] * Job::EFFECTS as usize
     + WIDTHS[USE] * Job::USES as usize
     + WIDTHS[GOAL] * Job::GOALS as usize
-    + WIDTHS[TIMED] * Job::TIMED as usize;
+    + WIDTHS[TIMED] * Job::TIMED as usize
+    + WIDTHS[NEED] * Job::NEEDS as usize;
 
 // As much of any input decides what is printed of it.
 pub const INPUT: usize = MOST_JOB + 1;

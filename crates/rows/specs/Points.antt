@@ -127,6 +127,10 @@ abbrev pub FromTo : (ℕ → ℕ) → List ℕ → Span → Span → ℕ → ℕ
 FromTo x points first second turn =
     Among (first .low) (first .high) (λ p. After x points (second .low) (second .high) (pointOrigin x turn (getD points p 0)))
 
+-- the orders from the points of each of two places to later ones of the other, of the same value
+abbrev pub Between : (ℕ → ℕ) → List ℕ → Span → Span → ℕ → ℕ → ℕ → Type 0
+Between x points first second i k gap = FromTo x points first second 0 i k gap ⊎ FromTo x points second first 0 i k gap
+
 -- a fact whose setters and conditions are points of n steps
 pub record FactPlaced (n : ℕ) (starts points : List ℕ) (fact : Fact) : Type 0 where
   pub setters : Group n starts points (fact .low) (fact .high)

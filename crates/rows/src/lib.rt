@@ -3,7 +3,7 @@ ghost use Prim.Native.Nat.{_≤_};
 ghost use Rattle.job.specs.Model.{view};
 ghost use Rattle.validity.specs.Ticks.{scheduleOf};
 ghost use Rattle.order_file.specs.Table.{Gaps};
-ghost use Rattle.rows.specs.Points.{Group, ValuesApart, FactKnown, Reached, FactOrder, FromPoints};
+ghost use Rattle.rows.specs.Points.{Group, ValuesApart, FactKnown, Reached, FactOrder, FromPoints, Between};
 ghost use Rattle.order_file.specs.Contents.{stepLimit};
 
 pub mod origin;
@@ -94,5 +94,25 @@ pub fn raise_conditions(
         };
         row_points(n, starts, points, setters, wanted, OTHER, gaps);
         row_conditions(s, job, starts, points, fact, gaps);
+    }
+}
+
+// Orders the points of two groups with each other: each before the later ones of the other group of the same value.
+pub fn raise_between(
+    n: usize,
+    starts: &[u32],
+    points: &[u64],
+    first: Span,
+    second: Span,
+    gaps: &mut [u32],
+)
+    requires { ⌜ Gaps (now gaps) × (n ≤ stepLimit) × Group n (now starts) (now points) (first .low) (first .high)
+        × Group n (now starts) (now points) (second .low) (second .high) ⌝ }
+    ensures { λ _. ⌜ Reached n (Between (scheduleOf (now (starts .entry))) (now (points .entry)) first second)
+        (now (gaps .entry)) (now (gaps .exit)) ⌝ }
+{
+    if (first.low < first.high) & (second.low < second.high) {
+        row_points(n, starts, points, first, second, SAME, gaps);
+        row_points(n, starts, points, second, first, SAME, gaps);
     }
 }

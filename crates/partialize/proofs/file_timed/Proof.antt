@@ -15,8 +15,8 @@ file-timed-spec =
     let w = p .0 .valid .form in (
       well-formed-ranged w,
       record {
-        listed = omega (arith, w .conditionCount, w .effectCount, w .useCount);
-        sorted = omega (arith, w .conditionCount, w .effectCount, w .useCount);
+        listed = omega (arith, w .conditionCount, w .effectCount, w .useCount, w .needCount);
+        sorted = omega (arith, w .conditionCount, w .effectCount, w .useCount, w .needCount);
         grouped = omega (arith, w .factCount, w .levelCount);
       },
       p .1,

@@ -1,4 +1,5 @@
 -- The points in order, then the check and the file.
+use native.Mathlib.Omega.{arith}
 use borrow.Author.Needs.{needs}
 use Rattle.partialize.proofs.loosen.Statement.{statement}
 use Rattle.partialize.proofs.loosen.Tie as tie
@@ -14,9 +15,15 @@ loosen-spec =
     (λ c. search needs) (λ c. search needs) (λ c. search needs)
     (λ c κs.
     let p = c .before .before .before .before .before .before .before .before .pre in
-    let w = p .ranged in
-    let l = p .laid in
-    search needs)
+    let w = p .ranged in (
+      w,
+      record {
+        listed = omega (arith, w .conditionCount, w .effectCount, w .timedCount, w .useCount, w .needCount);
+        sorted = omega (arith, w .conditionCount, w .effectCount, w .timedCount, w .useCount, w .needCount);
+        grouped = omega (arith, w .factCount, w .levelCount);
+      },
+      p .laid,
+    ))
     (λ c. search needs) (λ c. search needs)
     (λ c κs.
     let p = c .before .before .before .before .before .before .before .before .before .before .before .before .before .before .before .pre in

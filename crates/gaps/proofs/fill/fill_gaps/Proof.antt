@@ -66,10 +66,27 @@ fill-gaps-spec =
     let whole2 = opposing .fill-opposing .ensures _ known .whole whole1 in
     let whole3 = conditions .fill-conditions .ensures .whole whole2 in
     let whole4 = levels .fill-levels .ensures _ known .whole whole3 in
-    (w .form, whole4, d .pre .2))
+    (now (d .args .s), known, whole4, d .pre .2 .each))
+    (λ c κs.
+    let needed = c .before .before .before in
+    let levels = needed .before .before .before .before in
+    let conditions = levels .before .before .before .before in
+    let opposing = conditions .before .before .before .before in
+    let support = opposing .before .before .before .before in
+    let d = support .before .before .before .before .before .before .before .before in
+    let w = d .pre .0 in
+    let known = own-points w in
+    let none = empty-gaps _ (w .size) (w .empty) in
+    let whole1 = support .fill-support .ensures _ (w .linked) .whole none in
+    let whole2 = opposing .fill-opposing .ensures _ known .whole whole1 in
+    let whole3 = conditions .fill-conditions .ensures .whole whole2 in
+    let whole4 = levels .fill-levels .ensures _ known .whole whole3 in
+    let whole5 = needed .fill-needs .ensures _ known .whole whole4 in
+    (w .form, whole5, d .pre .2))
     (λ c κs.
     let serial = c .before .before .before in
-    let levels = serial .before .before .before .before in
+    let needed = serial .before .before .before .before in
+    let levels = needed .before .before .before .before in
     let conditions = levels .before .before .before .before in
     let opposing = conditions .before .before .before .before in
     let support = opposing .before .before .before .before in
@@ -81,11 +98,13 @@ fill-gaps-spec =
     let whole2 = opposing .fill-opposing .ensures _ known .whole whole1 in
     let whole3 = conditions .fill-conditions .ensures .whole whole2 in
     let whole4 = levels .fill-levels .ensures _ known .whole whole3 in
-    serial .fill-serial .ensures .whole whole4 .size)
+    let whole5 = needed .fill-needs .ensures _ known .whole whole4 in
+    serial .fill-serial .ensures .whole whole5 .size)
     (λ c.
     let clear = c .before .before in
     let serial = clear .before .before .before .before in
-    let levels = serial .before .before .before .before in
+    let needed = serial .before .before .before .before in
+    let levels = needed .before .before .before .before in
     let conditions = levels .before .before .before .before in
     let opposing = conditions .before .before .before .before in
     let support = opposing .before .before .before .before in
@@ -97,12 +116,14 @@ fill-gaps-spec =
     let whole2 = opposing .fill-opposing .ensures _ known .whole whole1 in
     let whole3 = conditions .fill-conditions .ensures .whole whole2 in
     let whole4 = levels .fill-levels .ensures _ known .whole whole3 in
-    let whole5 = serial .fill-serial .ensures .whole whole4 in
-    omega (arith, clear .clear-own .ensures .size, whole5 .size, w .size))
+    let whole5 = needed .fill-needs .ensures _ known .whole whole4 in
+    let whole6 = serial .fill-serial .ensures .whole whole5 in
+    omega (arith, clear .clear-own .ensures .size, whole6 .size, w .size))
     (λ c.
     let clear = c .before .before in
     let serial = clear .before .before .before .before in
-    let levels = serial .before .before .before .before in
+    let needed = serial .before .before .before .before in
+    let levels = needed .before .before .before .before in
     let conditions = levels .before .before .before .before in
     let opposing = conditions .before .before .before .before in
     let support = opposing .before .before .before .before in
@@ -115,6 +136,8 @@ fill-gaps-spec =
     (raised-then _ _ _ _ _ _
     (raised-then _ _ _ _ _ _
     (raised-then _ _ _ _ _ _
+    (raised-then _ _ _ _ _ _
     (raised-then _ _ _ _ _ _ (support .fill-support .ensures _ (w .linked)) (opposing .fill-opposing .ensures _ known))
-    (conditions .fill-conditions .ensures)) (levels .fill-levels .ensures _ known)) (serial .fill-serial .ensures)) (own-gaps m _)) (clear .clear-own .ensures)
+    (conditions .fill-conditions .ensures)) (levels .fill-levels .ensures _ known)) (needed .fill-needs .ensures _ known))
+    (serial .fill-serial .ensures)) (own-gaps m _)) (clear .clear-own .ensures)
     (w .size) (w .empty)))
