@@ -42,7 +42,7 @@ steps-are is plan = length-map (linesOf plan) stepOf
 
 too-many : (m : Model) → 64 < m .steps → countTooHigh (countsIn m) ≡ true
 unfolding countTooHigh countsIn
-too-many m h = any-intro (λ t. ltb (getD highest t 0) (getD (countList (countsIn m)) t 0)) 8 2 (omega arith) (lt-ltb 64 (m .steps) h)
+too-many m h = any-intro (λ t. ltb (getD highest t 0) (getD (countList (countsIn m)) t 0)) 9 2 (omega arith) (lt-ltb 64 (m .steps) h)
 
 module _ (plan lines : List ℕ) (r : Reader) (h : Heard true (planReading plan) plan lines r) where
   pub lines-length : length (take (r .count) lines) ≡ r .count

@@ -1,16 +1,20 @@
 -- What is encoded reads back: the header, every count, and every record.
 use Prim.Native.Nat.{ℕ, _+_, _*_, _/_, _%_, _≤_, _<_}
 use mathlib.Core.Path.{_≡_, refl, sym, ap, subst, _∙_}
+use mathlib.Core.Bool.{cond}
 use native.Mathlib.Nat.{zero-add, add-zero}
+use native.Mathlib.Decide.{ℕ-discrete}
 use native.Mathlib.Omega.{arith}
+use borrow.Author.Tests.{eq-eqb, ne-eqb}
+use lib.Dec.{eqb}
 use lib.ListN.{getD}
 use Rattle.little_endian.specs.Bytes.{signBias, u16Values, u32Values, byteAt, u16At, u32At, biasedAt, u16Bytes, u32Bytes}
 use Rattle.little_endian.proofs.Stands.{stands-u16, stands-u32}
 use Rattle.job.specs.declared.layout.Job.{Job}
-use Rattle.job.specs.Layout.{shortestHeader, headerWidth, widths, countsOf, positionsOf, jobOf}
-use Rattle.job.specs.Model.{Model, view, modelOf, levelOf, stepOf, conditionOf, effectOf, useOf, goalOf, timedOf}
-use Rattle.job_encoding.specs.Encode.{countsIn, bits, levelRow, stepRow, conditionRow, effectRow, useRow, goalRow, timedRow, recordBytes}
-use Rattle.job_encoding.specs.Encode.{headerBytes, encode}
+use Rattle.job.specs.Layout.{needsEdition, shortestHeader, headerWidth, widths, countsOf, positionsOf, jobOf}
+use Rattle.job.specs.Model.{Model, view, modelOf, levelOf, stepOf, conditionOf, effectOf, useOf, goalOf, timedOf, needOf}
+use Rattle.job_encoding.specs.Encode.{countsIn, bits, levelRow, stepRow, conditionRow, effectRow, useRow, goalRow, timedRow, needRow, recordBytes}
+use Rattle.job_encoding.specs.Encode.{addedBytes, headerBytes, encode}
 use Rattle.job_encoding.specs.Fits.{Fits}
 use Rattle.job_encoding.specs.Agree.{Agree}
 use Rattle.job_encoding.proofs.Places.{startOf, countOf, length-header, header-width, record-width, header-stands, record-stands}
@@ -32,18 +36,23 @@ biased-back : (n : ℕ) → n < u32Values → (bits n + signBias) % u32Values �
 biased-back n h = omega arith
 
 module _ (edition : ℕ) (m : Model) where
-  -- a number of the header that all editions have
-  header-u16 :
-      (i n : ℕ) → i + 2 ≤ shortestHeader → u16At (headerBytes edition (countsIn m)) i ≡ two n → n < u16Values → u16At (encode edition m) i ≡ n
+  -- a number of the header, and one that all editions have
+  pub header-u16 :
+      (i n : ℕ) → i + 2 ≤ headerWidth edition → u16At (headerBytes edition (countsIn m)) i ≡ two n → n < u16Values
+      → u16At (encode edition m) i ≡ n
   header-u16 i n l e h =
       ap (u16At (encode edition m)) (sym (zero-add i))
       ∙ stands-u16 (encode edition m) 0 (headerBytes edition (countsIn m)) (header-stands edition m) i
-      (omega (arith, length-header edition (countsIn m), header-width edition))
+      (omega (arith, length-header edition (countsIn m)))
       ∙ e
       ∙ u16-back n h
 
+  common-u16 :
+      (i n : ℕ) → i + 2 ≤ shortestHeader → u16At (headerBytes edition (countsIn m)) i ≡ two n → n < u16Values → u16At (encode edition m) i ≡ n
+  common-u16 i n l = header-u16 i n (omega (arith, header-width edition))
+
   -- a field of a record, which begins at its place i of the record
-  module _ (t k : ℕ) (l : t < 8) (h : k < countOf edition m t) where
+  module _ (t k : ℕ) (l : t < 9) (h : k < countOf edition m t) where
     abbrev fieldAt : ℕ → ℕ
     fieldAt i = startOf edition m t + getD widths t 0 * k + i
 
@@ -80,26 +89,43 @@ module _ (edition : ℕ) (m : Model) where
       record { edition = edition; serial = 0; count = countsIn m; at = positionsOf (headerWidth edition) (countsIn m) }
 
   module _ (w : Fits edition m) where
+    pub edition-back : u16At (encode edition m) 0 ≡ edition
+    unfolding headerBytes u16Bytes u16At
+    edition-back = common-u16 0 edition (omega arith) refl (omega (arith, w .editionTo))
+
+    needs-counted : cond (eqb (u16At (encode edition m) 0) needsEdition) (u16At (encode edition m) 52) 0 ≡ m .needs
+    unfolding countsIn headerBytes addedBytes headerWidth u32Bytes u16Bytes u16At
+    needs-counted =
+        ap (λ n. cond (eqb n needsEdition) (u16At (encode edition m) 52) 0) edition-back
+        ∙ elim (ℕ-discrete edition needsEdition) [
+          | yes q ↦
+              let e : u16At (headerBytes edition (countsIn m)) 52 ≡ two (m .needs) =
+              subst (λ n. u16At (headerBytes n (countsIn m)) 52 ≡ two (m .needs)) (sym q) refl
+              in
+              rw (eq-eqb edition needsEdition q) (header-u16 52 (m .needs) (omega (arith, ap headerWidth q)) e (w .needs))
+          | no q ↦ rw (ne-eqb edition needsEdition q) (sym (w .needsNone (omega (arith, w .editionTo))))
+        ]
+
     counts-back : countsOf (encode edition m) ≡ countsIn m
     unfolding countsOf countsIn headerBytes u16Bytes u16At
     counts-back =
         cc (
-          header-u16 4 (m .facts) (omega arith) refl (w .facts),
-          header-u16 6 (m .levels) (omega arith) refl (w .levels),
-          header-u16 8 (m .steps) (omega arith) refl (w .steps),
-          header-u16 12 (m .conditions) (omega arith) refl (w .conditions),
-          header-u16 14 (m .effects) (omega arith) refl (w .effects),
-          header-u16 16 (m .uses) (omega arith) refl (w .uses),
-          header-u16 10 (m .goals) (omega arith) refl (w .goals),
-          header-u16 18 (m .timed) (omega arith) refl (w .timed),
+          common-u16 4 (m .facts) (omega arith) refl (w .facts),
+          common-u16 6 (m .levels) (omega arith) refl (w .levels),
+          common-u16 8 (m .steps) (omega arith) refl (w .steps),
+          common-u16 12 (m .conditions) (omega arith) refl (w .conditions),
+          common-u16 14 (m .effects) (omega arith) refl (w .effects),
+          common-u16 16 (m .uses) (omega arith) refl (w .uses),
+          common-u16 10 (m .goals) (omega arith) refl (w .goals),
+          common-u16 18 (m .timed) (omega arith) refl (w .timed),
+          needs-counted,
         )
 
     pub job-back : jobOf (encode edition m) ≡ jobIn
     unfolding jobOf headerBytes u16Bytes u16At
     job-back =
-        let e : u16At (encode edition m) 0 ≡ edition = header-u16 0 edition (omega arith) refl (omega (arith, w .editionTo)) in
-        let s : u16At (encode edition m) 2 ≡ 0 = header-u16 2 0 (omega arith) refl (omega arith) in
-        cc (e, s, counts-back)
+        let s : u16At (encode edition m) 2 ≡ 0 = common-u16 2 0 (omega arith) refl (omega arith) in
+        cc (edition-back, s, counts-back)
 
     abbrev back : Model
     back = view jobIn (encode edition m)
@@ -178,6 +204,16 @@ module _ (edition : ℕ) (m : Model) where
           field-u16 7 k (omega arith) h 6 (m .timedValue k) refl (omega arith) refl (w .timedValue k h),
         )
 
+    need-back : (k : ℕ) → k < m .needs → needOf back k ≡ needOf m k
+    unfolding positionsOf countsIn recordBytes needRow u32Bytes u16Bytes u32At u16At
+    need-back k h =
+        cc (
+          field-u16 8 k (omega arith) h 0 (m .needStep k) (sym (add-zero _)) (omega arith) refl (w .needStep k h),
+          field-u16 8 k (omega arith) h 2 (m .needLevel k) refl (omega arith) refl (w .needLevel k h),
+          field-u32 8 k (omega arith) h 4 (m .needAt k) refl (omega arith) refl (w .needAt k h),
+          field-biased 8 k (omega arith) h 8 (m .needLeast k) refl (omega arith) refl (w .needLeast k h),
+        )
+
     -- what is encoded reads back
     pub round-trip : Agree (modelOf (encode edition m)) m
     unfolding countsIn
@@ -193,6 +229,7 @@ module _ (edition : ℕ) (m : Model) where
           uses = refl;
           goals = refl;
           timed = refl;
+          needs = refl;
           eachFact = fact-back;
           eachLevel = level-back;
           eachStep = step-back;
@@ -201,4 +238,5 @@ module _ (edition : ℕ) (m : Model) where
           eachUse = use-back;
           eachGoal = goal-back;
           eachTimed = timed-back;
+          eachNeed = need-back;
         })

@@ -1,7 +1,7 @@
 -- When two jobs say the same: the serial mark, the counts, and each record that is counted.
 use Prim.Native.Nat.{ℕ, _<_}
 use mathlib.Core.Path.{_≡_}
-use Rattle.job.specs.Model.{Model, levelOf, stepOf, conditionOf, effectOf, useOf, goalOf, timedOf}
+use Rattle.job.specs.Model.{Model, levelOf, stepOf, conditionOf, effectOf, useOf, goalOf, timedOf, needOf}
 
 pub record Agree (a b : Model) : Type 0 where
   pub serial : a .serial ≡ b .serial
@@ -13,6 +13,7 @@ pub record Agree (a b : Model) : Type 0 where
   pub uses : a .uses ≡ b .uses
   pub goals : a .goals ≡ b .goals
   pub timed : a .timed ≡ b .timed
+  pub needs : a .needs ≡ b .needs
   pub eachFact : (k : ℕ) → k < b .facts → a .initial k ≡ b .initial k
   pub eachLevel : (k : ℕ) → k < b .levels → levelOf a k ≡ levelOf b k
   pub eachStep : (k : ℕ) → k < b .steps → stepOf a k ≡ stepOf b k
@@ -21,3 +22,4 @@ pub record Agree (a b : Model) : Type 0 where
   pub eachUse : (k : ℕ) → k < b .uses → useOf a k ≡ useOf b k
   pub eachGoal : (k : ℕ) → k < b .goals → goalOf a k ≡ goalOf b k
   pub eachTimed : (k : ℕ) → k < b .timed → timedOf a k ≡ timedOf b k
+  pub eachNeed : (k : ℕ) → k < b .needs → needOf a k ≡ needOf b k

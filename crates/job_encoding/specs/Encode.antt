@@ -14,8 +14,9 @@ use Rattle.job.specs.declared.records.Effect.{Effect}
 use Rattle.job.specs.declared.records.Use.{Use}
 use Rattle.job.specs.declared.records.Goal.{Goal}
 use Rattle.job.specs.declared.records.TimedFact.{TimedFact}
-use Rattle.job.specs.Layout.{timedEdition, headerWidth, countList, tableAt}
-use Rattle.job.specs.Model.{Model, levelOf, stepOf, conditionOf, effectOf, useOf, goalOf, timedOf}
+use Rattle.job.specs.declared.records.Need.{Need}
+use Rattle.job.specs.Layout.{timedEdition, needsEdition, headerWidth, countList, tableAt}
+use Rattle.job.specs.Model.{Model, levelOf, stepOf, conditionOf, effectOf, useOf, goalOf, timedOf, needOf}
 
 -- a job's counts
 unfoldable pub countsIn : Model → Counts
@@ -28,6 +29,7 @@ countsIn m = record {
   uses = m .uses;
   goals = m .goals;
   timed = m .timed;
+  needs = m .needs;
 }
 
 -- the bits of an i32 that is given plus its bias
@@ -56,6 +58,9 @@ goalRow g = u16Bytes (g .fact) ++ u16Bytes (g .value) ++ u32Bytes (g .deadline)
 unfoldable pub timedRow : TimedFact → List ℕ
 timedRow f = u16Bytes (f .fact) ++ u32Bytes (f .tick) ++ u16Bytes (f .value)
 
+unfoldable pub needRow : Need → List ℕ
+needRow n = u16Bytes (n .step) ++ u16Bytes (n .level) ++ u32Bytes (n .at) ++ u32Bytes (bits (n .least))
+
 -- the records of a list, one after the other
 unfoldable pub rows : {A : Type 0} → (A → List ℕ) → List A → List ℕ
 rows f [] = []
@@ -68,12 +73,20 @@ rowsOf m k =
     ∷ useRow (useOf m k)
     ∷ goalRow (goalOf m k)
     ∷ timedRow (timedOf m k)
+    ∷ needRow (needOf m k)
     ∷ []
 
 unfoldable pub recordBytes : Model → ℕ → ℕ → List ℕ
 recordBytes m t k = getD (rowsOf m k) t []
 
--- the header: the edition, the serial mark, the counts, goals before conditions, and the tables' offsets, that of timed facts in their edition
+-- what editions add to the header: the offset of timed facts, then the count of needs, a zero and the offset of needs
+unfoldable pub addedBytes : ℕ → Counts → List ℕ
+addedBytes edition c =
+    let at = tableAt (headerWidth edition) c in
+    cond (eqb edition needsEdition) (u32Bytes (at 7) ++ u16Bytes (c .needs) ++ u16Bytes 0 ++ u32Bytes (at 8))
+    (cond (eqb edition timedEdition) (u32Bytes (at 7)) [])
+
+-- the header: the edition, the serial mark, the counts, goals before conditions, the tables' offsets, and what its edition adds
 unfoldable pub headerBytes : ℕ → Counts → List ℕ
 headerBytes edition c =
     let at = tableAt (headerWidth edition) c in
@@ -89,7 +102,7 @@ headerBytes edition c =
     ++ u32Bytes (at 4)
     ++ u32Bytes (at 5)
     ++ u32Bytes (at 6)
-    ++ cond (eqb edition timedEdition) (u32Bytes (at 7)) []
+    ++ addedBytes edition c
 
 -- the file up to table t
 unfoldable pub upToTable : ℕ → Model → ℕ → List ℕ
@@ -98,4 +111,4 @@ upToTable edition m (suc t) = upToTable edition m t ++ concatenate (getD (countL
 
 -- the whole file
 abbrev pub encode : ℕ → Model → List ℕ
-encode edition m = upToTable edition m 8
+encode edition m = upToTable edition m 9

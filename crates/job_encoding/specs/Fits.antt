@@ -1,16 +1,17 @@
--- Between crates: a job that a file of an edition can hold: no serial mark, no timed fact before their edition, counts and fields within
--- their bytes.
+-- Between crates: a job that a file of an edition can hold: no serial mark, no timed facts and no needs before their editions, counts and
+-- fields within their bytes.
 use Prim.Native.Nat.{ℕ, _≤_, _<_}
 use mathlib.Core.Path.{_≡_}
 use Rattle.little_endian.specs.Bytes.{u16Values, u32Values}
-use Rattle.job.specs.Layout.{latestEdition, timedEdition}
+use Rattle.job.specs.Layout.{latestEdition, timedEdition, needsEdition}
 use Rattle.job.specs.Model.{Model}
 
 pub record Fits (edition : ℕ) (m : Model) : Type 0 where
   pub editionFrom : 1 ≤ edition
   pub editionTo : edition ≤ latestEdition
   pub serial : m .serial ≡ 0
-  pub timedNone : (edition ≡ timedEdition → ⊥) → m .timed ≡ 0
+  pub timedNone : edition < timedEdition → m .timed ≡ 0
+  pub needsNone : edition < needsEdition → m .needs ≡ 0
   -- the counts
   pub facts : m .facts < u16Values
   pub levels : m .levels < u16Values
@@ -20,6 +21,7 @@ pub record Fits (edition : ℕ) (m : Model) : Type 0 where
   pub uses : m .uses < u16Values
   pub goals : m .goals < u16Values
   pub timed : m .timed < u16Values
+  pub needs : m .needs < u16Values
   -- the fields
   pub initial : (k : ℕ) → k < m .facts → m .initial k < 256
   pub levelInitial : (k : ℕ) → k < m .levels → m .levelInitial k < u32Values
@@ -47,3 +49,7 @@ pub record Fits (edition : ℕ) (m : Model) : Type 0 where
   pub timedFact : (k : ℕ) → k < m .timed → m .timedFact k < u16Values
   pub timedTick : (k : ℕ) → k < m .timed → m .timedTick k < u32Values
   pub timedValue : (k : ℕ) → k < m .timed → m .timedValue k < u16Values
+  pub needStep : (k : ℕ) → k < m .needs → m .needStep k < u16Values
+  pub needLevel : (k : ℕ) → k < m .needs → m .needLevel k < u16Values
+  pub needAt : (k : ℕ) → k < m .needs → m .needAt k < u32Values
+  pub needLeast : (k : ℕ) → k < m .needs → m .needLeast k < u32Values

@@ -47,6 +47,7 @@ found facts levels steps t goals = record {
   uses = t .uses;
   goals = goals;
   timed = 0;
+  needs = 0;
 }
 
 pub counts-are :
@@ -78,7 +79,7 @@ pub high-is :
     (facts levels steps goals : ℕ) (t : Totals) → steps ≤ mostSteps
     → countTooHigh (found facts levels steps t goals) ≡ high facts levels t goals
 unfolding countTooHigh any
-high-is facts levels steps goals t h = rw (le-ltb mostSteps steps h, or-false (ltb mostFacts facts || ltb mostLevels levels), or-false) refl
+high-is facts levels steps goals t h = rw (le-ltb mostSteps steps h, or-false (ltb mostFacts facts || ltb mostLevels levels), or-false, or-false) refl
 
 -- a low number fits a u16
 pub low-fits : {n : ℕ} (m : ℕ) → n ≤ m → m < 65536 → Fits w16 n

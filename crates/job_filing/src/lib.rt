@@ -81,6 +81,7 @@ pub fn file_notes(
         uses: totals.uses as u16,
         goals: goals as u16,
         timed: 0,
+        needs: 0,
     };
     let mut job = [0u8; LONGEST_JOB];
     let n = write_job(said, numbers, plan, acts, count, &mut job);

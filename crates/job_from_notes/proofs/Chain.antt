@@ -1,16 +1,15 @@
 -- The tables put one behind the other: after each, what is put and what fits next.
 use Prim.Native.Nat.{ℕ, suc, _+_, _≤_, _<_}
 use mathlib.Core.Path.{_≡_, sym, ap, _∙_}
-use mathlib.Core.List.{List, append-nil}
+use mathlib.Core.List.{List}
 use native.Mathlib.Nat.{zero-add}
 use native.Mathlib.Omega.{arith}
 use lib.ListN.{length}
 use lib.Seq.{sets}
-use Rattle.laws.specs.Listed.{concatenate}
 use Rattle.job.specs.declared.layout.Counts.{Counts}
 use Rattle.job.specs.Layout.{mostFacts, mostLevels, countTooHigh}
 use Rattle.job.specs.Model.{Model}
-use Rattle.job_encoding.specs.Encode.{countsIn, headerBytes, upToTable, encode}
+use Rattle.job_encoding.specs.Encode.{headerBytes, upToTable, encode}
 use Rattle.order_file.specs.Held.{over}
 use Rattle.job_from_notes.specs.declared.brought.Kind.the-variants.{Conditions, Effects, Uses}
 use Rattle.job_from_notes.specs.Brought.{plannedBytes, goalBytes}
@@ -19,7 +18,7 @@ use Rattle.job_from_notes.specs.TableBytes.{givenBytes, stockBytes, step
 use Rattle.job_from_notes.specs.Whole.{Writable}
 use Rattle.job_from_notes.proofs.Behind.{put-size}
 use Rattle.job_from_notes.proofs.Encoded.{job, table, facts-table, levels-table, steps-table, conditions-table, effects-table, uses-table}
-use Rattle.job_from_notes.proofs.Encoded.{goals-table}
+use Rattle.job_from_notes.proofs.Encoded.{goals-table, up-to-goals}
 use Rattle.job_from_notes.proofs.Encoded.{header-put, table-put, table-room, whole-put, whole-fits, none-higher}
 
 module _ {said numbers plan acts : List ℕ} {count : Counts} {before : List ℕ} (w : Writable said numbers plan acts count before) where
@@ -53,7 +52,7 @@ module _ {said numbers plan acts : List ℕ} {count : Counts} {before : List ℕ
         (t : ℕ) (part : List ℕ) → part ≡ tableOf t → Upto t at out → {place : ℕ} {new : List ℕ} → Put out at part place new → Upto (suc t) place new
     on t part e v p = table-put (count .facts) (count .levels) said numbers plan acts t part e v p
 
-    fit : (t : ℕ) (part : List ℕ) → part ≡ tableOf t → t < 8 → Upto t at out → at + length part ≤ length out
+    fit : (t : ℕ) (part : List ℕ) → part ≡ tableOf t → t < 9 → Upto t at out → at + length part ≤ length out
     fit t part e h v = table-room (count .facts) (count .levels) said numbers plan acts t part e v h fits
 
     pub facts-fit : Upto 0 at out → at + length (givenBytes (count .facts) said numbers) ≤ length out
@@ -112,5 +111,5 @@ module _ {said numbers plan acts : List ℕ} {count : Counts} {before : List ℕ
     whole-size v = put-size before 0 v
 
     pub whole-end : Upto 7 at out → at ≡ length (encode 1 counted)
-    unfolding upToTable concatenate countsIn
-    whole-end v = v .place ∙ zero-add (length (upToTable 1 counted 7)) ∙ ap length (sym (append-nil (upToTable 1 counted 7)))
+    whole-end v =
+        v .place ∙ zero-add (length (upToTable 1 counted 7)) ∙ ap length (up-to-goals (count .facts) (count .levels) said numbers plan acts)

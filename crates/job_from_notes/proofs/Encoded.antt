@@ -49,9 +49,9 @@ table-rows row none n f g h =
     rows-parts row none (joined n f) ∙ rows-joined row n f ∙ parts-same (λ s. rows row (f s)) g n (λ s l. h s)
 
 -- no count above its highest
-pub none-higher : (c : Counts) → countTooHigh c ≡ false → (t : ℕ) → t < 8 → getD (countList c) t 0 ≤ getD highest t 0
+pub none-higher : (c : Counts) → countTooHigh c ≡ false → (t : ℕ) → t < 9 → getD (countList c) t 0 ≤ getD highest t 0
 unfolding countTooHigh
-none-higher c e t h = ltb-false (getD highest t 0) (getD (countList c) t 0) (any-false _ 8 e t h)
+none-higher c e t h = ltb-false (getD highest t 0) (getD (countList c) t 0) (any-false _ 9 e t h)
 
 module _ (facts levels : ℕ) (said numbers plan acts : List ℕ) where
   abbrev pub job : Model
@@ -92,6 +92,11 @@ module _ (facts levels : ℕ) (said numbers plan acts : List ℕ) where
   unfolding countsIn recordBytes tablesNoted partsFrom
   goals-table = sym (rows-parts goalRow noGoal _ ∙ goal-bytes 0 0 _ _)
 
+  -- no timed facts and no needs stand behind the goals
+  pub up-to-goals : upToTable 1 job 7 ≡ encode 1 job
+  unfolding upToTable concatenate countsIn
+  up-to-goals = sym (append-nil (upToTable 1 job 8) ∙ append-nil (upToTable 1 job 7))
+
   -- the file so far, one more table, and the whole
   module _ {before : List ℕ} where
     pub header-put :
@@ -105,22 +110,21 @@ module _ (facts levels : ℕ) (said numbers plan acts : List ℕ) where
       unfolding upToTable
       table-put {place} {new} p = put-on before 0 (table t) v (subst (λ l. Put out at l place new) e p)
 
-      up-to : (d k : ℕ) → d + k ≡ 8 → length (upToTable 1 job k) ≤ length (encode 1 job)
+      up-to : (d k : ℕ) → d + k ≡ 9 → length (upToTable 1 job k) ≤ length (encode 1 job)
       unfolding upToTable
-      up-to zero k q = let z : k ≡ 8 = omega arith in rw z (omega arith)
+      up-to zero k q = let z : k ≡ 9 = omega arith in rw z (omega arith)
       up-to (suc d) k q = omega (arith, up-to d (suc k) (omega arith), length-append (upToTable 1 job k) (table k))
 
-      pub table-room : t < 8 → length (encode 1 job) ≤ length before → at + length part ≤ length out
+      pub table-room : t < 9 → length (encode 1 job) ≤ length before → at + length part ≤ length out
       unfolding upToTable
       table-room h r =
-          let before-next = up-to (7 - t) (suc t) (omega arith) in
+          let before-next = up-to (8 - t) (suc t) (omega arith) in
           omega (arith, r, v .place, put-size before 0 v, ap length e, length-append (upToTable 1 job t) (table t), before-next)
 
     pub whole-put :
         {at : ℕ} {out : List ℕ} → Put before 0 (upToTable 1 job 7) at out → length (encode 1 job) ≤ length before
         → out ≡ over (encode 1 job) before
-    unfolding upToTable concatenate countsIn
-    whole-put v r = v .put ∙ ap (sets before 0) (sym (append-nil (upToTable 1 job 7))) ∙ sets-first before (encode 1 job) r
+    whole-put v r = v .put ∙ ap (sets before 0) up-to-goals ∙ sets-first before (encode 1 job) r
 
   -- no job is longer
   pub whole-fits : countTooHigh (countsIn job) ≡ false → length (encode 1 job) ≤ longestJob

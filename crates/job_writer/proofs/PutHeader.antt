@@ -7,7 +7,7 @@ use lib.Seq.{sets}
 use Rattle.little_endian.specs.Bytes.{u16Bytes, u32Bytes}
 use Rattle.job.specs.declared.layout.Counts.{Counts}
 use Rattle.job.specs.Layout.{shortestHeader, headerWidth, factWidth, levelWidth, stepWidth, conditionWidth, effectWidth, useWidth, tableAt}
-use Rattle.job_encoding.specs.Encode.{headerBytes}
+use Rattle.job_encoding.specs.Encode.{addedBytes, headerBytes}
 
 module _ (l : List ℕ) (n : Counts) where
   pub put-counts :
@@ -40,7 +40,7 @@ module _ (l : List ℕ) (n : Counts) where
       → f ≡ sets e 40 (u32Bytes uses)
       → g ≡ sets f 44 (u32Bytes goals)
       → g ≡ sets l 20 (drop 20 (headerBytes 1 n))
-  unfolding headerBytes headerWidth tableAt u32Bytes u16Bytes
+  unfolding headerBytes addedBytes headerWidth tableAt u32Bytes u16Bytes
   put-offsets p q r s t u ea eb ec ed ee ef eg = rw (eg, ef, ee, ed, ec, eb, ea, u, t, s, r, q, p)
 
   pub put-header :
@@ -50,5 +50,5 @@ module _ (l : List ℕ) (n : Counts) where
       → c ≡ sets b 4 (take 16 (drop 4 (headerBytes 1 n)))
       → d ≡ sets c 20 (drop 20 (headerBytes 1 n))
       → d ≡ sets l 0 (headerBytes 1 n)
-  unfolding headerBytes u32Bytes u16Bytes
+  unfolding headerBytes addedBytes u32Bytes u16Bytes
   put-header ea eb ec ed = rw (ed, ec, eb, ea)

@@ -26,9 +26,9 @@ use Rattle.supplied.proofs.RecordsFit.{LevelFits, StepFits, ConditionFi
 use Rattle.supplied.proofs.RecordsFit.{level-fits, step-fits, conditions-fit, effects-fit, uses-fit, goals-fit, steps-fit}
 
 -- counts that are not too high
-within : (c : Counts) → countTooHigh c ≡ false → (t : ℕ) → t < 8 → getD (countList c) t 0 ≤ getD highest t 0
+within : (c : Counts) → countTooHigh c ≡ false → (t : ℕ) → t < 9 → getD (countList c) t 0 ≤ getD highest t 0
 unfolding countTooHigh
-within c e t h = ltb-false _ _ (any-false (λ i. ltb (getD highest i 0) (getD (countList c) i 0)) 8 e t h)
+within c e t h = ltb-false _ _ (any-false (λ i. ltb (getD highest i 0) (getD (countList c) i 0)) 9 e t h)
 
 record TablesFit (t : Tables) : Type 0 where
   pub facts : Every (λ n. n < 256) (t .facts)
@@ -48,6 +48,7 @@ tables-model t w e =
       editionTo = omega arith;
       serial = refl;
       timedNone = λ n. refl;
+      needsNone = λ n. refl;
       facts = omega (arith, most 0 (omega arith));
       levels = omega (arith, most 1 (omega arith));
       steps = omega (arith, most 2 (omega arith));
@@ -56,6 +57,7 @@ tables-model t w e =
       uses = omega (arith, most 5 (omega arith));
       goals = omega (arith, most 6 (omega arith));
       timed = omega arith;
+      needs = omega arith;
       initial = λ k h. every-at (λ n. n < 256) 0 (omega arith) (t .facts) (w .facts) k;
       levelInitial = λ k h. level k .initial;
       levelLeast = λ k h. level k .least;
@@ -82,9 +84,13 @@ tables-model t w e =
       timedFact = λ k h. omega arith;
       timedTick = λ k h. omega arith;
       timedValue = λ k h. omega arith;
+      needStep = λ k h. omega arith;
+      needLevel = λ k h. omega arith;
+      needAt = λ k h. omega arith;
+      needLeast = λ k h. omega arith;
     }
   where
-    most : (i : ℕ) → i < 8 → getD (countList (countsIn (modelIn t))) i 0 ≤ getD highest i 0
+    most : (i : ℕ) → i < 9 → getD (countList (countsIn (modelIn t))) i 0 ≤ getD highest i 0
     most = within (countsIn (modelIn t)) e
 
     level : (k : ℕ) → LevelFits (getD (t .levels) k noLevel)

@@ -110,6 +110,7 @@ modelIn t = record {
   uses = length (t .uses);
   goals = length (t .goals);
   timed = 0;
+  needs = 0;
   initial = λ k. getD (t .facts) k 0;
   levelInitial = λ k. getD (t .levels) k noLevel .initial;
   levelLeast = λ k. getD (t .levels) k noLevel .least;
@@ -136,6 +137,10 @@ modelIn t = record {
   timedFact = λ k. 0;
   timedTick = λ k. 0;
   timedValue = λ k. 0;
+  needStep = λ k. 0;
+  needLevel = λ k. 0;
+  needAt = λ k. 0;
+  needLeast = λ k. 0;
 }
 
 -- the job of what two texts say

@@ -6,7 +6,6 @@ use mathlib.Core.List.{List, [], _∷_}
 use mathlib.Core.Logic.{_⊎_}
 use native.Mathlib.Decide.{ℕ-discrete}
 use lib.ListN.{length, take, drop}
-use Rattle.little_endian.specs.Bytes.{u16At}
 use Rattle.spelling.specs.Tokens.{textMost}
 use Rattle.verdict.specs.Verdict as verdict
 use Rattle.grammar.specs.Said.{Said, Item, onLine, saidOf}
@@ -16,12 +15,12 @@ use Rattle.grammar.specs.Allowed.{depthMost}
 use Rattle.grammar.specs.Reading.{actionReading, planReading}
 use Rattle.grammar.proofs.Demanded.{action-demands, plan-demands}
 use Rattle.grammar.proofs.Placed.{places}
-use Rattle.job.specs.Layout.{jobOf, countTooHigh}
+use Rattle.job.specs.Layout.{countTooHigh}
 use Rattle.job.specs.Model.{Model, modelOf}
 use Rattle.job_encoding.specs.Encode.{countsIn, encode}
 use Rattle.job_encoding.specs.Fits.{Fits}
 use Rattle.job_encoding.specs.Agree.{Agree}
-use Rattle.job_encoding.proofs.RoundTrip.{job-back, round-trip}
+use Rattle.job_encoding.proofs.RoundTrip.{edition-back, round-trip}
 use Rattle.validity.specs.Checks.{jobCheck}
 use Rattle.validity.proofs.Accepted.{job-promise}
 use Rattle.supplied.specs.Plan.{linesOf}
@@ -64,10 +63,6 @@ module _ (t : Text) (p : Plan) (is ps : List Item) (a : saidOf is ≡ textSays t
       (subst (λ (y : List Said). Matching (onLine 0 (saidOf is)) (linesOf (onLine 0 y))) (sym b)
       (subst (λ (x : List Said). Matching (onLine 0 x) (linesOf (onLine 0 (planSays p)))) (sym a) h))
 
-edition-back : (m : Model) → Fits 1 m → u16At (encode 1 m) 0 ≡ 1
-unfolding jobOf
-edition-back m w = ap (λ j. j .edition) (job-back 1 m w)
-
 module _ (actions plan : List ℕ) where
   -- the bytes that are accepted are the job of the texts
   job-of-texts : {room : ℕ} (k : Passed (actionsRead actions) (planReading plan) room) → JobOfTexts actions plan (jobBytes (k .is) (k .plan))
@@ -90,7 +85,7 @@ module _ (actions plan : List ℕ) where
               names = subst NoClash (x .2) (n .1);
               matches = said-matches (x .0) (y .0) (k .is) (k .plan) (x .2) (y .2) (k .matches);
             };
-        edition = edition-back m w;
+        edition = edition-back 1 m w;
         holds = subst (Agree (modelOf (encode 1 m))) (sym (derived-job (x .0) (y .0) (k .is) (k .plan) (x .2) (y .2))) (round-trip 1 m w);
         sound = job-promise (encode 1 m) refl .sound (k .passes);
       }

@@ -15,7 +15,8 @@ use Rattle.grammar.specs.Said.{onLine}
 use Rattle.grammar.specs.Reader.{onward, bytes, deeper, leafStep, step, run}
 use Rattle.grammar.specs.Reading.{actionReading, planReading}
 use Rattle.job.specs.Layout.{headerWidth, tableAt, countTooHigh}
-use Rattle.job_encoding.specs.Encode.{countsIn, levelRow, stepRow, conditionRow, effectRow, useRow, goalRow, timedRow, recordBytes, headerBytes, upToTable}
+use Rattle.job_encoding.specs.Encode.{countsIn, levelRow, stepRow, conditionRow, effectRow, useRow, goalRow, timedRow, recordBytes}
+use Rattle.job_encoding.specs.Encode.{addedBytes, headerBytes, upToTable}
 use Rattle.supplied.specs.Names.{kindOf, sameKind, gives, clash, clashes, namesFrom, withNames, isIn, withWord, withSaid, appearing, numberOf}
 use Rattle.supplied.specs.Plan.{numberIn, wordIn, linesOf, isAction, hasAction, behind, leading, differs}
 use Rattle.supplied.specs.Records.{inAction, body, conditionAt, conditionIn, conditionsIn, effectIn, effectsIn, useIn, usesIn, byStep, goalIn, goalsIn}
@@ -48,5 +49,5 @@ unfolding actionReading planReading isBlank isMark inWord lineAfter joins grown 
     step run kindOf sameKind gives clash clashes namesFrom withNames isIn withWord withSaid appearing numberOf numberIn wordIn linesOf isAction
     hasAction behind leading differs inAction body conditionAt conditionIn conditionsIn effectIn effectsIn useIn usesIn byStep goalIn goalsIn
     listsFact initially listsLevel amountOf tablesOf countsIn levelRow stepRow conditionRow effectRow useRow goalRow timedRow recordBytes
-    headerBytes upToTable headerWidth tableAt countTooHigh concatenate u16Bytes u32Bytes actionsRead jobBytes bytesOf
+    addedBytes headerBytes upToTable headerWidth tableAt countTooHigh concatenate u16Bytes u32Bytes actionsRead jobBytes bytesOf
 two-texts = refl
