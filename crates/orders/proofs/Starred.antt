@@ -211,8 +211,10 @@ infixr 10 _also_
 abbrev pub _also_ : {A B : Type 0} → A → B → A × B
 a also b = (a, b)
 
-starred-computed : AllAnswerBy starred
-unfolding AllAnswerBy AnswersBy starred small nothing levelled serially jobBytes timedTable tablesOf editionOf joined offsets fact level step condition effect
+-- all three tables in one, since they compute by the same definitions
+computed : AllAnswerBy starred × AllAnswerBy timedCases × AllAnswerBy tieCases
+unfolding AllAnswerBy AnswersBy starred small nothing levelled serially timedCases withTimed givenWithClock tieCases givenAtFive wants givesOwn givesOther givesClock
+    free jobBytes timedTable tablesOf editionOf joined offsets fact level step condition effect
     usage goal timedFact u16Bytes u32Bytes listed windowOf ordersOf orderAt orderedPair orderedIf passing extend fileWith fileOf linkNumber nthLink u16At
     u32At biasedAt largest least sum tabulate any all lowest lowestOwner headerWidth countsOf tableAt positionsOf jobOf countTooHigh
     editionKnown marksWrong layoutAgrees _then_ refuseIf refuseLowest factOk levelOk stepOk conditionOk effectOk useOk goalOk timedOk bothWays usesTwice
@@ -221,80 +223,60 @@ unfolding AllAnswerBy AnswersBy starred small nothing levelled serially jobBytes
     conflicts breaks conditionFails passes levelFails undoes late goalFails overlaps crowded ruleCheck timingCheck jobCheck producer earliestProduced
     tied favours supporter linkOf conditionLink goalLink supportOrder supportGap opposingOrder opposingGap beforeOrder afterOrder conditionGap
     levelOrder levelGap needGap serialGap gapOf clockGap clockLimit limitOf clockLatest allowed latestOf demand raised after unchanged rounds earliest
-starred-computed =
-    (refl, refl, refl, refl, refl)
-    also (refl, refl, refl, refl, refl)
-    also (refl, refl, refl, refl, refl)
-    also refl
-    also (refl, refl, refl, refl, refl)
-    also (refl, refl, refl, refl, refl)
-    also refl
-    also (refl, refl, refl, refl, refl)
-    also refl
-    also (refl, refl, refl, refl, refl)
-    also (refl, refl, refl, refl, refl)
-    also refl
-    also tt
+computed = (
+  (
+      (refl, refl, refl, refl, refl)
+      also (refl, refl, refl, refl, refl)
+      also (refl, refl, refl, refl, refl)
+      also refl
+      also (refl, refl, refl, refl, refl)
+      also (refl, refl, refl, refl, refl)
+      also refl
+      also (refl, refl, refl, refl, refl)
+      also refl
+      also (refl, refl, refl, refl, refl)
+      also (refl, refl, refl, refl, refl)
+      also refl
+      also tt
+      ),
+  (
+      (refl, refl, refl, refl, refl)
+      also (refl, refl, refl, refl, refl)
+      also (refl, refl, refl, refl, refl)
+      also (refl, refl, refl, refl, refl)
+      also (refl, refl, refl, refl, refl)
+      also (refl, refl, refl, refl, refl)
+      also (refl, refl, refl, refl, refl)
+      also refl
+      also refl
+      also refl
+      also refl
+      also refl
+      also refl
+      also refl
+      also tt
+      ),
+  (
+      (refl, refl, refl, refl, refl)
+      also (refl, refl, refl, refl, refl)
+      also (refl, refl, refl, refl, refl)
+      also (refl, refl, refl, refl, refl)
+      also (refl, refl, refl, refl, refl)
+      also (refl, refl, refl, refl, refl)
+      also (refl, refl, refl, refl, refl)
+      also tt
+      ),
+)
 
--- the definitions answer the whole table as the paper does
+-- the definitions answer the whole table as the paper does, and those of timed facts and of ties
 pub starred-answers : AllAnswer starred
-starred-answers = all-answer-by starred starred-computed
+starred-answers = all-answer-by starred (computed .0)
 
-timed-computed : AllAnswerBy timedCases
-unfolding AllAnswerBy AnswersBy timedCases withTimed givenWithClock jobBytes timedTable tablesOf editionOf joined offsets fact level step condition effect
-    usage goal timedFact u16Bytes u32Bytes listed windowOf ordersOf orderAt orderedPair orderedIf passing extend fileWith fileOf linkNumber nthLink u16At
-    u32At biasedAt largest least sum tabulate any all lowest lowestOwner headerWidth countsOf tableAt positionsOf jobOf countTooHigh
-    editionKnown marksWrong layoutAgrees _then_ refuseIf refuseLowest factOk levelOk stepOk conditionOk effectOk useOk goalOk timedOk bothWays usesTwice
-    opposesOwn setBefore usedBefore opposesAny bothWaysStep usesTwiceStep opposesOwnStep headerCheck tableCheck recordCheck
-    againstStep stepCheck timedBothWays timedConflicts timedCheck formCheck givenAt lastGiven seen afterAll risesBefore fallsBefore meets
-    conflicts breaks conditionFails passes levelFails undoes late goalFails overlaps crowded ruleCheck timingCheck jobCheck producer earliestProduced
-    tied favours supporter linkOf conditionLink goalLink supportOrder supportGap opposingOrder opposingGap beforeOrder afterOrder conditionGap
-    levelOrder levelGap needGap serialGap gapOf clockGap clockLimit limitOf clockLatest allowed latestOf demand raised after unchanged rounds earliest
-timed-computed =
-    (refl, refl, refl, refl, refl)
-    also (refl, refl, refl, refl, refl)
-    also (refl, refl, refl, refl, refl)
-    also (refl, refl, refl, refl, refl)
-    also (refl, refl, refl, refl, refl)
-    also (refl, refl, refl, refl, refl)
-    also (refl, refl, refl, refl, refl)
-    also refl
-    also refl
-    also refl
-    also refl
-    also refl
-    also refl
-    also refl
-    also tt
-
--- and that of timed facts
 pub timed-answers : AllAnswer timedCases
-timed-answers = all-answer-by timedCases timed-computed
+timed-answers = all-answer-by timedCases (computed .1)
 
-tie-computed : AllAnswerBy tieCases
-unfolding AllAnswerBy AnswersBy tieCases givenAtFive wants givesOwn givesOther givesClock free
-    jobBytes timedTable tablesOf editionOf joined offsets fact level step condition effect
-    usage goal timedFact u16Bytes u32Bytes listed windowOf ordersOf orderAt orderedPair orderedIf passing extend fileWith fileOf linkNumber nthLink u16At
-    u32At biasedAt largest least sum tabulate any all lowest lowestOwner headerWidth countsOf tableAt positionsOf jobOf countTooHigh
-    editionKnown marksWrong layoutAgrees _then_ refuseIf refuseLowest factOk levelOk stepOk conditionOk effectOk useOk goalOk timedOk bothWays usesTwice
-    opposesOwn setBefore usedBefore opposesAny bothWaysStep usesTwiceStep opposesOwnStep headerCheck tableCheck recordCheck
-    againstStep stepCheck timedBothWays timedConflicts timedCheck formCheck givenAt lastGiven seen afterAll risesBefore fallsBefore meets
-    conflicts breaks conditionFails passes levelFails undoes late goalFails overlaps crowded ruleCheck timingCheck jobCheck producer earliestProduced
-    tied favours supporter linkOf conditionLink goalLink supportOrder supportGap opposingOrder opposingGap beforeOrder afterOrder conditionGap
-    levelOrder levelGap needGap serialGap gapOf clockGap clockLimit limitOf clockLatest allowed latestOf demand raised after unchanged rounds earliest
-tie-computed =
-    (refl, refl, refl, refl, refl)
-    also (refl, refl, refl, refl, refl)
-    also (refl, refl, refl, refl, refl)
-    also (refl, refl, refl, refl, refl)
-    also (refl, refl, refl, refl, refl)
-    also (refl, refl, refl, refl, refl)
-    also (refl, refl, refl, refl, refl)
-    also tt
-
--- and that of ties
 pub tie-answers : AllAnswer tieCases
-tie-answers = all-answer-by tieCases tie-computed
+tie-answers = all-answer-by tieCases (computed .2)
 
 -- what is computed of a job with needs
 FilesBy : NeedFile → Type 0
