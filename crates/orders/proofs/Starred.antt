@@ -213,7 +213,8 @@ a also b = (a, b)
 
 -- all three tables in one, since they compute by the same definitions
 computed : AllAnswerBy starred × AllAnswerBy timedCases × AllAnswerBy tieCases
-unfolding AllAnswerBy AnswersBy starred small nothing levelled serially timedCases withTimed givenWithClock tieCases givenAtFive wants givesOwn givesOther givesClock
+unfolding AllAnswerBy AnswersBy starred small nothing levelled serially timedCases withTimed givenWithClock tieCases givenAtFive wants givesOwn
+    givesOther givesClock
     free jobBytes timedTable tablesOf editionOf joined offsets fact level step condition effect
     usage goal timedFact u16Bytes u32Bytes listed windowOf ordersOf orderAt orderedPair orderedIf passing extend fileWith fileOf linkNumber nthLink u16At
     u32At biasedAt largest least sum tabulate any all lowest lowestOwner headerWidth countsOf tableAt positionsOf jobOf countTooHigh
