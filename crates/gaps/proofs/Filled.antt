@@ -16,8 +16,8 @@ use Rattle.laws.proofs.Fold.{largest-ge, largest-le}
 use Rattle.orders.proofs.Near.{counted-le}
 use Rattle.order_file.specs.Table.{gapIn, gapOfEntry, Gaps, rowWidth, tableSize, tableBias, emptyLimit, noOrder}
 use Rattle.order_file.specs.Contents.{stepLimit, mostGap}
-use Rattle.rows.specs.Raised.{single, Raised}
-use Rattle.rows.proofs.Raised.{single-at, single-off}
+use Rattle.origins.specs.Raised.{single, Raised}
+use Rattle.origins.proofs.Raised.{single-at, single-off}
 use Rattle.gaps.specs.Table.{TableOf}
 use Rattle.gaps.specs.Rules.{Cleared}
 

@@ -15,10 +15,10 @@ use Rattle.timeline.specs.Placed.{Placed}
 use Rattle.validity.specs.Ticks.{scheduleOf}
 use Rattle.orders.specs.Gaps.{strictly}
 use Rattle.orders.proofs.Orders.{pairs-ge}
-use Rattle.rows.specs.declared.origin.Origin.{Origin}
-use Rattle.rows.specs.Raised.{Raised}
-use Rattle.rows.specs.Points.{offsetAt, Group, Reached, Among, After}
-use Rattle.rows.proofs.Reached.{reached-raised}
+use Rattle.origins.specs.declared.Origin.{Origin}
+use Rattle.origins.specs.Raised.{Raised}
+use Rattle.origins.specs.Points.{offsetAt, Group, Reached, Among, After}
+use Rattle.origins.proofs.Reached.{reached-raised}
 use Rattle.order_file.specs.Contents.{stepLimit}
 
 -- Points of one kind, group by group in the order of their ticks.

@@ -22,15 +22,15 @@ use Rattle.orders.specs.Gaps.{opposingOrder, opposingGap, beforeOrder, afterOrd
 use Rattle.orders.specs.Gaps.{needOrder, useOrder, needGap}
 use Rattle.orders.proofs.Orders.{condition-ge, need-ge}
 use Rattle.orders.proofs.Near.{from-near, to-near, use-near, need-near}
-use Rattle.rows.specs.declared.origin.Fact.{Fact}
-use Rattle.rows.specs.declared.origin.Origin.{Origin}
-use Rattle.rows.specs.declared.origin.Span.{Span}
-use Rattle.rows.specs.Raised.{Raised}
+use Rattle.origins.specs.declared.Fact.{Fact}
+use Rattle.origins.specs.declared.Origin.{Origin}
+use Rattle.origins.specs.declared.Span.{Span}
+use Rattle.origins.specs.Raised.{Raised}
 use Rattle.gaps.specs.Rules.{ValidPoints}
-use Rattle.rows.specs.Points.{pointOrigin, lastOrigin, Group, FactKnown, Reached, Among}
+use Rattle.origins.specs.Points.{pointOrigin, lastOrigin, Group, FactKnown, Reached, Among}
 use Rattle.gaps.specs.Rules.{factAt, spanAt}
-use Rattle.rows.specs.Points.{FromSetters, FromConditions, FactOrder, FromPoints, FromTo, Between}
-use Rattle.rows.proofs.Reached.{reached-raised}
+use Rattle.origins.specs.Points.{FromSetters, FromConditions, FactOrder, FromPoints, FromTo, Between}
+use Rattle.origins.proofs.Reached.{reached-raised}
 use Rattle.gaps.proofs.Pairs.{Listed, Rule, listed-offset, listed-group, rule-under, rule-over, rule-raised}
 
 -- The places that the code read.

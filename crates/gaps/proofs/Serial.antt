@@ -16,13 +16,13 @@ use Rattle.validity.specs.Ticks.{finish}
 use Rattle.orders.specs.Gaps.{serialGap}
 use Rattle.order_file.specs.Table.{gapIn, gapOfEntry, rowWidth, tableSize, entryBias, tableBias, emptyLimit}
 use Rattle.order_file.specs.Contents.{stepLimit, mostGap, gapBias}
-use Rattle.rows.specs.Raised.{single}
-use Rattle.rows.specs.Raised.{EntryKnown, Raised}
+use Rattle.origins.specs.Raised.{single}
+use Rattle.origins.specs.Raised.{EntryKnown, Raised}
 use Rattle.gaps.specs.Rules.{tieGap, tieRow, serialRow, entryFrom, laterGap}
-use Rattle.rows.specs.Points.{Rowed}
-use Rattle.rows.proofs.Raised.{single-is, single-off}
+use Rattle.origins.specs.Points.{Rowed}
+use Rattle.origins.proofs.Raised.{single-is, single-off}
 use Rattle.gaps.proofs.Filled.{single-le}
-use Rattle.rows.proofs.Row.{rowed-each}
+use Rattle.origins.proofs.Row.{rowed-each}
 
 -- a test decides between an entry and none
 either-entry : (P : ℕ → Type 0) (t : Bool) (entry : ℕ) → P entry → P 0 → P (cond t entry 0)

@@ -11,7 +11,7 @@ use Rattle.job.specs.Clocked.{clocked}
 use Rattle.order_file.specs.Contents.{initialState}
 use Rattle.orders.specs.Links.{conditionLink}
 use Rattle.orders.specs.Gaps.{strictly, supportOrder}
-use Rattle.rows.specs.Raised.{single}
+use Rattle.origins.specs.Raised.{single}
 
 -- a test whose second part fails chooses nothing
 second-fails : (a b c : Bool) (gap : ℕ) → b ≡ false → cond (a && b && c) gap 0 ≡ 0

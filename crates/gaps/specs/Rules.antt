@@ -13,9 +13,9 @@ use Rattle.validity.specs.Ticks.{effectTick, firstTick, lastTick}
 use Rattle.links.specs.LinkList.{LinksOf}
 use Rattle.orders.specs.Gaps.{serialGap}
 use Rattle.order_file.specs.Table.{Gaps, rowWidth, noOrder}
-use Rattle.rows.specs.declared.origin.Fact.{Fact}
-use Rattle.rows.specs.declared.origin.Span.{Span}
-use Rattle.rows.specs.Raised.{single, Raised}
+use Rattle.origins.specs.declared.Fact.{Fact}
+use Rattle.origins.specs.declared.Span.{Span}
+use Rattle.origins.specs.Raised.{single, Raised}
 
 -- a table whose first n own entries, of a step and itself, are cleared
 pub record Cleared (n : ℕ) (before after : List ℕ) : Type 0 where

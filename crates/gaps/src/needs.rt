@@ -7,10 +7,10 @@ ghost use Rattle.job.specs.Model.{view};
 ghost use Rattle.validity.specs.Ticks.{scheduleOf};
 ghost use Rattle.orders.specs.Gaps.{needGap};
 ghost use Rattle.order_file.specs.Table.{Gaps};
-ghost use Rattle.rows.specs.Raised.{Raised};
+ghost use Rattle.origins.specs.Raised.{Raised};
 ghost use Rattle.gaps.specs.Rules.{ValidPoints, spanAt};
 use job::layout::Job;
-use rows::origin::Span;
+use origins::Span;
 use rows::raise_between;
 use timeline::word::begin_at;
 

@@ -1,4 +1,4 @@
--- Inner: what the uses of a level before a place add to it and take from it.
+-- Between crates: what the uses of a level before a place add to it and take from it.
 use Prim.Native.Nat.{ℕ, _+_, _*_, _≤_, _<_}
 use mathlib.Core.Path.{_≡_}
 use mathlib.Core.Bool.{Bool, _&&_, cond}

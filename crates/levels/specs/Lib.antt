@@ -1,4 +1,3 @@
--- What the uses of a level add up to along its points, what they say of its needs, and which of them are of one step at one tick.
+-- What the uses of a level add up to along its points, and which of them are of one step at one tick.
 pub mod LevelSums
-pub mod LevelNeeds
 pub mod UsesApart

@@ -17,12 +17,12 @@ use Rattle.orders.specs.Gaps.{gapOf}
 use Rattle.orders.specs.Windows.{limitOf}
 use Rattle.rounds.specs.Rounds.{after, unchanged}
 use Rattle.order_file.specs.Contents.{gapBias}
-use Rattle.rows.specs.Raised.{single}
+use Rattle.origins.specs.Raised.{single}
 use Rattle.orders.specs.File.{roundsOf, ordered, pairOf, fileWith}
 use Rattle.partialize.specs.Demands.{filedGap, settledAfter}
 use Rattle.rounds.proofs.Rounds.{rounds-some, last-unchanged, earlier-changes}
 use Rattle.rounds.proofs.Same.{unchanged-same}
-use Rattle.rows.proofs.Raised.{single-at}
+use Rattle.origins.proofs.Raised.{single-at}
 use Rattle.gaps.proofs.Filled.{single-le}
 use Rattle.orders.proofs.Planned.{planned-obeys}
 use Rattle.orders.proofs.Satisfied.{pair-filed, obeys-satisfied}

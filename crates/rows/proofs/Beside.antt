@@ -14,13 +14,13 @@ use Rattle.job.specs.Model.{Model}
 use Rattle.timeline.specs.Words.{wordStep, wordValue, wordTick}
 use Rattle.orders.specs.Gaps.{strictly}
 use Rattle.order_file.specs.Table.{gapOfEntry, rowWidth}
-use Rattle.rows.specs.declared.origin.Fact.{Fact}
-use Rattle.rows.specs.declared.origin.Origin.{Origin}
-use Rattle.rows.specs.Raised.{single}
-use Rattle.rows.specs.Raised.{Raised}
-use Rattle.rows.specs.Points.{offsetOf, offsetAt, lastOrigin, FactPlaced, Apart, Reached, Among, Onto, Toward, Beside, Around}
-use Rattle.rows.specs.Points.{FromSetters, FromConditions, FactOrder, AroundCondition}
-use Rattle.rows.proofs.Reached.{reached-none, reached-is, reached-one, reached-narrow}
+use Rattle.origins.specs.declared.Fact.{Fact}
+use Rattle.origins.specs.declared.Origin.{Origin}
+use Rattle.origins.specs.Raised.{single}
+use Rattle.origins.specs.Raised.{Raised}
+use Rattle.origins.specs.Points.{offsetOf, offsetAt, lastOrigin, FactPlaced, Apart, Reached, Among, Onto, Toward, Beside, Around}
+use Rattle.origins.specs.Points.{FromSetters, FromConditions, FactOrder, AroundCondition}
+use Rattle.origins.proofs.Reached.{reached-none, reached-is, reached-one, reached-narrow}
 use Rattle.rows.proofs.Grouped.{value-low}
 
 -- what holds of both holds of the chosen one

@@ -17,13 +17,13 @@ use Rattle.validity.specs.Ticks.{scheduleOf}
 use Rattle.orders.specs.Gaps.{strictly}
 use Rattle.order_file.specs.Table.{gapIn, gapOfEntry, Gaps, rowWidth, tableSize, entryBias, tableBias, emptyLimit}
 use Rattle.order_file.specs.Contents.{stepLimit, mostGap}
-use Rattle.rows.specs.declared.origin.Origin.{Origin}
-use Rattle.rows.specs.Raised.{single}
-use Rattle.rows.specs.Raised.{Raised}
-use Rattle.rows.specs.Points.{offsetOf, offsetAt, pointOrigin, lastOrigin, OriginKnown, Group, Notable, Apart, Reached, Onto, After}
-use Rattle.rows.specs.Points.{leadPlace, leadsWith, Leads, LeadKnown, LeadsKnown, Noting, NotedBack, RowKnown, dueAt, Rowed, Ahead, Rowing}
-use Rattle.rows.proofs.Reached.{reached-none, reached-is, reached-one, reached-narrow, within-down, within-empty}
-use Rattle.rows.proofs.Row.{rowed-each}
+use Rattle.origins.specs.declared.Origin.{Origin}
+use Rattle.origins.specs.Raised.{single}
+use Rattle.origins.specs.Raised.{Raised}
+use Rattle.origins.specs.Points.{offsetOf, offsetAt, pointOrigin, lastOrigin, OriginKnown, Group, Notable, Apart, Reached, Onto, After}
+use Rattle.origins.specs.Points.{leadPlace, leadsWith, Leads, LeadKnown, LeadsKnown, Noting, NotedBack, RowKnown, dueAt, Rowed, Ahead, Rowing}
+use Rattle.origins.proofs.Reached.{reached-none, reached-is, reached-one, reached-narrow, within-down, within-empty}
+use Rattle.origins.proofs.Row.{rowed-each}
 
 -- a word's value is one of two
 pub value-low : (word : ℕ) → wordValue word < valueSpan

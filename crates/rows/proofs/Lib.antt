@@ -1,7 +1,4 @@
 -- A table raised to the orders between points, pair by pair or by rows.
-pub mod Row
-pub mod Raised
-pub mod Reached
 pub mod Grouped
 pub mod Setters
 pub mod Beside

@@ -9,9 +9,9 @@ use Rattle.timeline.specs.Words.{valueAt, tickAt, stepAt, valueSpan}
 use Rattle.validity.specs.Ticks.{scheduleOf}
 use Rattle.order_file.specs.Table.{rowWidth}
 use Rattle.order_file.specs.Contents.{stepLimit}
-use Rattle.rows.specs.declared.origin.Origin.{Origin}
-use Rattle.rows.specs.Points.{pointOrigin, Group, ValuesApart, Reached, Among, PointOrder, Leads, leadsWith, LeadsKnown, Ahead}
-use Rattle.rows.proofs.Reached.{within-down, within-empty}
+use Rattle.origins.specs.declared.Origin.{Origin}
+use Rattle.origins.specs.Points.{pointOrigin, Group, ValuesApart, Reached, Among, PointOrder, Leads, leadsWith, LeadsKnown, Ahead}
+use Rattle.origins.proofs.Reached.{within-down, within-empty}
 use Rattle.rows.proofs.Grouped.{ahead-after, after-given, leads-start, leads-below, leads-more}
 
 -- the setters from place p on are noted, and their rows are raised

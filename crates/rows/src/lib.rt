@@ -3,18 +3,17 @@ ghost use Prim.Native.Nat.{_≤_};
 ghost use Rattle.job.specs.Model.{view};
 ghost use Rattle.validity.specs.Ticks.{scheduleOf};
 ghost use Rattle.order_file.specs.Table.{Gaps};
-ghost use Rattle.rows.specs.Points.{Group, ValuesApart, FactKnown, Reached, FactOrder, FromPoints, Between};
+ghost use Rattle.origins.specs.Points.{Group, ValuesApart, FactKnown, Reached, FactOrder, FromPoints, Between};
 ghost use Rattle.order_file.specs.Contents.{stepLimit};
 
-pub mod origin;
 mod pairs;
 mod rows;
 
 use job::layout::Job;
-use origin::Fact;
-use origin::OTHER;
-use origin::SAME;
-use origin::Span;
+use origins::Fact;
+use origins::OTHER;
+use origins::SAME;
+use origins::Span;
 use pairs::pair_among;
 use pairs::pair_conditions;
 use rows::row_conditions;

@@ -20,7 +20,6 @@ ghost use Rattle.schedule.specs.Timed.{Ordered, Clear, FormedPoints, Set
 ghost use Rattle.schedule.specs.Opened.{Read, Opened, Planned};
 use job::layout::Job;
 use levels::bounds;
-use levels::unmet;
 use levels::uses;
 use opposing::neighbours::any_mixed;
 use points::words::FEW_GROUPS;
@@ -52,7 +51,7 @@ fn check_settled(
     let v = refuse_if(v, c < job.count.conditions, Verdict::ConditionFails(c));
     let l = bounds::first_out_of_bounds(s, job, points, begins);
     let v = refuse_if(v, l < job.count.levels, Verdict::LevelOutOfBounds(l));
-    let d = unmet::first_unmet(s, job, points, begins);
+    let d = needs::first_unmet(s, job, points, begins);
     let v = refuse_if(v, d < job.count.needs, Verdict::NeedUnmet(d));
     let g = goals::first_missed(s, job, points, begins);
     let v = refuse_if(v, g < job.count.goals, Verdict::GoalFails(g));

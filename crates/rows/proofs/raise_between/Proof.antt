@@ -10,9 +10,9 @@ use denote.Ref.{now}
 use lib.Dec.{ltb}
 use Rattle.laws.proofs.Search.{contrary}
 use Rattle.validity.specs.Ticks.{scheduleOf}
-use Rattle.rows.specs.declared.origin.Span.{Span}
-use Rattle.rows.specs.Points.{Reached, FromTo, Between}
-use Rattle.rows.proofs.Reached.{reached-none, reached-either}
+use Rattle.origins.specs.declared.Span.{Span}
+use Rattle.origins.specs.Points.{Reached, FromTo, Between}
+use Rattle.origins.proofs.Reached.{reached-none, reached-either}
 use Rattle.rows.proofs.raise_between.Statement.{statement}
 use Rattle.rows.proofs.raise_between.Tie as tie
 

@@ -1,7 +1,7 @@
 -- Pairs or rows.
 use native.Mathlib.Omega.{arith}
 use borrow.Author.Needs.{needs}
-use Rattle.rows.proofs.Reached.{reached-either}
+use Rattle.origins.proofs.Reached.{reached-either}
 use Rattle.rows.proofs.raise_conditions.Statement.{statement}
 use Rattle.rows.proofs.raise_conditions.Tie as tie
 

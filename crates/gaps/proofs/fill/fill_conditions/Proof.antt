@@ -7,8 +7,8 @@ use denote.Ref.{now}
 use Rattle.job.specs.Model.{view}
 use Rattle.validity.specs.Ticks.{scheduleOf}
 use Rattle.gaps.specs.Rules.{factAt}
-use Rattle.rows.specs.Points.{FactOrder, Reached, Among}
-use Rattle.rows.proofs.Reached.{within-up, within-all, within-empty}
+use Rattle.origins.specs.Points.{FactOrder, Reached, Among}
+use Rattle.origins.proofs.Reached.{within-up, within-all, within-empty}
 use Rattle.gaps.proofs.Rules.{given-known, given-reached, fact-known, conditions-raised}
 use Rattle.gaps.proofs.fill.fill_conditions.Statement.{statement}
 use Rattle.gaps.proofs.fill.fill_conditions.Tie as tie

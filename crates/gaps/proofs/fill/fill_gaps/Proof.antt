@@ -3,7 +3,7 @@ use native.Mathlib.Omega.{arith}
 use denote.Ref.{now}
 use Rattle.job.specs.Model.{view}
 use Rattle.orders.specs.Gaps.{gapOf}
-use Rattle.rows.proofs.Raised.{raised-is}
+use Rattle.origins.proofs.Raised.{raised-is}
 use Rattle.gaps.proofs.Own.{own-points, own-gaps}
 use Rattle.gaps.proofs.Filled.{raised-then, empty-gaps, table-of}
 use Rattle.gaps.proofs.fill.fill_gaps.Statement.{statement}

@@ -5,8 +5,8 @@ use native.Mathlib.Omega.{arith}
 use borrow.Author.Needs.{needs}
 use denote.Ref.{now}
 use Rattle.validity.specs.Ticks.{scheduleOf}
-use Rattle.rows.specs.Points.{Reached, Among}
-use Rattle.rows.proofs.Reached.{within-up, within-all, within-empty}
+use Rattle.origins.specs.Points.{Reached, Among}
+use Rattle.origins.proofs.Reached.{within-up, within-all, within-empty}
 use Rattle.gaps.proofs.Rules.{given-points, LevelOrder, level-known, levels-raised}
 use Rattle.gaps.proofs.fill.fill_levels.Statement.{statement}
 use Rattle.gaps.proofs.fill.fill_levels.Tie as tie

@@ -6,8 +6,8 @@ use borrow.Author.Needs.{needs}
 use denote.Ref.{now}
 use Rattle.validity.specs.Ticks.{scheduleOf}
 use Rattle.points.proofs.Placed.{placed-apart}
-use Rattle.rows.specs.Points.{Reached, Among}
-use Rattle.rows.proofs.Reached.{within-up, within-all, within-empty}
+use Rattle.origins.specs.Points.{Reached, Among}
+use Rattle.origins.proofs.Reached.{within-up, within-all, within-empty}
 use Rattle.gaps.proofs.Rules.{given-points, OpposingOrder, opposing-known, opposing-raised}
 use Rattle.gaps.proofs.fill.fill_opposing.Statement.{statement}
 use Rattle.gaps.proofs.fill.fill_opposing.Tie as tie

@@ -7,10 +7,10 @@ use Rattle.laws.specs.Fold.{largest}
 use Rattle.job.specs.Model.{view}
 use Rattle.validity.specs.Ticks.{scheduleOf}
 use Rattle.orders.specs.Gaps.{serialGap}
-use Rattle.rows.specs.Raised.{Raised}
+use Rattle.origins.specs.Raised.{Raised}
 use Rattle.gaps.specs.Rules.{serialRow}
 use Rattle.gaps.proofs.Filled.{raised-none, raised-start, raised-more, raised-end, all-pairs}
-use Rattle.rows.proofs.Raised.{raised-is}
+use Rattle.origins.proofs.Raised.{raised-is}
 use Rattle.gaps.proofs.fill.fill_serial.Statement.{statement}
 use Rattle.gaps.proofs.fill.fill_serial.Tie as tie
 

@@ -7,7 +7,7 @@ use denote.Ref.{now}
 use Rattle.job.specs.Model.{view}
 use Rattle.validity.specs.Ticks.{scheduleOf}
 use Rattle.gaps.specs.Rules.{tieRow}
-use Rattle.rows.proofs.Raised.{raised-is}
+use Rattle.origins.proofs.Raised.{raised-is}
 use Rattle.gaps.proofs.Filled.{raised-then}
 use Rattle.gaps.proofs.Serial.{later-is, serial-row, serial-row-timed}
 use Rattle.gaps.proofs.fill.raise_serial.Statement.{statement}

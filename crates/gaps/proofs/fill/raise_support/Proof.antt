@@ -10,7 +10,7 @@ use Rattle.orders.specs.Gaps.{strictly}
 use Rattle.job.proofs.Clocked.{step-near, clocked-form}
 use Rattle.orders.proofs.Near.{from-near}
 use Rattle.gaps.proofs.Filled.{raised-none}
-use Rattle.rows.proofs.Raised.{raised-one}
+use Rattle.origins.proofs.Raised.{raised-one}
 use Rattle.links.proofs.LinkList.{condition-link}
 use Rattle.gaps.proofs.Supported.{support-none, support-order}
 use Rattle.gaps.proofs.fill.raise_support.Statement.{statement}

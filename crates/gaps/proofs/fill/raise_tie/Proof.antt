@@ -5,8 +5,8 @@ use borrow.Author.Needs.{needs}
 use denote.Ref.{now}
 use Rattle.job.specs.Model.{view}
 use Rattle.validity.specs.Ticks.{scheduleOf}
-use Rattle.rows.specs.Raised.{single}
-use Rattle.rows.proofs.Raised.{raised-one}
+use Rattle.origins.specs.Raised.{single}
+use Rattle.origins.proofs.Raised.{raised-one}
 use Rattle.gaps.proofs.Filled.{raised-none}
 use Rattle.gaps.proofs.Serial.{apart-none, together-gap}
 use Rattle.gaps.proofs.fill.raise_tie.Statement.{statement}

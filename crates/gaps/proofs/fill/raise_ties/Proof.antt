@@ -3,7 +3,7 @@ use Prim.Native.Nat.{_≤_, _-_}
 use Rattle.laws.specs.Fold.{largest}
 use Rattle.job.specs.Model.{view}
 use Rattle.validity.specs.Ticks.{scheduleOf}
-use Rattle.rows.specs.Raised.{single, Raised}
+use Rattle.origins.specs.Raised.{single, Raised}
 use Rattle.gaps.specs.Rules.{tieGap}
 use Rattle.gaps.proofs.Filled.{raised-start, raised-more, raised-end}
 use native.Mathlib.Omega.{arith}

@@ -8,8 +8,8 @@ use denote.Ref.{now}
 use Rattle.validity.specs.Ticks.{scheduleOf}
 use Rattle.order_file.specs.Table.{rowWidth}
 use Rattle.gaps.specs.Rules.{entryFrom}
-use Rattle.rows.specs.Points.{Rowed}
-use Rattle.rows.proofs.Row.{rowed-start, rowed-more, rowed-all}
+use Rattle.origins.specs.Points.{Rowed}
+use Rattle.origins.proofs.Row.{rowed-start, rowed-more, rowed-all}
 use Rattle.gaps.proofs.Serial.{entry-low, row-raised}
 use Rattle.gaps.proofs.fill.row_later.Statement.{statement}
 use Rattle.gaps.proofs.fill.row_later.Tie as tie

@@ -7,8 +7,8 @@ use denote.Ref.{now}
 use Rattle.laws.specs.Fold.{largest}
 use Rattle.validity.specs.Ticks.{scheduleOf}
 use Rattle.orders.specs.Gaps.{needGap}
-use Rattle.rows.specs.Points.{Reached, Among}
-use Rattle.rows.proofs.Reached.{within-up, within-all, within-empty}
+use Rattle.origins.specs.Points.{Reached, Among}
+use Rattle.origins.proofs.Reached.{within-up, within-all, within-empty}
 use Rattle.gaps.proofs.Filled.{raised-none}
 use Rattle.gaps.proofs.Rules.{given-group, given-between, NeedOrder, level-known, need-known, needs-raised}
 use Rattle.gaps.proofs.needs.fill_needs.Statement.{statement}

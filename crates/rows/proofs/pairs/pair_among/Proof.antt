@@ -7,8 +7,8 @@ use denote.Ref.{now}
 use Rattle.validity.specs.Ticks.{scheduleOf}
 use Rattle.order_file.specs.Table.{rowWidth}
 use Rattle.order_file.specs.Contents.{stepLimit}
-use Rattle.rows.specs.Points.{Group, Reached, Among, PointOrder}
-use Rattle.rows.proofs.Reached.{within-up, within-all, within-empty}
+use Rattle.origins.specs.Points.{Group, Reached, Among, PointOrder}
+use Rattle.origins.proofs.Reached.{within-up, within-all, within-empty}
 use Rattle.rows.proofs.Grouped.{group-from, group-notable, point-known, later-given}
 use Rattle.rows.proofs.pairs.pair_among.Statement.{statement}
 use Rattle.rows.proofs.pairs.pair_among.Tie as tie

@@ -7,8 +7,8 @@ use denote.Ref.{now}
 use Rattle.job.specs.Model.{view}
 use Rattle.validity.specs.Ticks.{scheduleOf}
 use Rattle.order_file.specs.Table.{rowWidth}
-use Rattle.rows.specs.Points.{Reached, Among, AroundCondition}
-use Rattle.rows.proofs.Reached.{within-up, within-all, within-empty}
+use Rattle.origins.specs.Points.{Reached, Among, AroundCondition}
+use Rattle.origins.proofs.Reached.{within-up, within-all, within-empty}
 use Rattle.rows.proofs.Grouped.{group-wide, group-notable, last-known, origin-wide}
 use Rattle.rows.proofs.Beside.{around-given, fact-paired}
 use Rattle.rows.proofs.pairs.pair_conditions.Statement.{statement}

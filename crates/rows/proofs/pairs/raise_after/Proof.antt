@@ -4,8 +4,8 @@ use mathlib.Core.Path.{refl}
 use native.Mathlib.Omega.{arith}
 use borrow.Author.Needs.{needs}
 use Rattle.order_file.specs.Table.{rowWidth}
-use Rattle.rows.specs.Points.{Ordering}
-use Rattle.rows.proofs.Reached.{within-up, within-all, within-empty}
+use Rattle.origins.specs.Points.{Ordering}
+use Rattle.origins.proofs.Reached.{within-up, within-all, within-empty}
 use Rattle.rows.proofs.Grouped.{group-notable}
 use Rattle.rows.proofs.pairs.raise_after.Statement.{statement}
 use Rattle.rows.proofs.pairs.raise_after.Tie as tie

@@ -5,8 +5,8 @@ use native.Mathlib.Omega.{arith}
 use borrow.Author.Needs.{needs}
 use Rattle.validity.specs.Ticks.{scheduleOf}
 use Rattle.order_file.specs.Table.{rowWidth}
-use Rattle.rows.specs.Points.{Reached, Around}
-use Rattle.rows.proofs.Reached.{within-up, within-all, within-empty}
+use Rattle.origins.specs.Points.{Reached, Around}
+use Rattle.origins.proofs.Reached.{within-up, within-all, within-empty}
 use Rattle.rows.proofs.Grouped.{group-notable}
 use Rattle.rows.proofs.pairs.raise_around.Statement.{statement}
 use Rattle.rows.proofs.pairs.raise_around.Tie as tie

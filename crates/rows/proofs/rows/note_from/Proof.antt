@@ -2,7 +2,7 @@
 use Prim.Native.Nat.{ℕ}
 use native.Mathlib.Omega.{arith}
 use borrow.Author.Needs.{needs}
-use Rattle.rows.specs.Points.{Noting}
+use Rattle.origins.specs.Points.{Noting}
 use Rattle.rows.proofs.Grouped.{group-notable, noting-found, noting-all, noting-more}
 use Rattle.rows.proofs.rows.note_from.Statement.{statement}
 use Rattle.rows.proofs.rows.note_from.Tie as tie

@@ -1,8 +1,8 @@
 -- Entry by entry.
 use Prim.Native.Nat.{_-_, _≤_}
 use native.Mathlib.Omega.{arith}
-use Rattle.rows.specs.Points.{dueAt, Rowed}
-use Rattle.rows.proofs.Row.{rowed-start, rowed-more, rowed-all, row-low}
+use Rattle.origins.specs.Points.{dueAt, Rowed}
+use Rattle.origins.proofs.Row.{rowed-start, rowed-more, rowed-all, row-low}
 use Rattle.rows.proofs.rows.raise_part.Statement.{statement}
 use Rattle.rows.proofs.rows.raise_part.Tie as tie
 

@@ -2,8 +2,8 @@
 use Prim.Native.Nat.{_-_, _≤_}
 use native.Mathlib.Omega.{arith}
 use Rattle.order_file.specs.Table.{rowWidth}
-use Rattle.rows.specs.Points.{dueAt, Rowed}
-use Rattle.rows.proofs.Row.{rowed-start, rowed-more, rowed-all, row-low}
+use Rattle.origins.specs.Points.{dueAt, Rowed}
+use Rattle.origins.proofs.Row.{rowed-start, rowed-more, rowed-all, row-low}
 use Rattle.rows.proofs.rows.raise_whole.Statement.{statement}
 use Rattle.rows.proofs.rows.raise_whole.Tie as tie
 

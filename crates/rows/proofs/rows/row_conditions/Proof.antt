@@ -5,8 +5,8 @@ use borrow.Author.Needs.{needs}
 use denote.Ref.{now}
 use Rattle.job.specs.Model.{view}
 use Rattle.validity.specs.Ticks.{scheduleOf}
-use Rattle.rows.specs.Points.{lastOrigin, Rowing}
-use Rattle.rows.proofs.Reached.{within-all}
+use Rattle.origins.specs.Points.{lastOrigin, Rowing}
+use Rattle.origins.proofs.Reached.{within-all}
 use Rattle.rows.proofs.Grouped.{last-known, rowing-start, rowing-noting, rowing-known, rowing-more}
 use Rattle.rows.proofs.rows.row_conditions.Statement.{statement}
 use Rattle.rows.proofs.rows.row_conditions.Tie as tie

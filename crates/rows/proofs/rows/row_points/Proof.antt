@@ -3,8 +3,8 @@ use mathlib.Core.Path.{refl}
 use native.Mathlib.Omega.{arith}
 use borrow.Author.Needs.{needs}
 use Rattle.validity.specs.Ticks.{scheduleOf}
-use Rattle.rows.specs.Points.{pointOrigin, Rowing}
-use Rattle.rows.proofs.Reached.{within-all}
+use Rattle.origins.specs.Points.{pointOrigin, Rowing}
+use Rattle.origins.proofs.Reached.{within-all}
 use Rattle.rows.proofs.Grouped.{group-notable, point-known, rowing-start, rowing-noting, rowing-known, rowing-more}
 use Rattle.rows.proofs.rows.row_points.Statement.{statement}
 use Rattle.rows.proofs.rows.row_points.Tie as tie

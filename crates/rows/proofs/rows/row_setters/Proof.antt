@@ -3,7 +3,7 @@ use mathlib.Core.Path.{refl}
 use native.Mathlib.Omega.{arith}
 use borrow.Author.Needs.{needs}
 use Rattle.validity.specs.Ticks.{scheduleOf}
-use Rattle.rows.proofs.Reached.{within-all}
+use Rattle.origins.proofs.Reached.{within-all}
 use Rattle.rows.proofs.Grouped.{group-notable, point-known}
 use Rattle.rows.proofs.Setters.{Setting, setting-start, setting-known, setting-more}
 use Rattle.rows.proofs.rows.row_setters.Statement.{statement}
