@@ -1,4 +1,4 @@
-//! The second program: the literal meaning of every rule of document 01 and of requests a) to e)
+//! The second program: the literal meaning of every rule of document 01 and of requests a) to f)
 //! of document 02, one function a rule, with made jobs and the answers expected of them.
 
 pub mod brute;
@@ -20,6 +20,7 @@ pub mod samples;
 pub mod setters;
 pub mod show;
 pub mod stored;
+pub mod stored_marked;
 pub mod stored_needs;
 pub mod stored_pairs;
 pub mod stored_texts;

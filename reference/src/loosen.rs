@@ -14,7 +14,7 @@ pub struct Loosened {
     pub length: usize,
 }
 
-/// Refusals 1 to 7, 17, 10 to 12, 21 and 13 to 15. A refusal changes no byte, and bytes past the
+/// Refusals 1 to 7, 17, 10 to 12, 21, 13 and 15. A refusal changes no byte, and bytes past the
 /// file's end stay.
 pub fn loosen(job: &[u8], buffer: &mut [u8]) -> Loosened {
     let written = loosen_into(job, buffer);

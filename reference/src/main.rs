@@ -24,7 +24,8 @@ reference brute N SEED         try at least N choices that obey the order files 
 reference show                 print what show prints of the job on standard input
 reference pddl ACTIONS PLAN    write the job of two PDDL texts to standard output
 reference sample NAME          write a sample job to standard output: paper, deck-resigned,
-                               fixed-restart, handsets, refused, longest; of edition 2: barriers,
+                               fixed-restart, handsets, refused, serial-mark,
+                               serial-mark-refused, longest; of edition 2: barriers,
                                longest-timed, longest-sheet; of edition 3: calibration,
                                longest-needs";
 

@@ -13,6 +13,7 @@ pub mod crowded;
 pub mod damage;
 pub mod edges;
 pub mod highest;
+pub mod marked;
 pub mod near_miss;
 pub mod need_edges;
 pub mod need_nudges;

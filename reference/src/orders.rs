@@ -1,4 +1,4 @@
-//! Orders from a sound job: links, the five rules, rounds.
+//! Orders from a sound job: links, the four rules, rounds.
 
 use std::collections::BTreeMap;
 
@@ -6,7 +6,6 @@ use crate::job::{Condition, Effect, Job, Need, Use};
 use crate::limits::{earliest_limit, latest_start};
 use crate::order_file::{Link, Order, OrderFile, Window};
 use crate::setters::{setters, Setter};
-use crate::timing::finishes_in_time;
 
 /// What a sound job is loosened to.
 pub fn orders_of(job: &Job) -> OrderFile {
@@ -19,7 +18,6 @@ pub fn orders_of(job: &Job) -> OrderFile {
             condition_orders(job, &starts),
             level_orders(job, &starts),
             need_orders(job, &starts),
-            serial_orders(job, &starts),
         ]
         .concat(),
     );
@@ -112,7 +110,7 @@ fn support_orders(job: &Job, links: &[Link]) -> Vec<Order> {
 }
 
 // ---------------------------------------------------------------------------------------------
-// Rules 2 to 5
+// Rules 2 to 4
 
 /// Rule 2: opposing effects are ordered as they lie.
 fn opposing_effects_orders(job: &Job, starts: &[i64]) -> Vec<Order> {
@@ -170,26 +168,6 @@ fn need_orders(job: &Job, starts: &[i64]) -> Vec<Order> {
             }
             if used.tick(starts) < need.tick(starts) {
                 order(&mut orders, Point::of_use(used), Point::of_need(need));
-            }
-        }
-    }
-    orders
-}
-
-/// Rule 5: in a serial job the step that finishes no later than the other starts is first, gap
-/// its length; if that holds both ways, the lower step.
-fn serial_orders(job: &Job, starts: &[i64]) -> Vec<Order> {
-    let mut orders = Vec::new();
-    if job.serial != 1 {
-        return orders;
-    }
-    for first in 0..job.steps.len() {
-        for second in 0..job.steps.len() {
-            let forth = finishes_in_time(job, starts, first, second);
-            let back = finishes_in_time(job, starts, second, first);
-            if first != second && forth && (!back || first < second) {
-                let gap = job.steps[first].length;
-                orders.push(Order { first, second, gap });
             }
         }
     }

@@ -11,6 +11,8 @@ pub fn sample(name: &str) -> Option<Job> {
         "fixed-restart" => Some(fixed_restart()),
         "handsets" => Some(handsets()),
         "refused" => Some(refused()),
+        "serial-mark" => Some(handsets().serial()),
+        "serial-mark-refused" => Some(refused().serial()),
         "longest" => Some(highest_job(1, 256)),
         "barriers" => Some(barriers()),
         "longest-timed" => Some(highest_timed_job(1, 256)),
@@ -29,12 +31,14 @@ pub fn stored_samples() -> Vec<&'static str> {
 }
 
 /// Those of edition 1 made by hand.
-pub const SAMPLES: [&str; 5] = [
+pub const SAMPLES: [&str; 7] = [
     "paper",
     "deck-resigned",
     "fixed-restart",
     "handsets",
     "refused",
+    "serial-mark",
+    "serial-mark-refused",
 ];
 
 /// A deck gets new signs at night and is open again by six, minute 360.

@@ -1,12 +1,22 @@
 //! What program `show` prints of a job.
 
+use crate::bytes::u16_at;
+use crate::job::SERIAL_AT;
 use crate::loosen::order_file_of;
 use crate::order_file::OrderFile;
 
 pub fn show(job: &[u8]) -> String {
     match order_file_of(job) {
-        Ok(file) => sheet(&file),
+        Ok(file) => mark_line(job).to_string() + &sheet(&file),
         Err(refusal) => format!("refused {} place {}\n", refusal.number, refusal.place),
+    }
+}
+
+/// What comes before an accepted job's first line.
+fn mark_line(job: &[u8]) -> &'static str {
+    match u16_at(job, SERIAL_AT) {
+        0 => "",
+        _ => "serial mark ignored\n",
     }
 }
 

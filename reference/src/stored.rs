@@ -19,6 +19,7 @@ use crate::make::{checking_order, damage, ranges};
 use crate::order_file::OrderFile;
 use crate::random::Random;
 use crate::samples::{sample, SAMPLES};
+use crate::stored_marked;
 use crate::stored_needs;
 use crate::stored_pairs;
 use crate::stored_texts;
@@ -48,6 +49,7 @@ pub fn stored_cases(command: char) -> Vec<Case> {
     let mut cases = cases_of_edition_1(command);
     cases.extend(stored_timed::cases_of_edition_2(command));
     cases.extend(stored_needs::cases_of_edition_3(command));
+    cases.extend(stored_marked::cases(command));
     cases
 }
 
@@ -131,7 +133,7 @@ fn job_check_cases() -> Vec<Case> {
     jobs.push(highest_job(2, 8));
     jobs.extend(last_record_of_a_highest_job_fails());
     let mut random = Random::seeded(10);
-    for number in 10..=14 {
+    for number in 10..=13 {
         jobs.extend((0..40).map(|_| near_miss(&mut random, 1, number)));
     }
     let files = [checking_order::pairs_of_refusals(1), to_files(jobs)].concat();
@@ -163,7 +165,7 @@ fn timing_cases() -> Vec<Case> {
     cases.extend(broken.map(|file| Case::timing(file, &[0])));
     cases.extend(lists_too_long());
     let mut random = Random::seeded(14);
-    for number in 10..=14 {
+    for number in 10..=13 {
         let missed = (0..25).map(|_| near_miss(&mut random, 1, number));
         cases.extend(missed.map(|job| at_written_starts(&job)));
     }
@@ -241,7 +243,7 @@ fn loosening_cases() -> Vec<Case> {
 fn long_buffers() -> Vec<Case> {
     let mut random = Random::seeded(17);
     let mut jobs = vec![empty_job(), small_job()];
-    jobs.extend((10..=14).map(|number| near_miss(&mut random, 1, number)));
+    jobs.extend((10..=13).map(|number| near_miss(&mut random, 1, number)));
     let mut cases = Vec::new();
     for file in [to_files(jobs), checking_order::one_of_each(1)].concat() {
         let length = length_for(&file);

@@ -1,4 +1,4 @@
-//! When a timing is sound: refusals 8 to 14 and 21, and the state a timing ends with.
+//! When a timing is sound: refusals 8 to 13 and 21, and the state a timing ends with.
 //!
 //! A timing is a start for each step. What holds "at each tick" is looked at only where it can
 //! change; a test compares this with looking at every tick.
@@ -8,13 +8,13 @@ use crate::refusal::{refuse_at, refuse_if, Verdict};
 use crate::setters::setters;
 use crate::well_formed::well_formed;
 
-/// The job check: 1 to 7 and 17, then 10 to 14 with 21 on the written starts.
+/// The job check: 1 to 7 and 17, then 10 to 13 with 21 on the written starts.
 pub fn check_job(file: &[u8]) -> Verdict {
     let job = well_formed(file)?;
     sound(&job, &job.written_starts())
 }
 
-/// The timing check: 1 to 7 and 17, then 8 to 14 with 21.
+/// The timing check: 1 to 7 and 17, then 8 to 13 with 21.
 pub fn check_timing(file: &[u8], starts: &[u32]) -> Verdict {
     let job = well_formed(file)?;
     refuse_if(8, starts.len() != job.steps.len())?;
@@ -23,14 +23,13 @@ pub fn check_timing(file: &[u8], starts: &[u32]) -> Verdict {
     sound(&job, &starts)
 }
 
-/// Refusals 10 to 12, 21, 13 and 14.
+/// Refusals 10 to 12, 21 and 13.
 pub fn sound(job: &Job, starts: &[i64]) -> Verdict {
     refuse_at(10, first_meeting_effect(job, starts))?;
     refuse_at(11, first_failing_condition(job, starts))?;
     refuse_at(12, first_level_past_a_bound(job, starts))?;
     refuse_at(21, first_unmet_need(job, starts))?;
-    refuse_at(13, first_failing_goal(job, starts))?;
-    refuse_at(14, first_overlapping_step(job, starts))
+    refuse_at(13, first_failing_goal(job, starts))
 }
 
 // ---------------------------------------------------------------------------------------------
@@ -188,22 +187,6 @@ fn late(job: &Job, starts: &[i64], goal: &Goal) -> bool {
     let opposed = |tick| value_seen(job, starts, goal.fact, tick) != goal.value;
     opposed(deadline + 1)
         || changes(job, starts, goal.fact).any(|tick| tick > deadline && opposed(tick))
-}
-
-/// Refusal 14.
-fn first_overlapping_step(job: &Job, starts: &[i64]) -> Option<usize> {
-    let steps = 0..job.steps.len();
-    let overlap = |a, b| {
-        a != b && !finishes_in_time(job, starts, a, b) && !finishes_in_time(job, starts, b, a)
-    };
-    steps
-        .clone()
-        .find(|&a| job.serial == 1 && steps.clone().any(|b| overlap(a, b)))
-}
-
-/// The first step finishes no later than the second starts.
-pub fn finishes_in_time(job: &Job, starts: &[i64], first: usize, second: usize) -> bool {
-    starts[first] + job.steps[first].length <= starts[second]
 }
 
 // ---------------------------------------------------------------------------------------------

@@ -83,7 +83,7 @@ const RIGHT: Rules = Rules {
     counts: |two| two.earlier() || (two.now() && !two.of_one_step() && two.is_fall()),
     orders: |two| !two.of_one_step() && !two.now(),
     gap: |first, second| first - second + 1,
-    refused: |_, unmet, rest| before(&[13, 14], refusal(21, unmet.first()), rest),
+    refused: |_, unmet, rest| before(&[13], refusal(21, unmet.first()), rest),
 };
 
 fn refusal(number: u16, place: Option<&usize>) -> Option<Refused> {
@@ -239,7 +239,7 @@ fn as_a_fall(job: &Job, unmet: &[usize], rest: Option<Refused>) -> Option<Refuse
     let refused = refusal(12, levels.min().as_ref());
     match rest {
         Some((12, _)) => rest.min(refused.or(rest)),
-        _ => before(&[13, 14], refused, rest),
+        _ => before(&[13], refused, rest),
     }
 }
 
@@ -249,18 +249,14 @@ fn about_when_it_is_refused() -> Vec<Mistake> {
         ("a fall under 12", refused(as_a_fall)),
         (
             "before 12",
-            refused(|_, unmet, rest| before(&[12, 13, 14], refusal(21, unmet.first()), rest)),
+            refused(|_, unmet, rest| before(&[12, 13], refusal(21, unmet.first()), rest)),
         ),
         (
             "before 11",
-            refused(|_, unmet, rest| before(&[11, 12, 13, 14], refusal(21, unmet.first()), rest)),
+            refused(|_, unmet, rest| before(&[11, 12, 13], refusal(21, unmet.first()), rest)),
         ),
         (
             "after 13",
-            refused(|_, unmet, rest| before(&[14], refusal(21, unmet.first()), rest)),
-        ),
-        (
-            "after 14",
             refused(|_, unmet, rest| before(&[], refusal(21, unmet.first()), rest)),
         ),
         ("never", refused(|_, _, rest| rest)),
@@ -272,7 +268,7 @@ fn about_the_place() -> Vec<Mistake> {
     vec![
         (
             "the highest unmet need",
-            refused(|_, unmet, rest| before(&[13, 14], refusal(21, unmet.last()), rest)),
+            refused(|_, unmet, rest| before(&[13], refusal(21, unmet.last()), rest)),
         ),
         (
             "the first unmet need by tick",
@@ -281,14 +277,14 @@ fn about_the_place() -> Vec<Mistake> {
                 let first = unmet
                     .iter()
                     .min_by_key(|&&number| job.needs[number].tick(&starts));
-                before(&[13, 14], refusal(21, first), rest)
+                before(&[13], refusal(21, first), rest)
             }),
         ),
         (
             "the level of the unmet need",
             refused(|job, unmet, rest| {
                 let level = unmet.first().map(|&number| job.needs[number].level);
-                before(&[13, 14], refusal(21, level.as_ref()), rest)
+                before(&[13], refusal(21, level.as_ref()), rest)
             }),
         ),
     ]

@@ -285,8 +285,6 @@ fn unmet_needs_come_after_12_and_before_13() {
         (12, 0),
         not,
         not,
-        not,
-        not,
         (10, 0),
     ];
     assert_eq!(checked(need_edges::unmet_and_more()), expected);
@@ -299,7 +297,6 @@ fn unmet_needs_come_after_12_and_before_13() {
         (12, 0),
         GOOD,
         (13, 0),
-        (14, 0),
     ];
     assert_eq!(checked(need_edges::met_and_refused()), expected);
 }
@@ -330,9 +327,6 @@ fn timings_around_needs() {
         (12, 0),
         last,
         (13, 1),
-        last,
-        last,
-        (14, 0),
     ];
     let past = [GOOD, GOOD, not, GOOD, GOOD, GOOD, not, GOOD];
     let expected = [&fall[..], &rise, &calibration, &written, &beside, &past].concat();

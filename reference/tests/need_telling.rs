@@ -49,7 +49,7 @@ fn choices_that_obey_their_files_are_sound_and_end_alike() {
             try_anywhere(&job, &mut random, &mut tried).unwrap_or_else(|broken| panic!("{broken}"));
         }
     }
-    assert_eq!(tried.choices, 33 * 5 * 60);
+    assert_eq!(tried.choices, 32 * 5 * 60);
 }
 
 #[test]
@@ -124,8 +124,6 @@ fn the_largest_gap_of_all_rules_stays() {
     // Support alone would give 9 and 3, the needs alone 4 and 9.
     let job = support_beside_a_need;
     assert_eq!(orders(job()), [(0, 1, 9), (0, 2, 6), (1, 2, 9)]);
-    // The length of the first step is 4.
-    assert_eq!(orders(serial_beside_a_need()), [(0, 1, 5)]);
     // Met whatever the timing, and ordered nevertheless; the uses alone would give 1.
     assert_eq!(orders(needs_below_the_bounds()), [(0, 1, 4)]);
 }

@@ -2,6 +2,7 @@
 
 use reference::job::Job;
 use reference::loosen::{loosen, order_file_of};
+use reference::make::marked::{steps_that_overlap_by_one, steps_that_touch};
 use reference::make::telling::small_job;
 use reference::order_file::Link;
 use reference::show::show;
@@ -138,16 +139,15 @@ step 1 earliest 0 latest none
 }
 
 #[test]
-fn serial_steps() {
-    let job = |second| Job::default().serial().step(0, 5).step(second, 2);
+fn the_serial_mark() {
     let sheet = "\
-steps 2 rounds 2
+serial mark ignored
+steps 2 rounds 1
 step 0 earliest 0 latest none
-step 1 earliest 5 latest none
-order 0 1 5
+step 1 earliest 0 latest none
 ";
-    assert_eq!(shown(&job(5)), sheet);
-    assert_eq!(shown(&job(4)), "refused 14 place 0\n");
+    assert_eq!(shown(&steps_that_touch()), sheet);
+    assert_eq!(shown(&steps_that_overlap_by_one()), sheet);
 }
 
 #[test]

@@ -121,29 +121,6 @@ fn rule_4_alone() {
 }
 
 #[test]
-fn rule_5_alone() {
-    let pairs = [(1, 0, 5), (1, 2, 5), (2, 0, 2)];
-    assert_eq!(orders(serial_orders_every_pair()), pairs);
-    assert_eq!(orders(apart_but_not_serial()), []);
-    let ties = [
-        (0, 2, 0),
-        (0, 3, 0),
-        (1, 0, 3),
-        (1, 2, 3),
-        (1, 3, 3),
-        (2, 3, 0),
-    ];
-    assert_eq!(orders(serial_steps_of_no_length_at_one_tick()), ties);
-    // The lower step first would give (0, 1, 3).
-    let job = serial_step_of_no_length_where_a_lower_one_starts();
-    assert_eq!(orders(job), [(1, 0, 0)]);
-    let job = serial_step_of_no_length_where_a_higher_one_ends();
-    assert_eq!(orders(job), [(1, 0, 3)]);
-    assert_eq!(orders(serial_with_a_larger_gap_of_support()), [(0, 1, 6)]);
-    assert_eq!(orders(serial_with_a_smaller_gap_of_support()), [(0, 1, 5)]);
-}
-
-#[test]
 fn no_step_is_skipped_and_orders_are_filed_by_first() {
     let filed = [(1, 0, 3), (2, 0, 1), (2, 1, 3), (3, 0, 1), (3, 2, 3)];
     assert_eq!(orders(orders_of_every_step()), filed);

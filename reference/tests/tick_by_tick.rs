@@ -85,11 +85,7 @@ fn sound_tick_by_tick(job: &Job, starts: &[i64]) -> Verdict {
         end != goal.value
             || (due..ticks().end).any(|tick| course.seen[tick][goal.fact] != goal.value)
     };
-    refuse_at(13, (0..job.goals.len()).find(missed))?;
-    refuse_at(
-        14,
-        (0..job.steps.len()).find(|&step| job.serial == 1 && overlapped(job, starts, step)),
-    )
+    refuse_at(13, (0..job.goals.len()).find(missed))
 }
 
 fn set_by_the_clock(job: &Job, tick: i64, fact: usize, value: u16) -> bool {
@@ -133,13 +129,6 @@ fn unmet(job: &Job, starts: &[i64], course: &Course, need: &Need) -> bool {
         }
     }
     left < need.least
-}
-
-fn overlapped(job: &Job, starts: &[i64], step: usize) -> bool {
-    let end = |step: usize| starts[step] + job.steps[step].length;
-    (0..job.steps.len())
-        .filter(|&other| other != step)
-        .any(|other| end(step) > starts[other] && end(other) > starts[step])
 }
 
 #[test]
@@ -187,7 +176,7 @@ fn agrees_on_jobs_of(edition: u16) -> BTreeMap<u16, usize> {
         }
         *counts.entry(number_and_place(&verdict).0).or_default() += 1;
     }
-    for number in [0, 10, 11, 12, 13, 14] {
+    for number in [0, 10, 11, 12, 13] {
         assert!(counts.get(&number) > Some(&100), "{number}: {counts:?}");
     }
     counts

@@ -68,23 +68,18 @@ fn without_the_clock(job: &Job, mut file: OrderFile) -> OrderFile {
     file
 }
 
-fn well_formed_without_serial_steps(job: &Job) -> bool {
-    job.serial == 0 && well_formed(&job.to_file()).is_ok()
-}
-
 #[test]
 fn sound_timings_and_end_states_agree() {
     let mut random = Random::seeded(31);
     let mut counts: BTreeMap<u16, usize> = BTreeMap::new();
     for round in 0..20_000 {
-        let mut job = match round % 2 {
+        let job = match round % 2 {
             0 => some_sound_job(&mut random, 2),
             _ => scribbled_job(&mut random, 2),
         };
-        job.serial = 0;
         let starts = some_starts(&mut random, &job);
         let starts: Vec<i64> = starts.into_iter().map(i64::from).collect();
-        if !well_formed_without_serial_steps(&job) || starts.len() != job.steps.len() {
+        if well_formed(&job.to_file()).is_err() || starts.len() != job.steps.len() {
             continue;
         }
         let fixed = with_fixed_steps(&job);
@@ -108,7 +103,7 @@ fn order_files_agree() {
     while compared < 5_000 {
         let job = some_sound_job(&mut random, 2);
         let ticks = ticks_of_the_clock(&job);
-        if job.serial == 1 || ticks.iter().any(|&tick| tick > 1_000_000) {
+        if ticks.iter().any(|&tick| tick > 1_000_000) {
             continue;
         }
         let file = orders_of(&job);

@@ -203,7 +203,7 @@ fn two_timed_facts_both_ways() {
 fn both_ways_comes_after_7_and_before_8() {
     let more = checked(timed_edges::both_ways_and_more());
     assert_eq!(more[..3], [(6, 0), (6, 2), (7, 0)]);
-    assert_eq!(more[3..], [(17, 0); 6]);
+    assert_eq!(more[3..], [(17, 0); 5]);
     let timings = timings();
     assert_eq!(timings[..5], [(17, 0); 5]);
 }

@@ -60,7 +60,7 @@ fn choices_that_obey_their_files_are_sound_and_end_alike() {
             try_anywhere(&job, &mut random, &mut tried).unwrap_or_else(|broken| panic!("{broken}"));
         }
     }
-    assert_eq!(tried.choices, 47 * 5 * 60);
+    assert_eq!(tried.choices, 46 * 5 * 60);
 }
 
 #[test]
@@ -80,9 +80,6 @@ fn the_clock_is_no_step() {
     let job = timed_facts_without_steps;
     assert_eq!(show(&job().to_file()), "steps 0 rounds 0\n");
     assert_eq!(links(job()), [512]);
-    let job = timed_fact_during_a_serial_step;
-    assert_eq!(orders(job()), [(0, 1, 5)]);
-    assert_eq!((limits(job()), latest(job())), (vec![0, 0], vec![-1, -1]));
 }
 
 #[test]

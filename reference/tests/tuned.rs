@@ -13,6 +13,7 @@ use reference::make::highest::{
     chain_of_all_steps, every_pair_ordered_both_ways, highest_job, highest_needs_job,
     highest_timed_job,
 };
+use reference::make::marked::{marked_and_refused, marked_telling_jobs};
 use reference::make::near_miss::{near_miss, nearly_missed};
 use reference::make::need_edges::need_edges;
 use reference::make::need_telling::{largest_needs, need_telling_jobs};
@@ -59,6 +60,8 @@ fn on_jobs_that_tell_and_jobs_at_the_edges() {
     compare_all(&timed_edges());
     compare_all(&need_edges());
     compare_all(&own_conflicts());
+    compare_all(marked_telling_jobs().iter().map(|(_, job)| job));
+    compare_all(&marked_and_refused());
 }
 
 #[test]
@@ -114,7 +117,7 @@ fn on_jobs_crowded_into_few_ticks() {
             edition: 3,
             timed: random.pick(&[0, 64]),
             needs: random.pick(&[0, 100]),
-            serial: false,
+            serial: random.chance(30),
             facts: 1 + number % 2,
             levels: 1,
             steps: 12,

@@ -14,16 +14,9 @@ pub enum Spread {
     EightFacts,
     /// All records on one fact and one level, so all meet.
     OneFact,
-    /// Eight facts, and every two steps ordered.
-    Serial,
 }
 
-pub const SPREADS: [Spread; 4] = [
-    Spread::ManyFacts,
-    Spread::EightFacts,
-    Spread::OneFact,
-    Spread::Serial,
-];
+pub const SPREADS: [Spread; 3] = [Spread::ManyFacts, Spread::EightFacts, Spread::OneFact];
 
 impl Spread {
     pub fn name(self) -> &'static str {
@@ -31,14 +24,13 @@ impl Spread {
             Spread::ManyFacts => "many facts",
             Spread::EightFacts => "eight facts",
             Spread::OneFact => "one fact",
-            Spread::Serial => "serial",
         }
     }
 
     fn facts(self, steps: usize) -> usize {
         match self {
             Spread::ManyFacts => steps * HIGHEST[0] / HIGHEST[2],
-            Spread::EightFacts | Spread::Serial => 8,
+            Spread::EightFacts => 8,
             Spread::OneFact => 1,
         }
     }
@@ -91,7 +83,7 @@ fn shape(spread: Spread, steps: usize) -> Shape {
     let share = |table: usize| steps * HIGHEST[table] / HIGHEST[2];
     Shape {
         edition: 1,
-        serial: spread == Spread::Serial,
+        serial: false,
         facts: spread.facts(steps),
         levels: spread.levels(steps),
         steps,

@@ -35,6 +35,7 @@ fn crowd(random: &mut Random, edition: u16) -> Job {
     let steps = 1 + random.below(4);
     let mut job = Job {
         edition,
+        serial: u16::from(random.chance(30)),
         facts: vec![0; facts],
         steps: (0..steps).map(|_| step(random, length)).collect(),
         ..Job::default()

@@ -1,4 +1,4 @@
-//! Jobs at the edge of the refusals 10 to 14, on either side of it.
+//! Jobs at the edge of the refusals 10 to 13, on either side of it.
 
 use crate::job::Job;
 use crate::make::telling::small_job;
@@ -176,27 +176,6 @@ pub fn goals_that_fail() -> Vec<Job> {
     ]
 }
 
-/// Serial steps that touch, overlap by one, hold a step of no length at every place.
-pub fn serial_steps() -> Vec<Job> {
-    let lengths = |second| Job::default().serial().step(0, 5).step(second, 2);
-    let no_length = |tick| Job::default().serial().step(2, 3).step(tick, 0);
-    let mut jobs = Vec::new();
-    jobs.extend((3..=6).map(lengths));
-    jobs.extend((1..=6).map(no_length));
-    jobs.push(Job::default().serial().step(3, 0).step(3, 0));
-    jobs.push(Job::default().serial().step(3, 1).step(3, 1));
-    jobs.push(Job::default().step(3, 1).step(3, 1));
-    jobs.push(
-        Job::default()
-            .serial()
-            .step(90, 5)
-            .step(0, 1)
-            .step(40, 9)
-            .step(48, 2),
-    );
-    jobs
-}
-
 /// Opposing effects at one tick, near it, of one value, on two facts.
 pub fn meeting_effects() -> Vec<Job> {
     let job = |tick, value| {
@@ -250,13 +229,6 @@ pub fn lowest_places() -> Vec<Job> {
             .uses(1, 1, 0, 2),
         quiet().goal(0, 0).goal(1, 1).goal_by(2, 1, 3),
         quiet().goal(0, 0).goal_by(2, 1, 3).goal(1, 1),
-        Job::default()
-            .serial()
-            .step(50, 1)
-            .step(10, 4)
-            .step(0, 3)
-            .step(2, 2)
-            .step(13, 9),
     ]
 }
 
@@ -266,7 +238,6 @@ pub fn lower_number_first() -> Vec<Job> {
     let fail = |job: Job| job.condition(0, 0, 0, 0, 1);
     let pass = |job: Job| job.level(0, 0, 1).uses(1, 0, 0, 2);
     let miss = |job: Job| job.goal(0, 1);
-    let clash = |job: Job| job.serial();
     let apart = || {
         Job::with_facts(&[0, 0])
             .step(0, 3)
@@ -278,12 +249,9 @@ pub fn lower_number_first() -> Vec<Job> {
         meet(fail(apart())),
         fail(pass(apart())),
         pass(miss(apart())),
-        miss(clash(apart())),
-        meet(clash(apart())),
-        clash(apart()),
         meet(pass(apart())),
         fail(miss(apart())),
-        pass(clash(apart())),
+        meet(miss(apart())),
     ]
 }
 
@@ -300,7 +268,6 @@ pub fn edges() -> Vec<Job> {
         deadlines_around_the_effect(),
         goal_lost_and_regained(),
         goals_that_fail(),
-        serial_steps(),
         meeting_effects(),
         lowest_places(),
         lower_number_first(),

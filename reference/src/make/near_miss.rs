@@ -1,4 +1,4 @@
-//! Jobs that would be sound but for one nudge, for each of the refusals 10 to 14, 17 and 21.
+//! Jobs that would be sound but for one nudge, for each of the refusals 10 to 13, 17 and 21.
 
 use crate::job::Job;
 use crate::make::need_nudges::nudge_a_need;
@@ -9,7 +9,7 @@ use crate::timing::check_job;
 
 /// The refusals that a job of an edition can nearly miss.
 pub fn nearly_missed(edition: u16) -> Vec<u16> {
-    let mut numbers: Vec<u16> = (10..=14).collect();
+    let mut numbers: Vec<u16> = (10..=13).collect();
     if edition > 1 {
         numbers.push(17);
     }
@@ -24,7 +24,6 @@ pub fn near_miss(random: &mut Random, edition: u16, number: u16) -> Job {
     loop {
         let shape = Shape {
             steps: 2 + random.below(5),
-            serial: number == 14 || random.chance(20),
             ..Shape::small(random)
         };
         let shape = shape.in_edition(random, edition);

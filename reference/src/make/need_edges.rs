@@ -220,7 +220,7 @@ pub fn one_of_128_at_the_tick_of_all_uses() -> Vec<Job> {
 // ---------------------------------------------------------------------------------------------
 // Beside other refusals
 
-/// An unmet need beside what comes before 21: 6, 7, 17, 10, 11 and 12; and after it: 13 and 14.
+/// An unmet need beside what comes before 21: 6, 7, 17, 10, 11 and 12; and after it: 13.
 pub fn unmet_and_more() -> Vec<Job> {
     let job = || {
         Job::with_facts(&[0, 0])
@@ -241,8 +241,6 @@ pub fn unmet_and_more() -> Vec<Job> {
         job().uses(0, 0, 3, -3),
         job().goal(0, 1),
         job().goal_by(0, 0, 3).goal_by(1, 1, 3),
-        job().serial(),
-        job().serial().goal(1, 1),
         job().effect(0, 0, 2, 1).timed(0, 7, 0),
     ]
 }
@@ -266,7 +264,6 @@ pub fn met_and_refused() -> Vec<Job> {
         job().uses(0, 0, 3, 1),
         job().uses(0, 0, 2, -1),
         job().goal(0, 1),
-        job().serial(),
     ]
 }
 

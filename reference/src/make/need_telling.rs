@@ -231,16 +231,6 @@ pub fn support_beside_a_need() -> Job {
         .need(1, 0, 9, 4)
 }
 
-pub fn serial_beside_a_need() -> Job {
-    Job::default()
-        .serial()
-        .level(5, 0, 9)
-        .step(10, 4)
-        .step(20, 9)
-        .uses(1, 0, 0, -1)
-        .need(0, 0, 4, 5)
-}
-
 // ---------------------------------------------------------------------------------------------
 // What is met just so
 
@@ -424,7 +414,6 @@ fn of_gaps() -> Vec<(&'static str, Job)> {
         need_nearer_than_the_use,
         use_nearer_than_the_need,
         support_beside_a_need,
-        serial_beside_a_need,
     ]
 }
 

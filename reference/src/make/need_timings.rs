@@ -90,7 +90,7 @@ fn written_starts_do_not_matter() -> Vec<Timed> {
     vec![(unmet.clone(), vec![0, 31, 52]), (unmet, vec![0, 10, 56])]
 }
 
-/// 8 and 9 come before 21, 12 too, 13 and 14 after it.
+/// 8 and 9 come before 21, 12 too, 13 after it.
 fn unmet_beside_other_refusals() -> Vec<Timed> {
     let job = || {
         Job::with_facts(&[0])
@@ -105,7 +105,6 @@ fn unmet_beside_other_refusals() -> Vec<Timed> {
     };
     let taking_more = || job().uses(1, 0, 5, -1);
     let failing = || job().goal(0, 0);
-    let serial = || job().serial();
     vec![
         (job(), vec![12, 9]),
         (job(), vec![8, 9]),
@@ -119,9 +118,6 @@ fn unmet_beside_other_refusals() -> Vec<Timed> {
         (taking_more(), vec![8, 9]),
         (failing(), vec![7, 9]),
         (failing(), vec![8, 9]),
-        (serial(), vec![0, 9]),
-        (serial(), vec![6, 9]),
-        (serial(), vec![8, 9]),
     ]
 }
 

@@ -204,26 +204,13 @@ fn point(random: &mut Random, length: i64) -> i64 {
 }
 
 fn steps(random: &mut Random, shape: &Shape) -> Vec<Step> {
-    let mut steps = Vec::new();
-    let mut free = 0;
-    for _ in 0..shape.steps {
-        let length = point(random, shape.longest);
-        let start = if shape.serial {
-            free + random.pick(&[0, 0, 1, 3])
-        } else {
-            point(random, shape.last_start)
-        };
-        if start > 1_000_000 {
-            break;
-        }
-        free = start + length;
-        let fixed = u16::from(random.chance(shape.fixed_percent));
-        steps.push(Step {
-            start,
-            length,
-            fixed,
-        });
-    }
+    let mut steps: Vec<Step> = (0..shape.steps)
+        .map(|_| Step {
+            length: point(random, shape.longest),
+            start: point(random, shape.last_start),
+            fixed: u16::from(random.chance(shape.fixed_percent)),
+        })
+        .collect();
     random.shuffle(&mut steps);
     steps
 }

@@ -213,7 +213,7 @@ pub fn ordered_both_ways() -> Job {
 }
 
 // ---------------------------------------------------------------------------------------------
-// Rules 2 to 5, each the only cause of an order
+// Rules 2 to 4, each the only cause of an order
 
 pub fn only_opposing_effects_order() -> Job {
     Job::with_facts(&[0])
@@ -343,54 +343,6 @@ pub fn uses_of_two_levels_are_not_ordered() -> Job {
         .step(5, 1)
         .uses(0, 0, 1, 1)
         .uses(1, 1, 0, 1)
-}
-
-/// The gap is the length of the first, though it started long before.
-pub fn serial_orders_every_pair() -> Job {
-    Job::default().serial().step(20, 4).step(0, 5).step(9, 2)
-}
-
-pub fn apart_but_not_serial() -> Job {
-    Job::default().step(20, 4).step(0, 5).step(9, 2)
-}
-
-/// Both ways: the lower step is first.
-pub fn serial_steps_of_no_length_at_one_tick() -> Job {
-    Job::default()
-        .serial()
-        .step(6, 0)
-        .step(2, 3)
-        .step(6, 0)
-        .step(6, 0)
-}
-
-/// Only one way, against the step numbers.
-pub fn serial_step_of_no_length_where_a_lower_one_starts() -> Job {
-    Job::default().serial().step(5, 3).step(5, 0)
-}
-
-pub fn serial_step_of_no_length_where_a_higher_one_ends() -> Job {
-    Job::default().serial().step(5, 0).step(2, 3)
-}
-
-/// A strict order of points asks for more than the serial one.
-pub fn serial_with_a_larger_gap_of_support() -> Job {
-    Job::with_facts(&[0])
-        .serial()
-        .step(0, 5)
-        .step(6, 2)
-        .condition(1, 0, 0, 0, 1)
-        .effect(0, 0, 5, 1)
-}
-
-/// The serial order asks for more than that of points.
-pub fn serial_with_a_smaller_gap_of_support() -> Job {
-    Job::with_facts(&[0])
-        .serial()
-        .step(0, 5)
-        .step(6, 2)
-        .condition(1, 0, 2, 2, 1)
-        .effect(0, 0, 1, 1)
 }
 
 /// No step's orders may be skipped, nor filed by second.
@@ -620,13 +572,6 @@ pub fn telling_jobs() -> Vec<(&'static str, Job)> {
         uses_at_one_tick_get_no_order,
         rise_and_fall_at_one_tick_with_room,
         uses_of_two_levels_are_not_ordered,
-        serial_orders_every_pair,
-        apart_but_not_serial,
-        serial_steps_of_no_length_at_one_tick,
-        serial_step_of_no_length_where_a_lower_one_starts,
-        serial_step_of_no_length_where_a_higher_one_ends,
-        serial_with_a_larger_gap_of_support,
-        serial_with_a_smaller_gap_of_support,
         orders_of_every_step,
         fixed_step_supports,
         fixed_step_is_supported,

@@ -64,7 +64,6 @@ pub fn both_ways_and_more() -> Vec<Job> {
         facts().condition(0, 1, 0, 0, 1),
         facts().uses(0, 0, 0, 2),
         facts().goal(1, 1),
-        facts().serial(),
     ]
 }
 

@@ -15,15 +15,6 @@ pub fn timed_facts_without_steps() -> Job {
     Job::with_facts(&[0]).timed(0, 5, 1).goal_by(0, 1, 5)
 }
 
-/// Nor does it overlap the steps of a serial job.
-pub fn timed_fact_during_a_serial_step() -> Job {
-    Job::with_facts(&[0])
-        .serial()
-        .step(0, 5)
-        .step(5, 2)
-        .timed(0, 3, 1)
-}
-
 // ---------------------------------------------------------------------------------------------
 // Rule 1: which setter supports
 
@@ -399,7 +390,6 @@ fn of_supporters() -> Vec<(&'static str, Job)> {
     by_name![
         small_job_of_edition_2,
         timed_facts_without_steps,
-        timed_fact_during_a_serial_step,
         tie_goes_to_the_effect,
         effect_before_a_timed_fact,
         timed_fact_before_an_effect,

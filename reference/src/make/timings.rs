@@ -49,16 +49,21 @@ fn lists_of_another_length() -> Vec<Timed> {
 
 /// Refusal 9: the lowest fixed step that moved, before anything that fails.
 fn fixed_steps_moved() -> Vec<Timed> {
-    let three = || Job::default().fixed_step(1, 1).step(2, 1).fixed_step(3, 1);
-    let failing = || three().serial();
+    let three = || {
+        Job::with_facts(&[0])
+            .fixed_step(1, 1)
+            .step(2, 1)
+            .fixed_step(3, 1)
+    };
+    let failing = || three().goal(0, 1);
     vec![
         (three(), vec![1, 90, 3]),
         (three(), vec![0, 2, 4]),
         (three(), vec![1, 2, 4]),
         (three(), vec![2, 2, 3]),
         (three(), vec![1, 2, 3 + (1 << 16)]),
-        (failing(), vec![1, 1, 4]),
-        (failing(), vec![1, 1, 3]),
+        (failing(), vec![1, 2, 4]),
+        (failing(), vec![1, 2, 3]),
         (fixed_step_between(), vec![0, 50, 53]),
         (fixed_step_between(), vec![0, 49, 53]),
     ]
@@ -94,7 +99,6 @@ fn starts_past_counting() -> Vec<Timed> {
             .effect(0, 0, 6, 1)
             .goal_by(0, 1, 10)
     };
-    let serial = || Job::default().serial().step(0, 5).step(5, 0);
     vec![
         (small_job(), vec![LAST - 3, 20]),
         (small_job(), vec![LAST - 5, LAST]),
@@ -113,10 +117,6 @@ fn starts_past_counting() -> Vec<Timed> {
         (due(), vec![4]),
         (due(), vec![5]),
         (due(), vec![1 << 31]),
-        (serial(), vec![LAST - 1, LAST]),
-        (serial(), vec![LAST - 5, LAST]),
-        (serial(), vec![LAST, LAST]),
-        (serial(), vec![LAST, 10]),
     ]
 }
 

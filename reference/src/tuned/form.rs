@@ -12,7 +12,6 @@ pub const STEPS: usize = HIGHEST[2];
 
 /// The tables of a job whose records are all in range.
 pub struct Form<'a> {
-    pub serial: bool,
     pub facts: &'a [u8],
     pub levels: &'a [[u8; WIDTHS[1]]],
     pub steps: Steps,
@@ -39,7 +38,6 @@ impl Form<'_> {
         let levels = levels.as_chunks().0;
         refuse_at(6, levels.iter().position(level_breaks))?;
         let form = Form {
-            serial: u16_at(file, SERIAL_AT) == 1,
             facts,
             levels,
             steps: Steps::read(steps)?,
@@ -166,21 +164,7 @@ impl Steps {
         step < self.count && at <= self.lengths[step] as u32
     }
 
-    pub fn end(&self, step: usize) -> i32 {
-        self.starts[step] + self.lengths[step]
-    }
-
     pub fn is_fixed(&self, step: usize) -> bool {
         self.fixed >> step & 1 == 1
-    }
-
-    /// The steps by their starts, then by their ends, then by their numbers.
-    pub fn in_time(&self) -> [usize; STEPS] {
-        let mut keys: [u64; STEPS] = std::array::from_fn(|step| {
-            let (start, length) = (self.starts[step] as u64, self.lengths[step] as u64);
-            start << 32 | length << 8 | step as u64
-        });
-        keys[..self.count].sort_unstable();
-        keys.map(|key| (key & 63) as usize)
     }
 }

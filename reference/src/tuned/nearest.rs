@@ -52,9 +52,6 @@ impl Nearest {
                 self.needs_of_a_level(uses, needs.group(level));
             }
         }
-        if form.serial {
-            self.serial(form);
-        }
         self.forget_own(form.steps.count);
     }
 
@@ -183,18 +180,6 @@ impl Nearest {
                 soonest.note(*q);
             }
             self.raise_row(p.step(), p.tick(), &soonest);
-        }
-    }
-
-    /// Rule 5: the gap is the first step's length.
-    fn serial(&mut self, form: &Form) {
-        let steps = &form.steps;
-        let in_time = &steps.in_time()[..steps.count];
-        for (number, &first) in in_time.iter().enumerate() {
-            for &second in &in_time[number + 1..] {
-                let distance = steps.end(first) - steps.starts[second] - 1;
-                self.raise(first, second, distance);
-            }
         }
     }
 }

@@ -1,7 +1,7 @@
-//! Refusals 7, 17, 10 to 14 and 21, and the links, which the walk along each fact meets anyway.
+//! Refusals 7, 17, 10 to 13 and 21, and the links, which the walk along each fact meets anyway.
 
 use super::clock::Clock;
-use super::form::{Form, Steps, STEPS};
+use super::form::{Form, STEPS};
 use super::needs::Needs;
 use super::points::{Point, Points};
 use super::ties::TiedFacts;
@@ -48,7 +48,6 @@ pub fn link(
         refuse_at(13, goal_fails(form, goal, link).then_some(number))?;
         links[form.conditions.len() + number] = link;
     }
-    refuse_at(14, overlapping_step(form))?;
     Ok(found.tied)
 }
 
@@ -278,7 +277,7 @@ fn lower(lowest: &mut Option<usize>, number: usize) {
 }
 
 // ---------------------------------------------------------------------------------------------
-// Goals and serial steps
+// Goals
 
 /// A goal holds from the tick after its link on, so the link must not come after the deadline.
 fn goal_fails(form: &Form, goal: &[u8; 8], link: u16) -> bool {
@@ -291,21 +290,4 @@ fn goal_fails(form: &Form, goal: &[u8; 8], link: u16) -> bool {
         Some((tick, given)) => given != value || tick as u32 > deadline,
         None => u16::from(form.facts[usize::from(fact)]) != value,
     }
-}
-
-/// Neighbours in time tell whether any two overlap.
-fn overlapping_step(form: &Form) -> Option<usize> {
-    let steps = &form.steps;
-    if !form.serial {
-        return None;
-    }
-    let in_time = &steps.in_time()[..steps.count];
-    if !in_time.windows(2).any(|two| overlap(steps, two[0], two[1])) {
-        return None;
-    }
-    (0..steps.count).find(|&a| (0..steps.count).any(|b| a != b && overlap(steps, a, b)))
-}
-
-fn overlap(steps: &Steps, a: usize, b: usize) -> bool {
-    steps.end(a) > steps.starts[b] && steps.end(b) > steps.starts[a]
 }
