@@ -16,7 +16,7 @@
  * record concerned (or JOBS_NOWHERE where none is named), for 18 to 20 a line of a text, from 0 up
  * to 65,535; the answer is 0, and no lent byte or number has changed.
  *
- * The numbers in checking order, with what the place names:
+ * A serial mark of 1 changes no answer. The numbers in checking order, with what the place names:
  *
  *     18  a text is longer than 65,535 bytes (0), or outside the grammar (the line of the first
  *         word, bracket or line end that cannot stand there, or of the text's end)
@@ -43,10 +43,11 @@
  *     21  a need is unmet: the level from earlier ticks, with all other steps' falls at its tick, does
  *         not reach its least (need)
  *     13  a goal fails or comes after its deadline (goal)
- *     14  steps of a serial job overlap (step)
  *     15  the buffer is shorter than the order file, or than the job
  *     16  an order file breaks its layout or its ranges, or the record named is not there
  *         (0; of two files 0 or 1, the file)
+ *
+ * 14 is not given; it was once for steps of a serial job that overlap.
  */
 #ifndef JOBS_H
 #define JOBS_H
@@ -106,10 +107,10 @@ static inline uint32_t jobs_place(uint64_t returned)
     return (uint32_t)returned & 65535u;
 }
 
-/* Whether a job is sound at its written starts. Refuses with 1 to 7, 17, 10 to 14 and 21. */
+/* Whether a job is sound at its written starts. Refuses with 1 to 7, 17, 10 to 13 and 21. */
 uint64_t jobs_check(const uint8_t *job, size_t len);
 
-/* Whether a job is sound with these starts in place of the written ones. Refuses with 1 to 14,
+/* Whether a job is sound with these starts in place of the written ones. Refuses with 1 to 13,
  * 17 and 21. */
 uint64_t jobs_check_schedule(const uint8_t *job, size_t len, const uint32_t *starts, size_t count);
 
@@ -121,7 +122,7 @@ uint64_t jobs_check_schedule(const uint8_t *job, size_t len, const uint32_t *sta
 uint64_t jobs_pairs(const uint8_t *job, size_t len);
 
 /* Loosens a job into an order file at the front of `out`, and answers the file's length; bytes past
- * it stay. Refuses with 1 to 7, 17, 10 to 15 and 21. */
+ * it stay. Refuses with 1 to 7, 17, 10 to 13, 15 and 21. */
 uint64_t jobs_partialize(const uint8_t *job, size_t len, uint8_t *out, size_t out_len);
 
 /* Answers 1 if two order files have equal steps, limits, latest starts and orders, else 0.

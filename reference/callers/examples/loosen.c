@@ -8,6 +8,13 @@
 
 #include "jobs.h"
 
+/* An accepted job's second number, its serial mark, is 0 or 1. */
+static void print_mark(const uint8_t *job)
+{
+    if (job[2] == 1)
+        printf("serial mark ignored\n");
+}
+
 static void print_windows(const uint8_t *file, size_t len, uint32_t steps)
 {
     for (uint32_t step = 0; step < steps; step++) {
@@ -51,9 +58,11 @@ int main(int count, char **arguments)
     size_t len = fread(job, 1, sizeof job, input);
     fclose(input);
     uint64_t returned = jobs_partialize(job, len, out, sizeof out);
-    if (jobs_number(returned) == 0)
+    if (jobs_number(returned) == 0) {
+        print_mark(job);
         print_file(out, jobs_answer(returned));
-    else
+    } else {
         printf("refused %u place %u\n", jobs_number(returned), jobs_place(returned));
+    }
     return 0;
 }

@@ -16,12 +16,22 @@ fn main() -> ExitCode {
     };
     let mut buffer = [0; LONGEST];
     match partialize(&job, &mut buffer).answer() {
-        Answer::Accepted(length) => print_file(&buffer[..length as usize]),
+        Answer::Accepted(length) => {
+            print_mark(&job);
+            print_file(&buffer[..length as usize]);
+        }
         Answer::Refused { number, place } => {
             println!("refused {number} place {}", place.unwrap_or(u16::MAX));
         }
     }
     ExitCode::SUCCESS
+}
+
+/// An accepted job's second number, its serial mark, is 0 or 1.
+fn print_mark(job: &[u8]) {
+    if job[2] == 1 {
+        println!("serial mark ignored");
+    }
 }
 
 fn print_file(file: &[u8]) {

@@ -117,7 +117,7 @@ impl Both {
     }
 
     /// With a buffer of this length.
-    pub fn from_pddl(&mut self, actions: &[u8], plan: &[u8], length: usize) -> Result<(), String> {
+    pub fn texts(&mut self, actions: &[u8], plan: &[u8], length: usize) -> Result<(), String> {
         let lent = MARGIN..MARGIN + length;
         let mut expected_buffer = vec![FILLING; length + 2 * MARGIN];
         let mut buffer = expected_buffer.clone();

@@ -1,7 +1,7 @@
 //! `compare N SEED`: made jobs, starts, order files, texts and damaged bytes go through the static
 //! library and through the second program, N calls of each. `compare CASES`: a file of cases does. Every
-//! answer and every lent byte must agree, and every refusal must have occurred, as must searches
-//! that find a pair and that find none.
+//! answer and every lent byte must agree, and every refusal must have occurred, none where it is not
+//! given, as must searches that find a pair and that find none.
 
 mod both;
 mod source;
@@ -58,7 +58,7 @@ fn compare_case(both: &mut Both, case: &Case) -> Result<(), String> {
         Asked::Alike(a, b) => both.alike(a, b),
         Asked::Loosening(job, length) => both.partialize_into(job, length),
         Asked::Pairs(job) => both.pairs(job),
-        Asked::FromTexts(actions, plan, room) => both.from_pddl(actions, plan, room),
+        Asked::FromTexts(actions, plan, room) => both.texts(actions, plan, room),
     }
 }
 
@@ -79,10 +79,10 @@ fn compare_made(calls: u64, seed: u64) -> Result<String, String> {
     whole(&tallies.into_iter().fold(Tally::default(), Tally::plus))
 }
 
-/// The report, if every refusal occurred.
+/// The report, if all that must occur did, and nothing else.
 fn whole(tally: &Tally) -> Result<String, String> {
-    match tally.missing() {
-        Some(missing) => Err(format!("{}{missing}\n", tally.report())),
+    match tally.fault() {
+        Some(fault) => Err(format!("{}{fault}\n", tally.report())),
         None => Ok(tally.report()),
     }
 }
@@ -104,7 +104,7 @@ fn share(mut source: Source, calls: u64) -> Result<Tally, String> {
         both.alike(&file, &other)?;
         both.alike(&other, &file)?;
         let texts = source.texts();
-        both.from_pddl(&texts.actions, &texts.plan, texts.room)?;
+        both.texts(&texts.actions, &texts.plan, texts.room)?;
     }
     Ok(both.tally)
 }

@@ -10,6 +10,7 @@ use reference::make::bench_jobs::{
 use reference::make::crowded::crowded_job;
 use reference::make::edges::edges;
 use reference::make::highest::{chain_of_all_steps, every_pair_ordered_both_ways};
+use reference::make::marked::{marked_and_refused, marked_telling_jobs, marked_timings};
 use reference::make::near_miss::{near_miss, nearly_missed};
 use reference::make::need_edges::need_edges;
 use reference::make::need_telling::{largest_needs, need_telling_jobs};
@@ -68,8 +69,18 @@ impl Pool {
         for edition in 1..=LATEST_EDITION {
             pool.add_edition(&mut random, edition);
         }
+        pool.add_marked(&mut random);
         pool.add_texts(&mut random);
         pool
+    }
+
+    fn add_marked(&mut self, random: &mut Random) {
+        let sound = marked_telling_jobs().into_iter().map(|(_, job)| job);
+        let jobs = sound.chain(marked_and_refused());
+        self.jobs.extend(jobs.map(|job| timed(random, &job)));
+        let timings = marked_timings().into_iter();
+        self.jobs
+            .extend(timings.map(|(job, starts)| (job.to_file(), starts)));
     }
 
     fn add_texts(&mut self, random: &mut Random) {

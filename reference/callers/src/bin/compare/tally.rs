@@ -18,10 +18,10 @@ pub enum Entry {
 
 /// The name of each entry point, and which numbers it gives: one bit a number.
 const ENTRIES: [(&str, u32); 8] = [
-    ("jobs_check", 0b10_0010_0111_1100_1111_1111),
-    ("jobs_check_schedule", 0b10_0010_0111_1111_1111_1111),
+    ("jobs_check", 0b10_0010_0011_1100_1111_1111),
+    ("jobs_check_schedule", 0b10_0010_0011_1111_1111_1111),
     ("jobs_pairs", 0b00_0000_0000_0000_0111_1111),
-    ("jobs_partialize", 0b10_0010_1111_1100_1111_1111),
+    ("jobs_partialize", 0b10_0010_1011_1100_1111_1111),
     ("jobs_order_header", 0b00_0001_0000_0000_0000_0001),
     ("jobs_order_record", 0b00_0001_0000_0000_0000_0001),
     ("jobs_alike", 0b00_0001_0000_0000_0000_0001),
@@ -87,12 +87,15 @@ impl Tally {
         text
     }
 
-    /// What must occur, but never did.
-    pub fn missing(&self) -> Option<String> {
+    /// What must occur, but never did, or a number that must not, but did.
+    pub fn fault(&self) -> Option<String> {
         for ((name, given), counts) in ENTRIES.iter().zip(&self.counts) {
-            let never = |&number: &usize| given >> number & 1 == 1 && counts[number] == 0;
-            if let Some(number) = (0..NUMBERS).find(never) {
-                return Some(format!("{name} never gave {number}"));
+            for (number, &count) in counts.iter().enumerate() {
+                match (given >> number & 1 == 1, count > 0) {
+                    (true, false) => return Some(format!("{name} never gave {number}")),
+                    (false, true) => return Some(format!("{name} gave {number}")),
+                    _ => {}
+                }
             }
         }
         let never = match (self.alike, self.found, self.none_found()) {
