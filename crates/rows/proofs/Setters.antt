@@ -5,7 +5,7 @@ use mathlib.Core.List.{List}
 use native.Mathlib.Decide.{ℕ-discrete}
 use native.Mathlib.Omega.{arith}
 use lib.ListN.{getD, replicate}
-use Rattle.timeline.specs.Words.{valueAt, tickAt, stepAt, valueSpan}
+use Rattle.timeline.specs.Words.{valueAt, tickAt, valueSpan}
 use Rattle.validity.specs.Ticks.{scheduleOf}
 use Rattle.order_file.specs.Table.{rowWidth}
 use Rattle.order_file.specs.Contents.{stepLimit}

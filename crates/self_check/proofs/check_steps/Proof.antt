@@ -1,6 +1,5 @@
 -- The lowest of the three steps, refused if it is counted.
-use mathlib.Core.Path.{_≡_, ap, _∙_}
-use Rattle.against.specs.declared.StepSearch.{StepSearch}
+use mathlib.Core.Path.{_∙_}
 use Rattle.against.specs.Against.{stepCheck, againstStep}
 use Rattle.against.proofs.PairSteps.{search-step}
 use Rattle.verdict.proofs.Chain.{accepted-then}

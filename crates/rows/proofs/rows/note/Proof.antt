@@ -1,7 +1,6 @@
 -- Its place is that of its value and step.
 use native.Mathlib.Omega.{arith}
 use borrow.Author.Needs.{needs}
-use Rattle.origins.specs.Points.{leadPlace}
 use Rattle.rows.proofs.rows.note.Statement.{statement}
 use Rattle.rows.proofs.rows.note.Tie as tie
 
