@@ -5,7 +5,6 @@ use mathlib.Core.List.{List, [], _∷_}
 use lib.ListN.{length, getD}
 use Rattle.job.specs.declared.records.Effect.{Effect}
 use Rattle.job.specs.Model.{Model}
-use Rattle.against.specs.declared.StepSearch.{StepSearch}
 use Rattle.against.specs.Pairs.{pairSearch}
 
 abbrev pub effect : ℕ → ℕ → ℕ → ℕ → Effect
@@ -16,7 +15,6 @@ unfoldable pub jobWith : ℕ → List Effect → Model
 jobWith steps effects =
     let at : ℕ → Effect = λ k. getD effects k (effect 0 0 0 0) in
     record {
-      serial = 0;
       facts = 0;
       levels = 0;
       steps = steps;

@@ -21,7 +21,7 @@ use Rattle.verdict.proofs.Unplaced.{unplaced}
 use Rattle.job.specs.declared.layout.Table.{Table}
 use Rattle.job.specs.declared.layout.Table.the-variants.{Facts, Levels, Steps, Conditions, Effects, Uses, Goals, TimedFacts, Needs}
 use Rattle.job.specs.declared.layout.Counts.{Counts}
-use Rattle.job.specs.Layout.{timedEdition, needsEdition, shortestHeader, headerWidth, highest, countsOf, countList, jobOf, countTooHigh}
+use Rattle.job.specs.Layout.{timedEdition, needsEdition, shortestHeader, headerWidth, serialMark, highest, countsOf, countList, jobOf, countTooHigh}
 use Rattle.job.specs.Model.{Model, modelOf}
 use Rattle.header_check.specs.Header.{editionKnown, marksWrong, layoutAgrees, headerCheck}
 use Rattle.ranges.specs.Ranges.{countIn, recordBroken}
@@ -412,10 +412,10 @@ kept-zero a b e t = not-false b (sym (ap (λ x. x && not b) t) ∙ e)
 
 mark-out :
     (s : List ℕ) → marksWrong s (jobOf s) ≡ true
-    → (1 < u16At s 2) ⊎ (((u16At s 0 < timedEdition) × (u16At s 18 ≡ 0 → ⊥)) ⊎ ((u16At s 0 ≡ needsEdition) × (u16At s 54 ≡ 0 → ⊥)))
+    → (1 < serialMark s) ⊎ (((u16At s 0 < timedEdition) × (u16At s 18 ≡ 0 → ⊥)) ⊎ ((u16At s 0 ≡ needsEdition) × (u16At s 54 ≡ 0 → ⊥)))
 unfolding jobOf countsOf marksWrong
 mark-out s e =
-    let mark = ltb 1 (u16At s 2) in
+    let mark = ltb 1 (serialMark s) in
     let counted = ltb (u16At s 0) timedEdition && not (eqb (u16At s 18) 0) in
     let behind = eqb (u16At s 0) needsEdition && not (eqb (u16At s 54) 0) in
     ⊎-elim
@@ -429,7 +429,7 @@ mark-out s e =
 
 marks-in :
     (s : List ℕ) → marksWrong s (jobOf s) ≡ false
-    → (u16At s 2 ≤ 1) × (u16At s 0 < timedEdition → u16At s 18 ≡ 0) × (u16At s 0 ≡ needsEdition → u16At s 54 ≡ 0)
+    → (serialMark s ≤ 1) × (u16At s 0 < timedEdition → u16At s 18 ≡ 0) × (u16At s 0 ≡ needsEdition → u16At s 54 ≡ 0)
 unfolding jobOf countsOf marksWrong
 marks-in s e =
     let b = or-both _ _ e in

@@ -17,7 +17,7 @@ use Rattle.job.specs.Layout.{mostGoals, jobOf}
 use Rattle.job.specs.Model.{Model, modelOf}
 use Rattle.job.specs.WellFormed.{WellFormed, Ranged}
 use Rattle.ranges.specs.Ranges.{recordOk, countIn}
-use Rattle.record_check.proofs.Ranged.{tables, counts, header, ranged, level-in, step-in, effect-in, use-in, goal-in}
+use Rattle.record_check.proofs.Ranged.{tables, counts, counted, ranged, level-in, step-in, effect-in, use-in, goal-in}
 use Rattle.against.specs.Against.{bothWays, usesTwice, opposesOwn, setBefore, usedBefore, opposesAny, bothWaysStep, usesTwiceStep, opposesOwnStep}
 use Rattle.against.specs.Against.{againstStep, stepCheck}
 use Rattle.against.specs.Clock.{timedBothWays, timedConflicts, timedCheck}
@@ -109,10 +109,9 @@ module _ (m : Model) (ok : (t : Table) (k : ℕ) → k < countIn m t → recordO
       contrary (ap₂ _&&_ (ap₂ _&&_ (ap₂ _&&_ (ap₂ _&&_ (eq-eqb _ _ s) (eq-eqb _ _ t)) (ap not x)) (le-leb _ _ a)) (lt-ltb _ _ b)) f)
       (either (eqb (m .effectValue e) (m .conditionValue c)))
 
-  all-parts : m .serial ≤ 1 → m .goals ≤ mostGoals → Ranged m → number (timedCheck m) ≡ 0 → WellFormed m
-  all-parts mark goals r clock =
+  all-parts : m .goals ≤ mostGoals → Ranged m → number (timedCheck m) ≡ 0 → WellFormed m
+  all-parts goals r clock =
       record {
-        serialMark = mark;
         factCount = r .factCount;
         levelCount = r .levelCount;
         stepCount = r .stepCount;
@@ -168,6 +167,5 @@ well-formed s e =
     let d = then-zero _ _ e in
     let c = then-zero _ _ (d .0) in
     let b = then-zero _ _ (c .0) in
-    let h = header s (b .0) in
     let m = modelOf s in
-    all-parts m (tables m (b .1)) (steps-zero m (c .1)) (h .0) (counts (jobOf s .count) (h .1) 6 (lit< tt)) (ranged s (c .0)) (d .1)
+    all-parts m (tables m (b .1)) (steps-zero m (c .1)) (counts (jobOf s .count) (counted s (b .0)) 6 (lit< tt)) (ranged s (c .0)) (d .1)

@@ -10,7 +10,7 @@ use Rattle.verdict.specs.declared.Verdict.{Verdict}
 use Rattle.verdict.specs.Verdict.{number, place, nowhere}
 use Rattle.job.specs.declared.layout.Table.{Table}
 use Rattle.job.specs.declared.layout.Table.the-variants.{Facts, Levels, Steps, Conditions, Effects, Uses, Goals, TimedFacts, Needs}
-use Rattle.job.specs.Layout.{latestEdition, timedEdition, needsEdition, shortestHeader, headerWidth, highest, countsOf, countList, jobOf}
+use Rattle.job.specs.Layout.{latestEdition, timedEdition, needsEdition, shortestHeader, headerWidth, serialMark, highest, countsOf, countList, jobOf}
 use Rattle.job.specs.Model.{Model, modelOf}
 use Rattle.header_check.specs.Header.{layoutAgrees}
 use Rattle.ranges.specs.Ranges.{countIn, recordOk}
@@ -91,8 +91,8 @@ pub record FormRefusal (s : List ℕ) (v : Verdict) : Type 0 where
   -- the serial mark exceeds 1, an edition without timed facts counts some, or the one with needs has another number than 0 at byte 54
   pub markOut :
       number v ≡ 3
-      → (1 < u16At s 2) ⊎ (((u16At s 0 < timedEdition) × (u16At s 18 ≡ 0 → ⊥)) ⊎ ((u16At s 0 ≡ needsEdition) × (u16At s 54 ≡ 0 → ⊥)))
-  pub marksIn : 3 < number v → (u16At s 2 ≤ 1) × (u16At s 0 < timedEdition → u16At s 18 ≡ 0) × (u16At s 0 ≡ needsEdition → u16At s 54 ≡ 0)
+      → (1 < serialMark s) ⊎ (((u16At s 0 < timedEdition) × (u16At s 18 ≡ 0 → ⊥)) ⊎ ((u16At s 0 ≡ needsEdition) × (u16At s 54 ≡ 0 → ⊥)))
+  pub marksIn : 3 < number v → (serialMark s ≤ 1) × (u16At s 0 < timedEdition → u16At s 18 ≡ 0) × (u16At s 0 ≡ needsEdition → u16At s 54 ≡ 0)
   pub countOut : number v ≡ 4 → (t : ℕ) × (t < 9) × (getD highest t 0 < getD (countList (countsOf s)) t 0)
   pub countsIn : 4 < number v → (t : ℕ) → t < 9 → getD (countList (countsOf s)) t 0 ≤ getD highest t 0
   pub layoutOut : number v ≡ 5 → layoutAgrees s (jobOf s) ≡ false

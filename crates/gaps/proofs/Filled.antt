@@ -2,7 +2,7 @@
 -- table raised by all rules is the table of gaps.
 use Prim.Native.Nat.{ℕ, _+_, _*_, _/_, _≤_, _<_, max}
 use mathlib.Core.Path.{_≡_, refl, sym, ap, subst, _∙_}
-use mathlib.Core.Bool.{_&&_, cond}
+use mathlib.Core.Bool.{cond}
 use mathlib.Core.List.{List}
 use native.Mathlib.Decide.{ℕ-discrete, decLt}
 use native.Mathlib.Numerals.{add-one}
@@ -12,12 +12,9 @@ use lib.Dec.{eqb}
 use lib.ListN.{length, getD, set, length-set}
 use lib.Seq.{getD-set-same, getD-set-other}
 use Rattle.laws.specs.Fold.{largest}
-use Rattle.laws.proofs.Fold.{largest-ge, largest-le}
-use Rattle.orders.proofs.Near.{counted-le}
 use Rattle.order_file.specs.Table.{gapIn, gapOfEntry, Gaps, rowWidth, tableSize, tableBias, emptyLimit, noOrder}
 use Rattle.order_file.specs.Contents.{stepLimit, mostGap}
-use Rattle.origins.specs.Raised.{single, Raised}
-use Rattle.origins.proofs.Raised.{single-at, single-off}
+use Rattle.origins.specs.Raised.{Raised}
 use Rattle.gaps.specs.Table.{TableOf}
 use Rattle.gaps.specs.Rules.{Cleared}
 
@@ -57,30 +54,6 @@ module _ (n : ℕ) (order : ℕ → ℕ → ℕ → ℕ) (before : List ℕ) whe
       (count j : ℕ) (after : List ℕ) → Raised n (λ i k. largest j (order i k)) before after → j ≤ count → count ≤ j
       → Raised n (λ i k. largest count (order i k)) before after
   raised-end count j after w h g = let q : j ≡ count = omega arith in rw q at w
-
--- every pair of steps in turn
-module _ (n : ℕ) (gap : ℕ → ℕ → ℕ) (a b : ℕ) where
-  pub single-le : (i k : ℕ) → single i k (gap i k) a b ≤ gap a b
-  single-le i k =
-      elim (ℕ-discrete i a) [
-        | yes p ↦
-            elim (ℕ-discrete k b) [
-              | yes q ↦ rw (p, q) (counted-le (eqb a a && eqb b b) (gap a b))
-              | no q ↦ omega (arith, single-off i k (gap i k) a b (λ _ t. q t))
-            ]
-        | no p ↦ omega (arith, single-off i k (gap i k) a b (λ s _. p s))
-      ]
-
-  pub all-pairs : a < n → b < n → largest n (λ i. largest n (λ k. single i k (gap i k) a b)) ≡ gap a b
-  all-pairs h l =
-      let row : ℕ → ℕ = λ i. largest n (λ k. single i k (gap i k) a b) in
-      omega (
-        arith,
-        largest-le row n (gap a b) (λ i _. largest-le (λ k. single i k (gap i k) a b) n (gap a b) (λ k _. single-le i k)),
-        largest-ge row n a h,
-        largest-ge (λ k. single a k (gap a k) a b) n b l,
-        single-at a b (gap a b),
-      )
 
 -- an empty table, and what it is when it was raised
 pub empty-gaps : (gaps : List ℕ) → length gaps ≡ tableSize → ((p : ℕ) → getD gaps p 0 ≡ 0) → Gaps gaps

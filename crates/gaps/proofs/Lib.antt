@@ -4,4 +4,3 @@ pub mod Pairs
 pub mod Rules
 pub mod Own
 pub mod Supported
-pub mod Serial

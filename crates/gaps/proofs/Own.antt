@@ -1,4 +1,4 @@
--- Between two steps the timed facts order nothing: rules 2 to 5 give the gaps of the steps' own points.
+-- Between two steps the timed facts order nothing: rules 2 to 4 give the gaps of the steps' own points.
 use Prim.Native.Nat.{ℕ, _<_, max}
 use mathlib.Core.Path.{_≡_, refl}
 use mathlib.Core.List.{List}
@@ -8,7 +8,7 @@ use Rattle.job.specs.Model.{Model}
 use Rattle.job.specs.Clocked.{clocked}
 use Rattle.job.proofs.Clocked.{clocked-form}
 use Rattle.points.proofs.Placed.{valid-one-value}
-use Rattle.orders.specs.Gaps.{supportGap, opposingGap, conditionGap, levelOrder, levelGap, needOrder, useOrder, needGap, serialGap}
+use Rattle.orders.specs.Gaps.{supportGap, opposingGap, conditionGap, levelOrder, levelGap, needOrder, useOrder, needGap}
 use Rattle.orders.proofs.Own.{own-opposing, own-condition}
 use Rattle.gaps.specs.Table.{Fillable}
 use Rattle.gaps.specs.Rules.{ValidPoints}
@@ -38,18 +38,9 @@ module _ (m : Model) (x : ℕ → ℕ) where
   unfolding needGap needOrder useOrder
   own-need i k = refl
 
-  own-serial : (i k : ℕ) → serialGap M x i k ≡ serialGap m x i k
-  unfolding serialGap
-  own-serial i k = refl
-
   -- all rules together
   pub own-gaps :
       (i k : ℕ) → i < m .steps → k < m .steps
-      → max
-      (max (max (max (max (supportGap M x i k) (opposingGap m x i k)) (conditionGap m x i k)) (levelGap m x i k)) (needGap m x i k))
-      (serialGap m x i k)
-      ≡ max
-      (max (max (max (max (supportGap M x i k) (opposingGap M x i k)) (conditionGap M x i k)) (levelGap M x i k)) (needGap M x i k))
-      (serialGap M x i k)
-  own-gaps i k h l =
-      rw (own-opposing m x i k h l, own-condition m x i k h l, own-level i k, own-need i k, own-serial i k) refl
+      → max (max (max (max (supportGap M x i k) (opposingGap m x i k)) (conditionGap m x i k)) (levelGap m x i k)) (needGap m x i k)
+      ≡ max (max (max (max (supportGap M x i k) (opposingGap M x i k)) (conditionGap M x i k)) (levelGap M x i k)) (needGap M x i k)
+  own-gaps i k h l = rw (own-opposing m x i k h l, own-condition m x i k h l, own-level i k, own-need i k) refl

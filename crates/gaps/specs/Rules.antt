@@ -1,21 +1,17 @@
 -- Between crates: what the rules read, and the table raised by each.
 use Prim.Native.Nat.{ℕ, _+_, _*_, _≤_, _<_}
 use mathlib.Core.Path.{_≡_}
-use mathlib.Core.Bool.{_&&_, cond}
 use mathlib.Core.List.{List}
-use lib.Dec.{eqb, leb}
 use lib.ListN.{length, getD}
-use Rattle.laws.specs.Fold.{largest}
 use Rattle.job.specs.Model.{Model}
 use Rattle.job.specs.WellFormed.{WellFormed}
 use Rattle.points.specs.Points.{PointsKnown, OneValue}
 use Rattle.validity.specs.Ticks.{effectTick, firstTick, lastTick}
 use Rattle.links.specs.LinkList.{LinksOf}
-use Rattle.orders.specs.Gaps.{serialGap}
 use Rattle.order_file.specs.Table.{Gaps, rowWidth, noOrder}
 use Rattle.origins.specs.declared.Fact.{Fact}
 use Rattle.origins.specs.declared.Span.{Span}
-use Rattle.origins.specs.Raised.{single, Raised}
+use Rattle.origins.specs.Raised.{Raised}
 
 -- a table whose first n own entries, of a step and itself, are cleared
 pub record Cleared (n : ℕ) (before after : List ℕ) : Type 0 where
@@ -57,22 +53,3 @@ factAt begins facts f =
 -- the places of a group
 abbrev pub spanAt : List ℕ → ℕ → Span
 spanAt begins g = record { low = getD begins g 0; high = getD begins (g + 1) 0 }
-
--- rule 5 between steps that start together
-abbrev pub tieGap : Model → (ℕ → ℕ) → ℕ → ℕ → ℕ
-tieGap m x i k = cond (eqb (x k) (x i)) (serialGap m x i k) 0
-
--- rule 5 of one step: its gaps to those that start with it, and to all others
-abbrev pub tieRow : Model → (ℕ → ℕ) → ℕ → ℕ → ℕ → ℕ
-tieRow m x i a b = largest (m .steps) (λ k. single i k (tieGap m x i k) a b)
-
-abbrev pub serialRow : Model → (ℕ → ℕ) → ℕ → ℕ → ℕ → ℕ
-serialRow m x i a b = largest (m .steps) (λ k. single i k (serialGap m x i k) a b)
-
--- the entry to a step that starts at `start`, if that is `end` or later
-abbrev pub entryFrom : ℕ → ℕ → ℕ → ℕ
-entryFrom end entry start = cond (leb end start) entry noOrder
-
--- the gaps of the orders from i to the steps that start at `end` or later
-abbrev pub laterGap : (ℕ → ℕ) → ℕ → ℕ → ℕ → ℕ → ℕ → ℕ
-laterGap x i end gap a b = cond (eqb i a && leb end (x b)) gap 0

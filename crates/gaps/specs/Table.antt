@@ -3,19 +3,13 @@ use Prim.Native.Nat.{ℕ, _+_, _≤_, _<_}
 use mathlib.Core.Path.{_≡_}
 use mathlib.Core.List.{List}
 use lib.ListN.{length, getD}
-use Rattle.job.specs.Model.{Model, lastStart}
+use Rattle.job.specs.Model.{Model}
 use Rattle.job.specs.WellFormed.{WellFormed}
 use Rattle.job.specs.Clocked.{clocked}
 use Rattle.points.specs.Points.{PointsKnown}
-use Rattle.validity.specs.Ticks.{scheduleOf}
 use Rattle.validity.specs.Valid.{Valid}
 use Rattle.links.specs.LinkList.{LinksOf}
 use Rattle.order_file.specs.Table.{gapIn, Gaps, rowWidth, tableSize}
-
--- starts that a job can write, one for each step
-pub record Writable (m : Model) (starts : List ℕ) : Type 0 where
-  pub each : m .steps ≤ length starts
-  pub early : (k : ℕ) → k < m .steps → scheduleOf starts k ≤ lastStart
 
 -- a valid schedule whose steps' points are listed and whose links, to timed facts too, are found, and an empty table
 pub record Fillable (m : Model) (x : ℕ → ℕ) (points begins links gaps : List ℕ) : Type 0 where

@@ -1,37 +1,29 @@
-// The table of gaps, filled rule by rule (orders, rules 1 to 5). Of several gaps for one entry the largest stays.
+// The table of gaps, filled rule by rule (orders, rules 1 to 4). Of several gaps for one entry the largest stays.
 ghost use mathlib.Core.Path.{_≡_};
 ghost use Prim.Native.Nat.{ℕ, _+_, _≤_, _<_};
 ghost use mathlib.Core.List.{List};
 ghost use lib.ListN.{length};
 ghost use Rattle.job.specs.Model.{view};
 ghost use Rattle.job.specs.Clocked.{clocked};
-ghost use Rattle.job.specs.WellFormed.{WellFormed};
 ghost use Rattle.job.specs.Laid.{Laid};
 ghost use Rattle.validity.specs.Ticks.{scheduleOf};
-ghost use Rattle.orders.specs.Gaps.{supportOrder, supportGap, opposingGap, conditionGap, levelGap, serialFirst, serialGap, gapOf};
-ghost use Rattle.order_file.specs.Contents.{stepLimit};
-ghost use Rattle.order_file.specs.Table.{gapOfEntry, Gaps, rowWidth, tableSize};
-ghost use Rattle.gaps.specs.Table.{Writable, Fillable, TableOf};
-ghost use Rattle.origins.specs.Raised.{single, EntryKnown, Raised};
-ghost use Rattle.gaps.specs.Rules.{Cleared, SupportKnown, RaisedByLinks, ValidPoints, tieGap, tieRow, serialRow, entryFrom, laterGap};
-ghost use Rattle.gaps.specs.Rules.{factAt};
+ghost use Rattle.orders.specs.Gaps.{supportOrder, supportGap, opposingGap, conditionGap, levelGap, gapOf};
+ghost use Rattle.order_file.specs.Table.{Gaps, rowWidth, tableSize};
+ghost use Rattle.gaps.specs.Table.{Fillable, TableOf};
+ghost use Rattle.origins.specs.Raised.{Raised};
+ghost use Rattle.gaps.specs.Rules.{Cleared, SupportKnown, RaisedByLinks, ValidPoints, factAt};
 use crate::needs::fill_needs;
 use job::layout::Job;
-use job_fields::step_length;
 use job_reader::laid::condition_of;
 use job_reader::laid::effect_of;
-use order_file::table::ENTRY_BIAS;
 use order_file::table::NO_ORDER;
 use order_file::table::WIDTH;
-use order_file::table::higher;
 use origins::Fact;
 use origins::raise;
 use origins::strictly;
 use rows::raise_among;
 use rows::raise_conditions;
 use rows::raise_setters;
-use ticks::finish;
-use ticks::start_of;
 use timeline::word::begin_at;
 
 // Rule 1 for condition c, by its link. One to the initial state or to a timed fact, which are numbered behind the effects, orders no two steps.
@@ -143,108 +135,6 @@ fn fill_levels(job: Job, starts: &[u32], points: &[u64], begins: &[u16], gaps: &
     }
 }
 
-// Whether step i of a serial job is before step k: it finishes no later than k starts; where that holds both ways, the lower step is.
-fn precedes(s: &[u8], job: Job, starts: &[u32], i: u16, k: u16) -> bool
-    ensures { λ r. ⌜ r ≡ serialFirst (view job (now (s .entry))) (scheduleOf (now (starts .entry))) i k ⌝ }
-{
-    let back = finish(s, job, starts, k) <= start_of(starts, i);
-    (job.serial == 1) & (finish(s, job, starts, i) <= start_of(starts, k)) & (!back | (i < k))
-}
-
-// The entry from step i to step k of a serial job.
-fn serial_entry(s: &[u8], job: Job, starts: &[u32], i: u16, k: u16) -> u32
-    requires { ⌜ WellFormed (view job (now s)) × (i < job .count .steps) ⌝ }
-    ensures { λ r. ⌜ (gapOfEntry r ≡ serialGap (view job (now (s .entry))) (scheduleOf (now (starts .entry))) i k) × EntryKnown r ⌝ }
-{
-    if precedes(s, job, starts, i, k) {
-        step_length(s, job, i) as u32 + ENTRY_BIAS
-    } else {
-        NO_ORDER
-    }
-}
-
-// Rule 5 from step i to step k, if they start together.
-fn raise_tie(s: &[u8], job: Job, starts: &[u32], i: u16, k: u16, gaps: &mut [u32])
-    requires { ⌜ WellFormed (view job (now s)) × Gaps (now gaps) × (i < job .count .steps) × (k < job .count .steps)
-        × (job .count .steps ≤ length (now starts)) ⌝ }
-    ensures { λ _. ⌜ Raised (job .count .steps) (single i k (tieGap (view job (now (s .entry))) (scheduleOf (now (starts .entry))) i k))
-        (now (gaps .entry)) (now (gaps .exit)) ⌝ }
-{
-    if starts[k as usize] != starts[i as usize] {
-        return;
-    }
-    raise(i, k, serial_entry(s, job, starts, i, k), gaps)
-}
-
-// Rule 5 for the steps that start with step i.
-fn raise_ties(s: &[u8], job: Job, starts: &[u32], i: u16, gaps: &mut [u32])
-    requires { ⌜ WellFormed (view job (now s)) × Gaps (now gaps) × (i < job .count .steps) × (job .count .steps ≤ length (now starts)) ⌝ }
-    ensures { λ _. ⌜ Raised (job .count .steps) (tieRow (view job (now (s .entry))) (scheduleOf (now (starts .entry))) i)
-        (now (gaps .entry)) (now (gaps .exit)) ⌝ }
-{
-    let n = job.count.steps;
-    let mut k = 0;
-    while k < n {
-        raise_tie(s, job, starts, i, k, gaps);
-        k += 1;
-    }
-}
-
-// The entry to a step that starts at `start`, if that is `end` or later.
-fn entry_from(end: u32, entry: u32, start: u32) -> u32
-    ensures { λ r. ⌜ r ≡ entryFrom end entry start ⌝ }
-{
-    if end <= start { entry } else { NO_ORDER }
-}
-
-// Orders those of n steps that start at `end` or later after step i, by a row.
-fn row_later(n: usize, starts: &[u32], i: u16, end: u32, entry: u32, gaps: &mut [u32])
-    requires { ⌜ Gaps (now gaps) × (n ≤ stepLimit) × (i < n) × (n ≤ length (now starts)) × EntryKnown entry ⌝ }
-    ensures { λ _. ⌜ Raised n (laterGap (scheduleOf (now (starts .entry))) i end (gapOfEntry entry)) (now (gaps .entry)) (now (gaps .exit)) ⌝ }
-{
-    let row = WIDTH * i as usize;
-    let mut k = 0;
-    while k < n {
-        gaps[row + k] = higher(gaps[row + k], entry_from(end, entry, starts[k]));
-        k += 1;
-    }
-}
-
-// Rule 5 for the steps after step i: those that start later, and not before it finishes, as none of them finishes by its start; and, if it
-// takes no time, some that start with it.
-fn raise_serial(s: &[u8], job: Job, starts: &[u32], i: u16, gaps: &mut [u32])
-    requires { ⌜ WellFormed (view job (now s)) × Gaps (now gaps) × (i < job .count .steps) × (job .serial ≡ 1)
-        × Writable (view job (now s)) (now starts) ⌝ }
-    ensures { λ _. ⌜ Raised (job .count .steps) (serialRow (view job (now (s .entry))) (scheduleOf (now (starts .entry))) i)
-        (now (gaps .entry)) (now (gaps .exit)) ⌝ }
-{
-    let n = job.count.steps as usize;
-    let length = step_length(s, job, i) as u32;
-    let end = starts[i as usize] + higher(length, 1);
-    row_later(n, starts, i, end, length + ENTRY_BIAS, gaps);
-    if length != 0 {
-        return;
-    }
-    raise_ties(s, job, starts, i, gaps)
-}
-
-// Rule 5.
-fn fill_serial(s: &[u8], job: Job, starts: &[u32], gaps: &mut [u32])
-    requires { ⌜ WellFormed (view job (now s)) × Gaps (now gaps) × Writable (view job (now s)) (now starts) ⌝ }
-    ensures { λ _. ⌜ Raised (job .count .steps) (serialGap (view job (now (s .entry))) (scheduleOf (now (starts .entry))))
-        (now (gaps .entry)) (now (gaps .exit)) ⌝ }
-{
-    if job.serial != 1 {
-        return;
-    }
-    let n = job.count.steps;
-    let mut i = 0;
-    while i < n {
-        raise_serial(s, job, starts, i, gaps);
-        i += 1;
-    }
-}
-
 // Clears the entry of each step with itself: only different steps are ordered. The rules raise these entries too, which spares them a test.
 fn clear_own(gaps: &mut [u32])
     requires { ⌜ length (now gaps) ≡ tableSize ⌝ }
@@ -268,7 +158,7 @@ pub fn fill_gaps(
     gaps: &mut [u32],
 )
     requires { ⌜ Fillable (view job (now s)) (scheduleOf (now starts)) (now points) (now begins) (now links) (now gaps) × Laid job (now s)
-        × Writable (view job (now s)) (now starts) ⌝ }
+        × (job .count .steps ≤ length (now starts)) ⌝ }
     ensures { λ _. ⌜ TableOf (job .count .steps) (gapOf (clocked (view job (now (s .entry)))) (scheduleOf (now (starts .entry)))) (now (gaps .exit)) ⌝ }
 {
     fill_support(s, job, links, gaps);
@@ -276,6 +166,5 @@ pub fn fill_gaps(
     fill_conditions(s, job, starts, points, begins, gaps);
     fill_levels(job, starts, points, begins, gaps);
     fill_needs(job, starts, points, begins, gaps);
-    fill_serial(s, job, starts, gaps);
     clear_own(gaps);
 }

@@ -10,4 +10,4 @@ use Rattle.header_check.specs.HeaderCases.{begun, ended, headerCases, Al
 pub header-verdicts : AllFound headerCases
 unfolding any u16At u32At u16Bytes u32Bytes _then_ refuseIf headerWidth countsOf tableAt positionsOf jobOf countTooHigh editionKnown marksWrong
     layoutAgrees headerCheck begun ended headerCases
-header-verdicts = (refl, (refl, (refl, (refl, (refl, (refl, (refl, (refl, (refl, (refl, (refl, (refl, tt))))))))))))
+header-verdicts = (refl, (refl, (refl, (refl, (refl, (refl, (refl, (refl, (refl, (refl, (refl, (refl, (refl, (refl, (refl, tt)))))))))))))))

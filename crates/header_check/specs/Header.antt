@@ -9,7 +9,7 @@ use Rattle.verdict.specs.declared.Verdict.{Verdict}
 use Rattle.verdict.specs.declared.Verdict.the-variants.{FileTooShort, UnknownEdition, MarkOutOfRange, CountTooHigh, LayoutDisagrees}
 use Rattle.verdict.specs.Verdict.{_then_, refuseIf}
 use Rattle.job.specs.declared.layout.Job.{Job}
-use Rattle.job.specs.Layout.{latestEdition, timedEdition, needsEdition, shortestHeader, headerWidth, jobOf, countTooHigh}
+use Rattle.job.specs.Layout.{latestEdition, timedEdition, needsEdition, shortestHeader, headerWidth, serialMark, jobOf, countTooHigh}
 
 -- refusal 2, the other way round: the edition is read
 unfoldable pub editionKnown : ℕ → Bool
@@ -18,7 +18,7 @@ editionKnown edition = leb 1 edition && leb edition latestEdition
 -- refusal 3: the serial mark is neither 0 nor 1, an edition without timed facts counts some, or the number after the count of needs is not 0
 unfoldable pub marksWrong : List ℕ → Job → Bool
 marksWrong s j =
-    ltb 1 (j .serial) || (ltb (j .edition) timedEdition && not (eqb (j .count .timed) 0))
+    ltb 1 (serialMark s) || (ltb (j .edition) timedEdition && not (eqb (j .count .timed) 0))
     || (eqb (j .edition) needsEdition && not (eqb (u16At s 54) 0))
 
 -- refusal 5, the other way round: every offset of the edition and the file's length agree with the tables

@@ -9,6 +9,7 @@ use job::layout::SHORTEST_HEADER;
 use job::layout::TIMED_EDITION;
 use job::layout::count_too_high;
 use job::layout::header_width;
+use job::layout::serial_mark;
 use verdict::Verdict;
 use verdict::refuse_if;
 
@@ -22,7 +23,7 @@ fn edition_known(edition: u16) -> bool
 fn marks_wrong(s: &[u8], job: Job) -> bool
     ensures { λ r. ⌜ r ≡ marksWrong (now (s .entry)) job ⌝ }
 {
-    (1 < job.serial)
+    (1 < serial_mark(s))
         | ((job.edition < TIMED_EDITION) & (job.count.timed != 0))
         | ((job.edition == NEEDS_EDITION) & (little_endian::u16_at(s, 54) != 0))
 }

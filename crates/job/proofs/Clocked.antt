@@ -3,7 +3,6 @@ use Prim.Native.Nat.{ℕ, _+_, _-_, _≤_, _<_}
 use mathlib.Core.Path.{_≡_, refl, sym, _∙_}
 use native.Mathlib.Decide.{decLt}
 use native.Mathlib.Omega.{arith}
-use lib.Dec.{ltb}
 use borrow.Author.Tests.{lt-ltb, le-ltb}
 use Rattle.job.specs.Model.{Model, longest, lastTimed}
 use Rattle.job.specs.WellFormed.{WellFormed}
@@ -92,7 +91,6 @@ module _ (m : Model) (w : WellFormed m) where
   pub clocked-form : ClockedForm M
   clocked-form =
       record {
-        serialMark = w .serialMark;
         factCount = w .factCount;
         levelCount = w .levelCount;
         stepCount = w .stepCount;

@@ -15,7 +15,6 @@ behind m ofEffect ofTimed e = cond (ltb e (m .effects)) (ofEffect e) (ofTimed (e
 
 abbrev pub clocked : Model → Model
 clocked m = record {
-  serial = m .serial;
   facts = m .facts;
   levels = m .levels;
   steps = m .steps;
@@ -67,7 +66,6 @@ mostSetters = mostEffects + mostTimed
 
 -- what holds of a well-formed job with its timed facts among its effects
 pub record ClockedForm (m : Model) : Type 0 where
-  pub serialMark : m .serial ≤ 1
   pub factCount : m .facts ≤ mostFacts
   pub levelCount : m .levels ≤ mostLevels
   pub stepCount : m .steps ≤ mostSteps

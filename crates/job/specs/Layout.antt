@@ -142,12 +142,15 @@ positionsOf header c = record {
   end = tableAt header c 9;
 }
 
+-- the serial mark: serial jobs are retired, and no job is read otherwise for it
+abbrev pub serialMark : List ℕ → ℕ
+serialMark s = u16At s 2
+
 -- what the header says, and where it puts the tables
 unfoldable pub jobOf : List ℕ → Job
 jobOf s =
     record {
       edition = u16At s 0;
-      serial = u16At s 2;
       count = countsOf s;
       at = positionsOf (headerWidth (u16At s 0)) (countsOf s);
     }

@@ -45,8 +45,6 @@ abbrev pub highestAmount : ℕ
 highestAmount = signBias + 1000000
 
 pub record Model : Type 0 where
-  -- the serial mark
-  pub serial : ℕ
   -- how many of each there are
   pub facts : ℕ
   pub levels : ℕ
@@ -98,7 +96,6 @@ pub record Model : Type 0 where
 -- the job in bytes whose tables lie as given: record k of a table of width w starts at w * k
 abbrev pub view : Job → List ℕ → Model
 view j s = record {
-  serial = j .serial;
   facts = j .count .facts;
   levels = j .count .levels;
   steps = j .count .steps;

@@ -7,8 +7,7 @@ use Rattle.little_endian.specs.Bytes.{signBias}
 use Rattle.job.specs.Model.{Model, lastStart, longest, lastDeadline, noDeadline, lastTimed, lowestLevel, highestLevel, lowestAmount, highestAmount}
 
 pub record WellFormed (m : Model) : Type 0 where
-  -- marks and counts
-  pub serialMark : m .serial ≤ 1
+  -- counts
   pub factCount : m .facts ≤ mostFacts
   pub levelCount : m .levels ≤ mostLevels
   pub stepCount : m .steps ≤ mostSteps

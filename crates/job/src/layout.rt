@@ -4,7 +4,7 @@ ghost use mathlib.Core.Path.{_≡_};
 ghost use mathlib.Core.Bool.{cond};
 ghost use lib.Dec.{eqb};
 ghost use Rattle.little_endian.specs.Bytes.{u16At};
-ghost use Rattle.job.specs.Layout.{needsEdition, headerWidth, longestHeader, countsOf, positionsOf, jobOf, countTooHigh};
+ghost use Rattle.job.specs.Layout.{needsEdition, headerWidth, longestHeader, serialMark, countsOf, positionsOf, jobOf, countTooHigh};
 use little_endian::SIGN_BIAS;
 
 // The tables, in their order in the file.
@@ -50,7 +50,6 @@ pub struct Positions {
 // What the header says of a job, and where that puts its tables.
 pub struct Job {
     pub edition: u16,
-    pub serial: u16,
     pub count: Counts,
     pub at: Positions,
 }
@@ -133,16 +132,17 @@ impl Job {
         ensures { λ r. ⌜ r ≡ jobOf (now (s .entry)) ⌝ }
     {
         let edition = little_endian::u16_at(s, 0) as u16;
-        let serial = little_endian::u16_at(s, 2) as u16;
         let count = Counts::read(s);
         let at = Positions::of(header_width(edition), count);
-        Job {
-            edition,
-            serial,
-            count,
-            at,
-        }
+        Job { edition, count, at }
     }
+}
+
+// The serial mark. Refusal 3 looks at it, and the printed sheet tells of it; no job is read otherwise for it.
+pub fn serial_mark(s: &[u8]) -> u16
+    ensures { λ r. ⌜ r ≡ serialMark (now (s .entry)) ⌝ }
+{
+    little_endian::u16_at(s, 2) as u16
 }
 
 // The bytes of an edition's header.

@@ -19,7 +19,7 @@ use Rattle.header_check.specs.Header.{editionKnown, marksWrong, layoutAgrees, h
 use Rattle.job_encoding.specs.Encode.{countsIn, addedBytes, headerBytes, encode}
 use Rattle.job_encoding.specs.Fits.{Fits}
 use Rattle.job_encoding.proofs.Places.{startOf, length-header, header-width, length-encode, header-stands}
-use Rattle.job_encoding.proofs.RoundTrip.{four, u32-back, header-u16, jobIn, job-back}
+use Rattle.job_encoding.proofs.RoundTrip.{four, u32-back, header-u16, jobIn, unmarked, job-back}
 
 -- six checks in a row, of which only the fifth may refuse
 passing :
@@ -130,7 +130,7 @@ module _ (edition : ℕ) (m : Model) (w : Fits edition m) where
 
   marks : marksWrong (encode edition m) (jobIn edition m) ≡ false
   unfolding marksWrong countsIn
-  marks = rw (timed-mark, needs-mark)
+  marks = rw (unmarked edition m w, timed-mark, needs-mark)
 
   known : editionKnown edition ≡ true
   unfolding editionKnown

@@ -11,7 +11,7 @@ use lib.ListN.{getD}
 use Rattle.little_endian.specs.Bytes.{signBias, u16Values, u32Values, byteAt, u16At, u32At, biasedAt, u16Bytes, u32Bytes}
 use Rattle.little_endian.proofs.Stands.{stands-u16, stands-u32}
 use Rattle.job.specs.declared.layout.Job.{Job}
-use Rattle.job.specs.Layout.{needsEdition, shortestHeader, headerWidth, widths, countsOf, positionsOf, jobOf}
+use Rattle.job.specs.Layout.{serialMark, needsEdition, shortestHeader, headerWidth, widths, countsOf, positionsOf, jobOf}
 use Rattle.job.specs.Model.{Model, view, modelOf, levelOf, stepOf, conditionOf, effectOf, useOf, goalOf, timedOf, needOf}
 use Rattle.job_encoding.specs.Encode.{countsIn, bits, levelRow, stepRow, conditionRow, effectRow, useRow, goalRow, timedRow, needRow, recordBytes}
 use Rattle.job_encoding.specs.Encode.{addedBytes, headerBytes, encode}
@@ -86,7 +86,7 @@ module _ (edition : ℕ) (m : Model) where
   -- what the header says
   abbrev pub jobIn : Job
   jobIn =
-      record { edition = edition; serial = 0; count = countsIn m; at = positionsOf (headerWidth edition) (countsIn m) }
+      record { edition = edition; count = countsIn m; at = positionsOf (headerWidth edition) (countsIn m) }
 
   module _ (w : Fits edition m) where
     pub edition-back : u16At (encode edition m) 0 ≡ edition
@@ -121,11 +121,13 @@ module _ (edition : ℕ) (m : Model) where
           needs-counted,
         )
 
+    pub unmarked : serialMark (encode edition m) ≡ 0
+    unfolding headerBytes u16Bytes u16At
+    unmarked = common-u16 2 0 (omega arith) refl (omega arith)
+
     pub job-back : jobOf (encode edition m) ≡ jobIn
-    unfolding jobOf headerBytes u16Bytes u16At
-    job-back =
-        let s : u16At (encode edition m) 2 ≡ 0 = common-u16 2 0 (omega arith) refl (omega arith) in
-        cc (edition-back, s, counts-back)
+    unfolding jobOf
+    job-back = cc (edition-back, counts-back)
 
     abbrev back : Model
     back = view jobIn (encode edition m)
@@ -220,7 +222,6 @@ module _ (edition : ℕ) (m : Model) where
     round-trip =
         subst (λ (j : Job). Agree (view j (encode edition m)) m) (sym job-back)
         (record {
-          serial = sym (w .serial);
           facts = refl;
           levels = refl;
           steps = refl;

@@ -1,10 +1,9 @@
--- When two jobs say the same: the serial mark, the counts, and each record that is counted.
+-- When two jobs say the same: the counts, and each record that is counted.
 use Prim.Native.Nat.{ℕ, _<_}
 use mathlib.Core.Path.{_≡_}
 use Rattle.job.specs.Model.{Model, levelOf, stepOf, conditionOf, effectOf, useOf, goalOf, timedOf, needOf}
 
 pub record Agree (a b : Model) : Type 0 where
-  pub serial : a .serial ≡ b .serial
   pub facts : a .facts ≡ b .facts
   pub levels : a .levels ≡ b .levels
   pub steps : a .steps ≡ b .steps

@@ -1,5 +1,5 @@
--- Between crates: a job that a file of an edition can hold: no serial mark, no timed facts and no needs before their editions, counts and
--- fields within their bytes.
+-- Between crates: a job that a file of an edition can hold: no timed facts and no needs before their editions, counts and fields within
+-- their bytes.
 use Prim.Native.Nat.{ℕ, _≤_, _<_}
 use mathlib.Core.Path.{_≡_}
 use Rattle.little_endian.specs.Bytes.{u16Values, u32Values}
@@ -9,7 +9,6 @@ use Rattle.job.specs.Model.{Model}
 pub record Fits (edition : ℕ) (m : Model) : Type 0 where
   pub editionFrom : 1 ≤ edition
   pub editionTo : edition ≤ latestEdition
-  pub serial : m .serial ≡ 0
   pub timedNone : edition < timedEdition → m .timed ≡ 0
   pub needsNone : edition < needsEdition → m .needs ≡ 0
   -- the counts

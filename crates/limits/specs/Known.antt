@@ -13,7 +13,6 @@ unfoldable pub onlyTimed : Job → Job
 onlyTimed j =
     record {
       edition = j .edition;
-      serial = j .serial;
       count = record {
         facts = j .count .facts;
         levels = 0;

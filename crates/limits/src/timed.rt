@@ -43,7 +43,6 @@ fn only_timed(job: Job) -> Job
     let at = job.at;
     Job {
         edition: job.edition,
-        serial: job.serial,
         count,
         at,
     }

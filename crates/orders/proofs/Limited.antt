@@ -2,13 +2,12 @@
 -- of rules 1 to 3 from or to the clock, and each such order is one of these.
 use Prim.Native.Nat.{ℕ, _+_, _-_, _≤_, _<_}
 use mathlib.Core.Path.{_≡_, refl, sym, ap, subst, _∙_}
-use mathlib.Core.Bool.{true, false, _&&_, not, cond}
+use mathlib.Core.Bool.{true, false, _&&_, not}
 use mathlib.Core.Logic.{⊎-elim}
 use native.Mathlib.Decide.{ℕ-discrete, decLt}
 use native.Mathlib.Omega.{arith}
 use borrow.Author.Tests.{eqb-true, eqb-false, not-true}
 use lib.Dec.{eqb}
-use Rattle.laws.specs.Fold.{least}
 use Rattle.laws.proofs.Search.{either, and-both}
 use Rattle.laws.proofs.Fold.{least-le, least-ge}
 use Rattle.job.specs.Model.{Model, longest, lastTimed, noDeadline}

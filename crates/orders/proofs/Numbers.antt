@@ -1,19 +1,18 @@
 -- The number of a link, and back; and that what obeys may give the clock its start.
 use Prim.Native.Nat.{ℕ, _+_, _-_, _≤_, _<_}
 use mathlib.Core.Path.{_≡_, refl, sym, ap, _∙_}
-use mathlib.Core.Bool.{true, false, _&&_, not, cond}
+use mathlib.Core.Bool.{false}
 use mathlib.Core.Logic.{_⊎_, ⊎-elim}
 use native.Mathlib.Decide.{decLt}
 use native.Mathlib.Omega.{arith}
-use borrow.Author.Tests.{lt-ltb, le-ltb, le-leb, lt-leb, eq-eqb, ne-eqb}
-use lib.Dec.{leb, eqb}
+use borrow.Author.Tests.{lt-ltb, le-ltb, le-leb, lt-leb, ne-eqb}
+use lib.Dec.{eqb}
 use Rattle.job.specs.Layout.{mostEffects}
 use Rattle.job.specs.Model.{Model}
 use Rattle.job.specs.WellFormed.{WellFormed}
 use Rattle.job.specs.Clocked.{clocked, withClock}
 use Rattle.job.proofs.Clocked.{clock-kept}
 use Rattle.order_file.specs.Contents.{initialState, lastLink}
-use Rattle.orders.specs.Gaps.{gapOf}
 use Rattle.orders.specs.Obeys.{Obeys}
 use Rattle.orders.specs.File.{linkNumber, linkedEffect}
 

@@ -1,22 +1,21 @@
 -- Every order is kept. Each rule's gap is at most the largest of its pair, and a schedule that obeys has room for the largest; so what
 -- a rule orders stays ordered. Points of one step keep their order whatever its start.
 use Prim.Native.Nat.{ℕ, _+_, _-_, _≤_, _<_, max}
-use mathlib.Core.Path.{_≡_, refl, sym, ap, ap₂, _∙_}
-use mathlib.Core.Bool.{Bool, true, _&&_, _||_, not, cond, or-true}
-use mathlib.Core.Logic.{_⊎_, inl, inr}
-use native.Mathlib.Decide.{ℕ-discrete, decLt, decLe}
+use mathlib.Core.Path.{_≡_, refl, ap, ap₂}
+use mathlib.Core.Bool.{Bool, true, _&&_, not, cond}
+use native.Mathlib.Decide.{ℕ-discrete, decLt}
 use native.Mathlib.Omega.{arith}
-use borrow.Author.Tests.{lt-ltb, le-leb, lt-leb, eq-eqb, ne-eqb}
-use lib.Dec.{ltb, leb, eqb}
+use borrow.Author.Tests.{lt-ltb, eq-eqb, ne-eqb}
+use lib.Dec.{ltb, eqb}
 use Rattle.laws.specs.Fold.{largest}
 use Rattle.laws.proofs.Fold.{largest-ge}
 use Rattle.job.specs.Model.{Model, longest, lastTimed}
 use Rattle.job.specs.Clocked.{ClockedForm}
-use Rattle.validity.specs.Ticks.{effectTick, firstTick, lastTick, useTick, needTick, finish, opposes}
+use Rattle.validity.specs.Ticks.{effectTick, firstTick, lastTick, useTick, needTick, opposes}
 use Rattle.order_file.specs.Contents.{initialState, gapBias}
 use Rattle.orders.specs.Links.{conditionLink}
 use Rattle.orders.specs.Gaps.{strictly, supportOrder, supportGap, opposingOrder, opposingGap, beforeOrder, afterOrder, conditionGap}
-use Rattle.orders.specs.Gaps.{levelOrder, levelGap, needOrder, useOrder, needGap, serialGap, gapOf}
+use Rattle.orders.specs.Gaps.{levelOrder, levelGap, needOrder, useOrder, needGap, gapOf}
 use Rattle.validity.specs.Valid.{Valid}
 use Rattle.orders.specs.Windows.{clockGap, latestOf}
 use Rattle.orders.specs.Obeys.{Obeys}
@@ -53,7 +52,6 @@ module _ (m : Model) (x : ℕ → ℕ) where
       → (supportGap m x i k ≤ gapOf m x i k) × (opposingGap m x i k ≤ gapOf m x i k) × (conditionGap m x i k ≤ gapOf m x i k)
       × (levelGap m x i k ≤ gapOf m x i k)
       × (needGap m x i k ≤ gapOf m x i k)
-      × (serialGap m x i k ≤ gapOf m x i k)
   unfolding gapOf
   gap-rules i k d = rw (ne-eqb i k d) (omega arith)
 
@@ -151,12 +149,6 @@ module _ (m : Model) (x : ℕ → ℕ) where
   unfolding useOrder
   use-gap n u h g a l =
       pair-under (m .useStep u) (m .needStep n) _ _ _ _ (eq-eqb _ _ a) l (need-ge _ _ n u h g .1)
-
-  serial-gap :
-      (i k : ℕ) → m .serial ≡ 1 → finish m x i ≤ x k → (not (leb (finish m x k) (x i)) || ltb i k) ≡ true
-      → m .stepLength i + gapBias ≤ serialGap m x i k
-  unfolding serialGap
-  serial-gap i k a l b = chosen _ (m .stepLength i + gapBias) (ap₂ _&&_ (ap₂ _&&_ (eq-eqb _ _ a) (le-leb _ _ l)) b)
 
 module _ (m : Model) (x y : ℕ → ℕ) (w : ClockedForm m) (s : Valid m x) (zero : x (m .steps) ≡ 0) (clock : y (m .steps) ≡ 0) (o : Obeys m x y) where
   -- what obeys has room for every gap
@@ -290,26 +282,3 @@ module _ (m : Model) (x y : ℕ → ℕ) (w : ClockedForm m) (s : Valid m x) (ze
   kept-use n u h g a l =
       keeps-points (m .useAt u) (m .needAt n) (w .useStep u g) (w .needStep n h) (near (need-near m w n h)) (use-gap m x n u h g a l)
       (λ s. gap-rules m x _ _ s .4) l
-
-  -- rule 5
-  kept-first :
-      (i k : ℕ) → m .serial ≡ 1 → i < m .steps → k < m .steps → (i ≡ k → ⊥) → finish m x i ≤ x k
-      → (not (leb (finish m x k) (x i)) || ltb i k) ≡ true
-      → finish m y i ≤ y k
-  kept-first i k a h g d l b = omega (arith, serial-gap m x i k a l b, gap-rules m x i k d .5, roomy i k h g)
-
-  pub kept-serial :
-      (i k : ℕ) → m .serial ≡ 1 → i < m .steps → k < m .steps → (i ≡ k → ⊥) → finish m x i ≤ x k
-      → (finish m y i ≤ y k) ⊎ (finish m y k ≤ y i)
-  kept-serial i k a h g d l =
-      elim (decLe (finish m x k) (x i)) [
-        | yes r ↦ both (decLt i k) r
-        | no r ↦ inl (kept-first i k a h g d l (ap (λ b. not b || ltb i k) (lt-leb (finish m x k) (x i) (omega arith))))
-      ]
-    where
-      lower : (a b : ℕ) (t : Bool) → a < b → (t || ltb a b) ≡ true
-      lower a b t s = ap (λ c. t || c) (lt-ltb a b s) ∙ or-true t
-
-      both : Dec (i < k) → finish m x k ≤ x i → (finish m y i ≤ y k) ⊎ (finish m y k ≤ y i)
-      both (yes s) r = inl (kept-first i k a h g d l (lower i k (not (leb (finish m x k) (x i))) s))
-      both (no s) r = inr (kept-first k i a g h (λ e. d (sym e)) r (lower k i (not (leb (finish m x i) (x k))) (omega arith)))

@@ -2,24 +2,24 @@
 -- gap, and for the largest; a link lies before its condition and at or before its goal's deadline.
 use Prim.Native.Nat.{ℕ, _+_, _≤_, _<_, max}
 use mathlib.Core.Path.{_≡_, refl, sym, ap, _∙_}
-use mathlib.Core.Bool.{Bool, true, false, _&&_, _||_, not, cond}
+use mathlib.Core.Bool.{Bool, true, false, _&&_, not, cond}
 use mathlib.Core.Logic.{_⊎_, inl, inr, ⊎-elim}
 use native.Mathlib.Decide.{ℕ-discrete}
 use native.Mathlib.Omega.{arith}
-use borrow.Author.Tests.{ltb-true, leb-true, eqb-true, eqb-false, not-true}
-use lib.Dec.{ltb, leb, eqb}
+use borrow.Author.Tests.{ltb-true, eqb-true, eqb-false, not-true}
+use lib.Dec.{ltb, eqb}
 use Rattle.laws.specs.Fold.{largest, least}
 use Rattle.laws.proofs.Search.{either, and-both}
 use Rattle.laws.proofs.Fold.{largest-le, least-none}
 use Rattle.job.specs.Model.{Model}
 use Rattle.job.specs.Model.{noDeadline}
 use Rattle.job.specs.Clocked.{ClockedForm}
-use Rattle.validity.specs.Ticks.{effectTick, firstTick, finish, opposes}
+use Rattle.validity.specs.Ticks.{effectTick, firstTick, opposes}
 use Rattle.validity.specs.Valid.{Valid}
 use Rattle.order_file.specs.Contents.{initialState, noLatest, gapBias}
 use Rattle.orders.specs.Links.{conditionLink, goalLink}
 use Rattle.orders.specs.Gaps.{strictly, supportOrder, supportGap, opposingOrder, opposingGap, beforeOrder, afterOrder, conditionGap}
-use Rattle.orders.specs.Gaps.{levelOrder, levelGap, needOrder, useOrder, needGap, serialGap, gapOf}
+use Rattle.orders.specs.Gaps.{levelOrder, levelGap, needOrder, useOrder, needGap, gapOf}
 use Rattle.orders.specs.Windows.{clockGap, clockLatest, limitOf, allowed, latestOf}
 use Rattle.orders.specs.Supporter.{byInitialState, byEffect, ConditionLinkedTo}
 use Rattle.orders.specs.Obeys.{Obeys}
@@ -118,13 +118,6 @@ module _ (m : Model) (x : ℕ → ℕ) (w : ClockedForm m) (s : Valid m x) where
       in
       omega arith)
 
-  serial-fits : (i k : ℕ) → serialGap m x i k ≤ room x i k
-  unfolding serialGap
-  serial-fits i k =
-      chosen-fits (eqb (m .serial) 1) (leb (finish m x i) (x k)) (not (leb (finish m x k) (x i)) || ltb i k)
-      (m .stepLength i + gapBias) (room x i k)
-      (λ _ l _. omega (arith, leb-true (finish m x i) (x k) l))
-
   -- an order with the clock
   pub clock-fits : (i k : ℕ) → clockGap m x i k ≤ room x i k
   unfolding clockGap
@@ -136,7 +129,7 @@ module _ (m : Model) (x : ℕ → ℕ) (w : ClockedForm m) (s : Valid m x) where
       ⊎-elim
       (λ (e : eqb i k ≡ true). rw e (omega arith))
       (λ (e : eqb i k ≡ false).
-      rw e (omega (arith, support-fits i k, opposing-fits i k, condition-fits i k, level-fits i k, need-fits i k, serial-fits i k)))
+      rw e (omega (arith, support-fits i k, opposing-fits i k, condition-fits i k, level-fits i k, need-fits i k)))
       (either (eqb i k))
 
   -- what a goal allows of a step it has started by

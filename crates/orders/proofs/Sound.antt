@@ -16,7 +16,7 @@ use Rattle.laws.proofs.Fold.{least-le, sum-le}
 use Rattle.job.specs.Model.{Model}
 use Rattle.job.specs.Model.{noDeadline}
 use Rattle.job.specs.Clocked.{ClockedForm}
-use Rattle.validity.specs.Ticks.{effectTick, firstTick, lastTick, useTick, needTick, finish}
+use Rattle.validity.specs.Ticks.{effectTick, firstTick, lastTick, useTick, needTick}
 use Rattle.validity.specs.Seen.{seen, afterAll}
 use Rattle.validity.specs.Levels.{fall, risesBefore, fallsBefore, countsAgainst, fallsAgainst, risenTo}
 use Rattle.validity.specs.Valid.{Valid}
@@ -27,7 +27,7 @@ use Rattle.orders.specs.Links.{conditionLink, goalLink}
 use Rattle.orders.specs.Windows.{allowed, latestOf}
 use Rattle.orders.specs.Supporter.{byInitialState, byEffect, ConditionLinkedTo, GoalLinkedTo}
 use Rattle.orders.specs.Obeys.{Obeys}
-use Rattle.orders.proofs.Orders.{Opposer, fixed-kept, kept-opposing, kept-support, kept-before, kept-after, kept-uses, kept-need, kept-use, kept-serial}
+use Rattle.orders.proofs.Orders.{Opposer, fixed-kept, kept-opposing, kept-support, kept-before, kept-after, kept-uses, kept-need, kept-use}
 use Rattle.orders.proofs.Supporter.{giver, giver-opposes, condition-supported, goal-supported}
 use Rattle.orders.proofs.Links.{goal-link-in-time}
 use Rattle.orders.proofs.Limits.{latest-free, allowed-linked}
@@ -292,19 +292,6 @@ module _ (m : Model) (x y : ℕ → ℕ) (w : ClockedForm m) (s : Valid m x) (ze
             (λ u g a l. kept-use m x y w s zero clock o n u h g a l),
       )
 
-  -- serial jobs
-  serial-apart :
-      m .serial ≡ 1 → (i k : ℕ) → i < m .steps → k < m .steps → (i ≡ k → ⊥) → (finish m y i ≤ y k) ⊎ (finish m y k ≤ y i)
-  serial-apart a i k h g d =
-      ⊎-elim
-      (λ (l : finish m x i ≤ x k). kept-serial m x y w s zero clock o i k a h g d l)
-      (λ (l : finish m x k ≤ x i).
-      ⊎-elim
-      (λ (r : finish m y k ≤ y i). inr r)
-      (λ (r : finish m y i ≤ y k). inl r)
-      (kept-serial m x y w s zero clock o k i a g h (λ e. d (sym e)) l))
-      (s .serialApart a i k h g d)
-
   -- the theorem: a choice that obeys what is found in a valid schedule x is valid
   pub obeying-valid : Valid m y
   obeying-valid =
@@ -317,6 +304,5 @@ module _ (m : Model) (x y : ℕ → ℕ) (w : ClockedForm m) (s : Valid m x) (ze
         needMet = need-met;
         goalReached = goal-reached;
         goalInTime = goal-in-time;
-        serialApart = serial-apart;
         fixedKept = fixed-kept m x y w s zero clock o;
       }

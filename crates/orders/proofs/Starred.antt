@@ -35,18 +35,18 @@ use Rattle.validity.specs.Ticks.{planned}
 use Rattle.validity.specs.Seen.{givenAt, lastGiven, seen, afterAll}
 use Rattle.validity.specs.Levels.{risesBefore, fallsBefore, fallsAgainst, unmet}
 use Rattle.validity.specs.Needs.{shelves}
-use Rattle.validity.specs.Checks.{meets, conflicts, breaks, conditionFails, passes, levelFails, undoes, late, goalFails, overlaps, crowded, ruleCheck}
+use Rattle.validity.specs.Checks.{meets, conflicts, breaks, conditionFails, passes, levelFails, undoes, late, goalFails, ruleCheck}
 use Rattle.validity.specs.Checks.{timingCheck, jobCheck}
 use Rattle.orders.specs.Links.{producer, earliestProduced, tied, favours, supporter, linkOf, conditionLink, goalLink, nthLink}
 use Rattle.orders.specs.Gaps.{supportOrder, supportGap, opposingOrder, opposingGap, beforeOrder, afterOrder, conditionGap, levelOrder, levelGap}
-use Rattle.orders.specs.Gaps.{needOrder, useOrder, needGap, serialGap, gapOf}
+use Rattle.orders.specs.Gaps.{needOrder, useOrder, needGap, gapOf}
 use Rattle.orders.specs.Windows.{clockGap, clockLimit, limitOf, clockLatest, allowed, latestOf}
 use Rattle.rounds.specs.Rounds.{demand, raised, after, unchanged, rounds, earliest}
 use Rattle.orders.specs.File.{linkNumber, ordered, fileWith, fileOf}
 use Rattle.orders.specs.Starred.{fact, level, step, condition, effect, usage, goal, timedFact, joined, offsets, timedTable, tablesOf}
 use Rattle.orders.specs.Starred.{editionOf, jobBytes, Window, window, Order, order}
 use Rattle.orders.specs.Starred.{contentsWith, Expected, refused, accepted, Answers, Case, AllAnswer}
-use Rattle.orders.specs.Starred.{small, nothing, levelled, serially, starred, withTimed, givenWithClock, timedCases}
+use Rattle.orders.specs.Starred.{small, nothing, levelled, marked, starred, withTimed, givenWithClock, timedCases}
 use Rattle.orders.specs.Ties.{givenAtFive, wants, givesOwn, givesOther, givesClock, free, tieCases}
 use Rattle.orders.specs.Needs.{NeedFile, Files, AllFile, unmoved, needFiles}
 use Rattle.order_file.specs.Contents.{Contents}
@@ -213,7 +213,7 @@ a also b = (a, b)
 
 -- all three tables in one, since they compute by the same definitions
 computed : AllAnswerBy starred × AllAnswerBy timedCases × AllAnswerBy tieCases
-unfolding AllAnswerBy AnswersBy starred small nothing levelled serially timedCases withTimed givenWithClock tieCases givenAtFive wants givesOwn
+unfolding AllAnswerBy AnswersBy starred small nothing levelled marked timedCases withTimed givenWithClock tieCases givenAtFive wants givesOwn
     givesOther givesClock
     free jobBytes timedTable tablesOf editionOf joined offsets fact level step condition effect
     usage goal timedFact u16Bytes u32Bytes listed windowOf ordersOf orderAt orderedPair orderedIf passing extend fileWith fileOf linkNumber nthLink u16At
@@ -221,9 +221,9 @@ unfolding AllAnswerBy AnswersBy starred small nothing levelled serially timedCas
     editionKnown marksWrong layoutAgrees _then_ refuseIf refuseLowest factOk levelOk stepOk conditionOk effectOk useOk goalOk timedOk bothWays usesTwice
     opposesOwn setBefore usedBefore opposesAny bothWaysStep usesTwiceStep opposesOwnStep headerCheck tableCheck recordCheck
     againstStep stepCheck timedBothWays timedConflicts timedCheck formCheck givenAt lastGiven seen afterAll risesBefore fallsBefore meets
-    conflicts breaks conditionFails passes levelFails undoes late goalFails overlaps crowded ruleCheck timingCheck jobCheck producer earliestProduced
+    conflicts breaks conditionFails passes levelFails undoes late goalFails ruleCheck timingCheck jobCheck producer earliestProduced
     tied favours supporter linkOf conditionLink goalLink supportOrder supportGap opposingOrder opposingGap beforeOrder afterOrder conditionGap
-    levelOrder levelGap needGap serialGap gapOf clockGap clockLimit limitOf clockLatest allowed latestOf demand raised after unchanged rounds earliest
+    levelOrder levelGap needGap gapOf clockGap clockLimit limitOf clockLatest allowed latestOf demand raised after unchanged rounds earliest
 computed = (
   (
       (refl, refl, refl, refl, refl)
@@ -237,7 +237,7 @@ computed = (
       also refl
       also (refl, refl, refl, refl, refl)
       also (refl, refl, refl, refl, refl)
-      also refl
+      also (refl, refl, refl, refl, refl)
       also tt
       ),
   (
@@ -304,8 +304,8 @@ all-file-by (f ∷ fs) h = (files-by f (h .0), all-file-by fs (h .1))
 
 need-computed : AllFileBy needFiles
 unfolding AllFileBy FilesBy needFiles shelves free unmoved listed windowOf ordersOf orderAt orderedPair orderedIf passing extend fileWith fileOf
-    largest least sum tabulate any all lowest _then_ refuseIf refuseLowest risesBefore fallsBefore fallsAgainst unmet passes levelFails crowded ruleCheck
-    timingCheck supportGap opposingGap conditionGap levelOrder levelGap needOrder useOrder needGap serialGap gapOf clockGap clockLimit limitOf clockLatest
+    largest least sum tabulate any all lowest _then_ refuseIf refuseLowest risesBefore fallsBefore fallsAgainst unmet passes levelFails ruleCheck
+    timingCheck supportGap opposingGap conditionGap levelOrder levelGap needOrder useOrder needGap gapOf clockGap clockLimit limitOf clockLatest
     latestOf demand raised after unchanged rounds earliest
 need-computed =
     (refl, refl, refl, refl, refl)

@@ -22,7 +22,7 @@ use Rattle.order_file.specs.Contents.{initialState, noLatest, lastLink, orderLi
 use Rattle.order_file.specs.Table.{rowWidth, tableSize}
 use Rattle.orders.specs.Links.{conditionLink, nthLink}
 use Rattle.orders.specs.Gaps.{strictly, supportOrder, supportGap, opposingOrder, opposingGap, beforeOrder, afterOrder, conditionGap, levelOrder}
-use Rattle.orders.specs.Gaps.{levelGap, needOrder, useOrder, needGap, serialFirst, serialGap, gapOf}
+use Rattle.orders.specs.Gaps.{levelGap, needOrder, useOrder, needGap, gapOf}
 use Rattle.orders.specs.Windows.{limitOf, allowed, latestOf}
 use Rattle.rounds.specs.Rounds.{earliest}
 use Rattle.orders.specs.Supporter.{LinkedTo, byInitialState, byEffect}
@@ -135,14 +135,6 @@ module _ (m : Model) (x : ℕ → ℕ) (w : ClockedForm m) (s : Valid m x) where
         (span-largest (useOrder m x i k n) (m .uses)
         (λ u r. near x i k (m .useStep u) (m .needStep n) (m .useAt u) (m .needAt n) (o u) (λ _. use-near m w u r) (λ _. need-near m w n l))))
 
-    serial-span : Span (serialGap m x i k)
-    unfolding serialGap
-    serial-span =
-        ⊎-elim
-        (λ (e : serialFirst m x i k ≡ true). rw e (inr (omega arith, omega (arith, w .lengthRange i h))))
-        (λ (e : serialFirst m x i k ≡ false). rw e (inl refl))
-        (either (serialFirst m x i k))
-
     -- no gap is below the least or above the highest
     gap-span : Span (gapOf m x i k)
     unfolding gapOf
@@ -150,7 +142,7 @@ module _ (m : Model) (x : ℕ → ℕ) (w : ClockedForm m) (s : Valid m x) where
         ⊎-elim
         (λ (e : eqb i k ≡ true). rw e (inl refl))
         (λ (e : eqb i k ≡ false).
-        rw e (span-max (span-max (span-max (span-max (span-max support-span opposing-span) condition-span) level-span) need-span) serial-span))
+        rw e (span-max (span-max (span-max (span-max support-span opposing-span) condition-span) level-span) need-span))
         (either (eqb i k))
 
     filed-span : (gapOf m x i k ≡ 0 → ⊥) → (leastGap ≤ gapOf m x i k) × (gapOf m x i k ≤ mostGap)

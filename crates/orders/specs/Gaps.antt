@@ -1,11 +1,11 @@
--- Orders from a sound job, rules 1 to 5: each rule's gap from step i to step k by itself, then the largest. A gap is stored plus
+-- Orders from a sound job, rules 1 to 4: each rule's gap from step i to step k by itself, then the largest. A gap is stored plus
 -- `gapBias`, and 0 stands for none; x is the schedule by whose ticks the orders are found.
 use Prim.Native.Nat.{ℕ, _+_, _-_, max}
-use mathlib.Core.Bool.{Bool, _&&_, _||_, not, cond}
-use lib.Dec.{ltb, leb, eqb}
+use mathlib.Core.Bool.{_&&_, not, cond}
+use lib.Dec.{ltb, eqb}
 use Rattle.laws.specs.Fold.{largest}
 use Rattle.job.specs.Model.{Model}
-use Rattle.validity.specs.Ticks.{effectTick, firstTick, lastTick, useTick, needTick, finish, opposes}
+use Rattle.validity.specs.Ticks.{effectTick, firstTick, lastTick, useTick, needTick, opposes}
 use Rattle.order_file.specs.Contents.{initialState, gapBias}
 use Rattle.orders.specs.Links.{conditionLink}
 
@@ -95,17 +95,8 @@ unfoldable pub needGap : Model → (ℕ → ℕ) → ℕ → ℕ → ℕ
 needGap m x i k =
     largest (m .needs) (λ n. max (largest (m .uses) (needOrder m x i k n)) (largest (m .uses) (useOrder m x i k n)))
 
--- rule 5: in a serial job the step that finishes no later than the other starts is first; both ways, the lower step
-abbrev pub serialFirst : Model → (ℕ → ℕ) → ℕ → ℕ → Bool
-serialFirst m x i k = eqb (m .serial) 1 && leb (finish m x i) (x k) && (not (leb (finish m x k) (x i)) || ltb i k)
-
-unfoldable pub serialGap : Model → (ℕ → ℕ) → ℕ → ℕ → ℕ
-serialGap m x i k = cond (serialFirst m x i k) (m .stepLength i + gapBias) 0
-
 -- "Of several orders from one step to the same other, the largest gap stays"; "Only different steps are ordered"
 unfoldable pub gapOf : Model → (ℕ → ℕ) → ℕ → ℕ → ℕ
 gapOf m x i k =
     cond (eqb i k) 0
-    (max
     (max (max (max (max (supportGap m x i k) (opposingGap m x i k)) (conditionGap m x i k)) (levelGap m x i k)) (needGap m x i k))
-    (serialGap m x i k))

@@ -7,7 +7,7 @@ use lib.ListN.{length, getD}
 use Rattle.little_endian.specs.Bytes.{u16Bytes, u32Bytes}
 use Rattle.verdict.specs.declared.Verdict.{Verdict}
 use Rattle.verdict.specs.declared.Verdict.the-variants.{Accepted, RecordOutOfRange, StepAgainstItself, EffectsConflict, ConditionFails, LevelOutOfBounds}
-use Rattle.verdict.specs.declared.Verdict.the-variants.{GoalFails, StepsOverlap, TimedFactsConflict}
+use Rattle.verdict.specs.declared.Verdict.the-variants.{GoalFails, TimedFactsConflict}
 use Rattle.job.specs.Model.{modelOf}
 use Rattle.validity.specs.Ticks.{planned}
 use Rattle.validity.specs.Checks.{jobCheck}
@@ -189,9 +189,9 @@ levelled most =
       timed = [];
     })
 
--- serial, lengths 5 and 2, starts 0 and the given one
-unfoldable pub serially : ℕ → List ℕ
-serially start =
+-- with the serial mark, lengths 5 and 2, starts 0 and the given one
+unfoldable pub marked : ℕ → List ℕ
+marked start =
     jobBytes
     (record {
       serial = 1;
@@ -243,13 +243,10 @@ starred =
     ∷ record { job = levelled 1; expected = refused (LevelOutOfBounds 0) }
     -- most 2
     ∷ record { job = levelled 2; expected = accepted 1 (window 0 noLatest 0 ∷ window 0 noLatest 0 ∷ []) [] [] }
-    -- serial, lengths 5 and 2, starts 0 and 5
-    ∷ record {
-      job = serially 5;
-      expected = accepted 2 (window 0 noLatest 0 ∷ window 0 noLatest 5 ∷ []) (order 0 1 (plus 5) ∷ []) [];
-    }
-    -- starts 0 and 4
-    ∷ record { job = serially 4; expected = refused (StepsOverlap 0) }
+    -- serial, lengths 5 and 2, starts 0 and 5: "accepted without an order"
+    ∷ record { job = marked 5; expected = accepted 1 (window 0 noLatest 0 ∷ window 0 noLatest 0 ∷ []) [] [] }
+    -- starts 0 and 4, the same
+    ∷ record { job = marked 4; expected = accepted 1 (window 0 noLatest 0 ∷ window 0 noLatest 0 ∷ []) [] [] }
     ∷ []
 
 -- a job of edition 2 on two facts, the first of them 1 at first: step 0 of 5 ticks, what it wants and does, goals, and timed facts

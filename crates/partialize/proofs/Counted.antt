@@ -1,9 +1,10 @@
 -- The counted rounds by the file itself: its orders have the gaps of the rules, so rounds over them are the rounds that were counted.
 use Prim.Native.Nat.{ℕ, suc, _/_, _%_, _≤_, _<_}
 use mathlib.Core.Path.{_≡_, ap, _∙_}
-use mathlib.Core.Bool.{true, false}
+use mathlib.Core.Bool.{true, false, _&&_}
 use native.Mathlib.Decide.{ℕ-discrete}
 use native.Mathlib.Omega.{arith}
+use lib.Dec.{eqb}
 use Rattle.order_file.specs.Table.{rowWidth, tableSize}
 use Rattle.laws.specs.Fold.{largest}
 use Rattle.laws.specs.Nth.{count}
@@ -22,10 +23,22 @@ use Rattle.orders.specs.File.{roundsOf, ordered, pairOf, fileWith}
 use Rattle.partialize.specs.Demands.{filedGap, settledAfter}
 use Rattle.rounds.proofs.Rounds.{rounds-some, last-unchanged, earlier-changes}
 use Rattle.rounds.proofs.Same.{unchanged-same}
-use Rattle.origins.proofs.Raised.{single-at}
-use Rattle.gaps.proofs.Filled.{single-le}
+use Rattle.origins.proofs.Raised.{single-at, single-off}
+use Rattle.orders.proofs.Near.{counted-le}
 use Rattle.orders.proofs.Planned.{planned-obeys}
 use Rattle.orders.proofs.Satisfied.{pair-filed, obeys-satisfied}
+
+-- one order's gap, between two steps, is at most theirs
+single-le : (gap : ℕ → ℕ → ℕ) (a b i k : ℕ) → single i k (gap i k) a b ≤ gap a b
+single-le gap a b i k =
+    elim (ℕ-discrete i a) [
+      | yes p ↦
+          elim (ℕ-discrete k b) [
+            | yes q ↦ rw (p, q) (counted-le (eqb a a && eqb b b) (gap a b))
+            | no q ↦ omega (arith, single-off i k (gap i k) a b (λ _ t. q t))
+          ]
+      | no p ↦ omega (arith, single-off i k (gap i k) a b (λ s _. p s))
+    ]
 
 module _ (number : ℕ → ℕ) (m : Model) (x : ℕ → ℕ) (w : ClockedForm m) where
   -- the largest gap filed between two steps is the rules' gap
@@ -36,7 +49,7 @@ module _ (number : ℕ → ℕ) (m : Model) (x : ℕ → ℕ) (w : ClockedForm m
       (gapOf m x (pairOf m x o / rowWidth) (pairOf m x o % rowWidth)) i k in
       let n : ℕ = count tableSize (ordered m x) in
       let most : largest n f ≤ gapOf m x i k =
-      largest-le f n (gapOf m x i k) (λ o _. single-le n (gapOf m x) i k (pairOf m x o / rowWidth) (pairOf m x o % rowWidth))
+      largest-le f n (gapOf m x i k) (λ o _. single-le (gapOf m x) i k (pairOf m x o / rowWidth) (pairOf m x o % rowWidth))
       in
       elim (ℕ-discrete (gapOf m x i k) 0) [
         | yes z ↦ omega arith

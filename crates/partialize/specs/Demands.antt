@@ -59,7 +59,7 @@ settledAfter c r = unchanged (c .steps) (filedGap c) gapBias (after (c .steps) (
 -- demand 3: whatever starts satisfy the file are a sound timing with the planned schedule's end, timed facts acting as effects of the
 -- clock, which starts at 0
 pub record Loose (s file : List ℕ) : Type 0 where
-  -- no condition fails, no opposing effects meet, no level passes a bound, no goal or deadline is missed, no serial steps overlap,
+  -- no condition fails, no opposing effects meet, no level passes a bound, no need stays unmet, no goal or deadline is missed,
   -- every fixed step keeps its tick
   pub valid : (y : ℕ → ℕ) → SatisfiesFile file y → Valid (clocked (modelOf s)) (withClock (modelOf s) y)
   -- so the timing check accepts a list of such starts

@@ -1,5 +1,5 @@
 -- Inner: what is known of a valid schedule from step to step, until it is filed.
-use Prim.Native.Nat.{ℕ, _+_, _≤_, _<_}
+use Prim.Native.Nat.{ℕ, _≤_, _<_}
 use mathlib.Core.Path.{_≡_}
 use mathlib.Core.List.{List}
 use lib.ListN.{length}
@@ -10,7 +10,6 @@ use Rattle.validity.specs.Ticks.{scheduleOf}
 use Rattle.validity.specs.Valid.{Valid}
 use Rattle.points.specs.Points.{PointsKnown}
 use Rattle.links.specs.LinkList.{LinksOf}
-use Rattle.gaps.specs.Table.{Writable}
 use Rattle.limits.specs.Timed.{mostLimit}
 use Rattle.order_file.specs.Contents.{linkLimit}
 use Rattle.order_file.specs.Table.{rowWidth, startIn}
@@ -21,7 +20,7 @@ use Rattle.windows.specs.Starts.{Bounded}
 pub record ValidStarts (m : Model) (starts : List ℕ) : Type 0 where
   pub form : WellFormed m
   pub valid : Valid (clocked m) (scheduleOf starts)
-  pub written : Writable m starts
+  pub written : m .steps ≤ length starts
   pub clock : scheduleOf starts (m .steps) ≡ 0
 
 -- the points at these starts, those of timed facts among them

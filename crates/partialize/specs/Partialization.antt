@@ -30,7 +30,7 @@ accepts s = eqb (number (jobCheck s)) 0
 unfoldable pub fits : List ℕ → ℕ → Bool
 fits s n = leb (length (fileBytes s)) n
 
--- refusals 1 to 7, 17, 10 to 14 and 21, then 15, else the file's length
+-- refusals 1 to 7, 17, 10 to 13 and 21, then 15, else the file's length
 unfoldable pub answerTo : List ℕ → ℕ → Answer
 answerTo s n = cond (accepts s) (cond (fits s n) (Filed (length (fileBytes s))) BufferTooShort) (Refused (jobCheck s))
 

@@ -5,7 +5,6 @@ unfoldable pub untimed : Job → Job
 untimed j =
     record {
       edition = j .edition;
-      serial = j .serial;
       count = record {
         facts = j .count .facts;
         levels = j .count .levels;

@@ -22,7 +22,6 @@ pub fn untimed(job: Job) -> Job
     let at = job.at;
     Job {
         edition: job.edition,
-        serial: job.serial,
         count,
         at,
     }

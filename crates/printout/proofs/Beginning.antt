@@ -121,7 +121,6 @@ module _ (s t : List ℕ) (long : longestHeader ≤ length s) (other : longestHe
   job-same =
       cc (
         r 0 (omega arith),
-        r 2 (omega arith),
         r 4 (omega arith),
         r 6 (omega arith),
         r 8 (omega arith),
@@ -142,6 +141,7 @@ module _ (s t : List ℕ) (long : longestHeader ≤ length s) (other : longestHe
         le-ltb (length s) (headerWidth (jobOf s .edition)) (omega (arith, header-most (jobOf s .edition))),
         le-ltb (length t) (headerWidth (jobOf t .edition)) (omega (arith, header-most (jobOf t .edition))),
         job-same,
+        r 2 (omega arith),
         r 54 (omega arith),
       )
 

@@ -3,11 +3,11 @@
 use Prim.Native.Nat.{ℕ, _≤_}
 use mathlib.Core.Path.{_≡_, refl, sym, ap, ap₂, _∙_, subst}
 use mathlib.Core.Bool.{true, false}
-use mathlib.Core.List.{List}
+use mathlib.Core.List.{List, _++_}
 use mathlib.Core.Logic.{⊎-elim}
 use native.Mathlib.Omega.{arith}
 use borrow.Author.Tests.{le-leb, eqb-true, eqb-false}
-use lib.ListN.{length, take}
+use lib.ListN.{length, take, length-append}
 use Rattle.laws.proofs.Search.{either}
 use Rattle.verdict.specs.Verdict as verdict
 use Rattle.job.specs.Model.{modelOf}
@@ -27,7 +27,8 @@ use Rattle.sheet.specs.Text.{sheetText, refusedText}
 use Rattle.text.specs.Put.{Written}
 use Rattle.sheet.proofs.Agree.{sheet-agree}
 use Rattle.sheet.proofs.Fits.{sheet-fits}
-use Rattle.printout.specs.Shown.{shown, mostText}
+use Rattle.printout.specs.Shown.{markLine, shown, mostText}
+use Rattle.printout.proofs.Mark.{mark-short}
 
 -- the longest order file
 abbrev mostFile : ℕ
@@ -42,8 +43,8 @@ module _ (s : List ℕ) (t : accepts s ≡ true) where
   unfolding fileBytes
   file-short = omega (arith, length-encode (looseOf s), loose-within .steps, loose-within .orders, loose-within .links)
 
-  text-short : length (sheetText (looseOf s)) ≤ mostText
-  text-short = sheet-fits (looseOf s) loose-within
+  text-short : length (markLine s ++ sheetText (looseOf s)) ≤ mostText
+  text-short = rw (length-append (markLine s) (sheetText (looseOf s))) (omega (arith, mark-short s, sheet-fits (looseOf s) loose-within))
 
 module _ (s before after : List ℕ) (r : Answer) (p : Promise s before after r) (room : mostFile ≤ length before) where
   filed : accepts s ≡ true → r ≡ Filed (length (fileBytes s))
@@ -73,10 +74,10 @@ module _ (s before after : List ℕ) (r : Answer) (p : Promise s before after r)
   pub filed-length : number r ≡ 0 → lengthOf r ≤ mostFile
   filed-length z = rw (filed (accepted z)) (file-short s (accepted z))
 
-  -- its sheet is what is shown, and is no longer than the longest text
-  pub sheet-shown : number r ≡ 0 → sheetText (contentsOf (take (lengthOf r) after)) ≡ shown s
+  -- its sheet behind the mark's line is what is shown, and is no longer than the longest text
+  pub sheet-shown : number r ≡ 0 → markLine s ++ sheetText (contentsOf (take (lengthOf r) after)) ≡ shown s
   unfolding shown
-  sheet-shown z = rw (accepted z) (sheet-agree _ _ (p .exact z .contents))
+  sheet-shown z = rw (accepted z) (ap (λ (sheet : List ℕ). markLine s ++ sheet) (sheet-agree _ _ (p .exact z .contents)))
 
   pub shown-short : number r ≡ 0 → length (shown s) ≤ mostText
   unfolding shown

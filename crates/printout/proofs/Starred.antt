@@ -3,13 +3,13 @@
 use Prim.Native.Nat.{ℕ, _≤_}
 use mathlib.Core.Path.{_≡_, refl, ap, _∙_}
 use mathlib.Core.Bool.{true, false}
-use mathlib.Core.List.{List, []}
+use mathlib.Core.List.{List, [], _++_}
 use native.Mathlib.Omega.{arith}
 use borrow.Author.Tests.{le-leb, lt-leb, eq-eqb}
 use lib.ListN.{length}
 use lib.Dec.{eqb}
 use Rattle.laws.specs.Listed.{concatenate}
-use Rattle.little_endian.specs.Bytes.{u16Bytes, u32Bytes}
+use Rattle.little_endian.specs.Bytes.{u16At, u16Bytes, u32Bytes}
 use Rattle.verdict.specs.declared.Verdict.{Verdict}
 use Rattle.verdict.specs.declared.Verdict.the-variants.{Accepted}
 use Rattle.verdict.specs.Verdict.{number, place, nowhere}
@@ -20,7 +20,7 @@ use Rattle.order_file.specs.Contents.{Contents}
 use Rattle.order_file.specs.Agree.{Agree}
 use Rattle.order_file.specs.Encode.{headerBytes, windowBytes, orderBytes, linkBytes, upToWindow, upToOrder, upToLink, encode}
 use Rattle.orders.specs.File.{fileOf}
-use Rattle.orders.specs.Starred.{contentsWith, starred}
+use Rattle.orders.specs.Starred.{jobBytes, contentsWith, small, nothing, levelled, marked, starred}
 use Rattle.orders.proofs.Starred.{_also_, starred-answers}
 use Rattle.partialize.specs.declared.answer.Answer.the-variants.{Filed, Refused}
 use Rattle.partialize.specs.Answer as answer
@@ -29,7 +29,7 @@ use Rattle.partialize.proofs.Filed.{encode-agree}
 use Rattle.text.specs.Decimal.{digits, decimal}
 use Rattle.sheet.specs.Text.{gapText, latestText, headLine, windowLine, orderLine, sheetText, refusedText}
 use Rattle.sheet.proofs.Agree.{sheet-agree}
-use Rattle.printout.specs.Shown.{shown}
+use Rattle.printout.specs.Shown.{markLine, shown}
 use Rattle.printout.specs.Starred.{Answered, AllAnswered, codes, lines, starredWhole}
 
 module _ (s : List ℕ) where
@@ -74,7 +74,7 @@ module _ (s : List ℕ) where
     unfolding answerTo fits
     filed n r = rw (accepted, same-bytes, le-leb _ _ r)
 
-    filed-answered : Answered (record { job = s; number = 0; place = nowhere; file = encode c; text = sheetText c })
+    filed-answered : Answered (record { job = s; number = 0; place = nowhere; file = encode c; text = markLine s ++ sheetText c })
     unfolding answerTo bufferAfter fits shown
     filed-answered =
         record {
@@ -83,13 +83,14 @@ module _ (s : List ℕ) where
           lengthOf = λ n r. ap answer.lengthOf (filed n r);
           short = λ n r. rw (accepted, same-bytes, lt-leb _ _ r);
           buffer = λ b r. rw (accepted, same-bytes, le-leb _ _ r);
-          text = rw accepted (sheet-agree (looseOf s) c loose);
+          text = rw accepted (ap (λ (sheet : List ℕ). markLine s ++ sheet) (sheet-agree (looseOf s) c loose));
         }
 
 -- the definitions answer the whole table as the paper does
 pub starred-answered : AllAnswered starredWhole
-unfolding starredWhole lines codes starred contentsWith upToLink upToOrder upToWindow headerBytes windowBytes orderBytes linkBytes
-    concatenate u16Bytes u32Bytes sheetText headLine windowLine orderLine refusedText decimal digits gapText latestText
+unfolding starredWhole lines codes starred small nothing levelled marked jobBytes contentsWith upToLink upToOrder upToWindow headerBytes
+    windowBytes orderBytes linkBytes concatenate u16At u16Bytes u32Bytes markLine sheetText headLine windowLine orderLine refusedText decimal
+    digits gapText latestText
 starred-answered =
     let a0 = starred-answers in
     let a1 = a0 .1 in
@@ -114,5 +115,5 @@ starred-answered =
     also refused-answered _ _ refl (a8 .0)
     also filed-answered _ _ (a9 .0)
     also filed-answered _ _ (a10 .0)
-    also refused-answered _ _ refl (a11 .0)
+    also filed-answered _ _ (a11 .0)
     also tt

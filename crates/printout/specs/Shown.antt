@@ -2,24 +2,29 @@
 use Prim.Native.Nat.{ℕ, _+_, _*_}
 use mathlib.Core.Bool.{cond}
 use mathlib.Core.Path.{_≡_}
-use mathlib.Core.List.{List}
+use mathlib.Core.List.{List, [], _++_}
+use lib.Dec.{eqb}
 use lib.ListN.{length, take}
 use Rattle.verdict.specs.Verdict.{number, place}
-use Rattle.job.specs.Layout.{longestHeader, factWidth, levelWidth, stepWidth, conditionWidth, effectWidth, useWidth, goalWidth, timedWidth, needWidth}
+use Rattle.job.specs.Layout.{serialMark, longestHeader, factWidth, levelWidth, stepWidth, conditionWidth, effectWidth, useWidth, goalWidth, timedWidth, needWidth}
 use Rattle.job.specs.Layout.{mostFacts, mostLevels, mostSteps, mostConditions, mostEffects, mostUses, mostGoals, mostTimed, mostNeeds}
 use Rattle.validity.specs.Checks.{jobCheck}
 use Rattle.order_file.specs.Contents.{stepLimit, orderLimit}
-use Rattle.sheet.specs.Text.{sheetText, refusedText, sheetMost}
+use Rattle.sheet.specs.Text.{ignoredLine, sheetText, refusedText, ignoredMost, sheetMost}
 use Rattle.text.specs.Put.{Written}
 use Rattle.partialize.specs.Partialization.{looseOf, accepts}
 
--- the sheet of its order file, or the refusal of the job check
+-- the line before an accepted job's first line, if it has the serial mark
+unfoldable pub markLine : List ℕ → List ℕ
+markLine s = cond (eqb (serialMark s) 1) ignoredLine []
+
+-- that line and the sheet of its order file, or the refusal of the job check
 unfoldable pub shown : List ℕ → List ℕ
-shown s = cond (accepts s) (sheetText (looseOf s)) (refusedText (number (jobCheck s)) (place (jobCheck s)))
+shown s = cond (accepts s) (markLine s ++ sheetText (looseOf s)) (refusedText (number (jobCheck s)) (place (jobCheck s)))
 
 -- the most bytes of it
 abbrev pub mostText : ℕ
-mostText = sheetMost stepLimit orderLimit
+mostText = ignoredMost + sheetMost stepLimit orderLimit
 
 -- the longest job, with every table at its highest count
 abbrev pub mostJob : ℕ

@@ -6,9 +6,9 @@ use mathlib.Core.Path.{_≡_}
 use mathlib.Core.List.{List, [], _∷_, _++_}
 use lib.ListN.{length}
 use Rattle.little_endian.specs.Bytes.{u16Bytes, u32Bytes}
-use Rattle.order_file.specs.Contents.{noLatest, initialState}
+use Rattle.order_file.specs.Contents.{noLatest}
 use Rattle.order_file.specs.Held.{over}
-use Rattle.orders.specs.Starred.{goal, small, nothing, levelled, serially, negative}
+use Rattle.orders.specs.Starred.{goal, small, nothing, levelled, marked, negative}
 use Rattle.partialize.specs.declared.answer.Answer.the-variants.{BufferTooShort}
 use Rattle.partialize.specs.Answer as answer
 use Rattle.verdict.specs.Verdict.{nowhere}
@@ -128,14 +128,24 @@ starredWhole =
       file = header 2 0 0 1 48 48 ++ window 0 noLatest 0 ++ window 0 noLatest 0;
       text = lines ("steps 2 rounds 1" ∷ "step 0 earliest 0 latest none" ∷ "step 1 earliest 0 latest none" ∷ []);
     }
-    -- serial, lengths 5 and 2, starts 0 and 5
+    -- serial, lengths 5 and 2, starts 0 and 5: "accepted without an order"
     ∷ record {
-      job = serially 5;
+      job = marked 5;
       number = 0;
       place = nowhere;
-      file = header 2 1 0 2 48 56 ++ window 0 noLatest 0 ++ window 0 noLatest 5 ++ order 0 1 5;
-      text = lines ("steps 2 rounds 2" ∷ "step 0 earliest 0 latest none" ∷ "step 1 earliest 5 latest none" ∷ "order 0 1 5" ∷ []);
+      file = header 2 0 0 1 48 48 ++ window 0 noLatest 0 ++ window 0 noLatest 0;
+      text =
+          lines
+          ("serial mark ignored" ∷ "steps 2 rounds 1" ∷ "step 0 earliest 0 latest none" ∷ "step 1 earliest 0 latest none" ∷ []);
     }
-    -- starts 0 and 4
-    ∷ record { job = serially 4; number = 14; place = 0; file = []; text = lines ("refused 14 place 0" ∷ []) }
+    -- starts 0 and 4, the same
+    ∷ record {
+      job = marked 4;
+      number = 0;
+      place = nowhere;
+      file = header 2 0 0 1 48 48 ++ window 0 noLatest 0 ++ window 0 noLatest 0;
+      text =
+          lines
+          ("serial mark ignored" ∷ "steps 2 rounds 1" ∷ "step 0 earliest 0 latest none" ∷ "step 1 earliest 0 latest none" ∷ []);
+    }
     ∷ []

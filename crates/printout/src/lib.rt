@@ -1,8 +1,9 @@
-// What `show` prints of a job: the sheet of its order file, or its refusal.
+// What `show` prints of a job: the sheet of its order file, behind a line if a serial mark was ignored, or its refusal.
 ghost use Prim.Native.Nat.{_≤_};
 ghost use lib.ListN.{length};
-ghost use Rattle.text.specs.Put.{Written};
-ghost use Rattle.printout.specs.Shown.{shown, mostText, inputMost, ShowsInput};
+ghost use Rattle.text.specs.Put.{Put, Written};
+ghost use Rattle.sheet.specs.Text.{ignoredMost};
+ghost use Rattle.printout.specs.Shown.{markLine, shown, mostText, inputMost, ShowsInput};
 use job::layout::CONDITION;
 use job::layout::EFFECT;
 use job::layout::FACT;
@@ -15,6 +16,7 @@ use job::layout::STEP;
 use job::layout::TIMED;
 use job::layout::USE;
 use job::layout::WIDTHS;
+use job::layout::serial_mark;
 use order_file::layout::FILE_WIDTHS;
 use order_file::layout::LINK;
 use order_file::layout::MOST_LINKS;
@@ -48,7 +50,18 @@ const MOST_FILE: usize = WINDOWS_AT
     + FILE_WIDTHS[LINK] * MOST_LINKS;
 
 // The longest text.
-pub const MOST_TEXT: usize = 164771;
+pub const MOST_TEXT: usize = 164791;
+
+// Puts the line before the first line of an accepted job, if the job has the serial mark.
+fn put_mark(job: &[u8], text: &mut [u8]) -> usize
+    ensures { λ r. ⌜ Put (now (text .entry)) 0 (markLine (now (job .entry))) (now (text .exit)) r × (r ≤ ignoredMost) ⌝ }
+{
+    if serial_mark(job) == 1 {
+        text::put_word(b"serial mark ignored\n", 0, text)
+    } else {
+        0
+    }
+}
 
 // Writes what `show` prints of a job to the front of `text`, and answers how long it is, whether or not there was room for it.
 pub fn show_job(job: &[u8], text: &mut [u8]) -> usize
@@ -62,7 +75,8 @@ pub fn show_job(job: &[u8], text: &mut [u8]) -> usize
         return sheet::write_refused(number, answer::place(a), text);
     }
     let length = answer::length(a) as usize;
-    sheet::write_sheet(&file[..length], text)
+    let at = put_mark(job, text);
+    sheet::put_sheet(&file[..length], at, text)
 }
 
 // The same of input that was read into `buffer`, n bytes, to its own end or to the buffer's: the text is that of the whole input.

@@ -9,7 +9,7 @@ use borrow.Author.Tests.{ltb-true, ltb-false, leb-true, eqb-true, eqb-false, not
 use lib.Dec.{leb, eqb, lit<}
 use lib.ListN.{getD}
 use Rattle.little_endian.specs.Bytes.{signBias}
-use Rattle.laws.proofs.Search.{either, and-both, or-both, any-false}
+use Rattle.laws.proofs.Search.{either, and-both, any-false}
 use Rattle.verdict.specs.declared.Verdict.the-variants.{RecordOutOfRange}
 use Rattle.verdict.specs.Verdict.{number, _then_}
 use Rattle.verdict.proofs.Chain.{then-zero, refuse-zero, lowest-zero}
@@ -22,7 +22,7 @@ use Rattle.job.specs.Model.{Model, view, modelOf, lastStart, longest, lastDeadl
 use Rattle.job.specs.Model.{lowestLevel, highestLevel, lowestAmount, highestAmount}
 use Rattle.job.specs.WellFormed.{Ranged}
 use Rattle.record_check.specs.declared.Form.{Form}
-use Rattle.header_check.specs.Header.{headerCheck, marksWrong}
+use Rattle.header_check.specs.Header.{headerCheck}
 use Rattle.ranges.specs.Ranges.{levelInRange, factOk, levelOk, stepOk, conditionOk, effectOk, useOk, goalOk, timedOk, needOk}
 use Rattle.ranges.specs.Ranges.{recordOk, recordBroken, countIn}
 use Rattle.record_check.specs.Records.{tableCheck, recordCheck, RecordsPromise}
@@ -155,23 +155,18 @@ pub counts : (c : Counts) → countTooHigh c ≡ false → (t : ℕ) → t < 9 �
 unfolding countTooHigh
 counts c e t h = ltb-false _ _ (any-false _ 9 e t h)
 
--- the header, once refusals 1 to 5 pass
-pub header : (s : List ℕ) → number (headerCheck s) ≡ 0 → (jobOf s .serial ≤ 1) × (countTooHigh (jobOf s .count) ≡ false)
-unfolding headerCheck marksWrong
-header s e =
-    let a = then-zero _ _ e in
-    let b = then-zero _ _ (a .0) in
-    let c = then-zero _ _ (b .0) in (
-      ltb-false _ _ (or-both _ _ (or-both _ _ (refuse-zero _ _ (λ z. let y : _≡_ {A = ℕ} 3 0 = z in omega arith) (c .1)) .0) .0),
-      refuse-zero _ _ (λ z. let y : _≡_ {A = ℕ} 4 0 = z in omega arith) (b .1),
-    )
+-- nor does one of a file that refusals 1 to 5 pass
+pub counted : (s : List ℕ) → number (headerCheck s) ≡ 0 → countTooHigh (jobOf s .count) ≡ false
+unfolding headerCheck
+counted s e =
+    let b = then-zero _ _ (then-zero _ _ e .0) in refuse-zero _ _ (λ z. let y : _≡_ {A = ℕ} 4 0 = z in omega arith) (b .1)
 
 -- what refusals 1 to 6 leave
 pub ranged : (s : List ℕ) → number (headerCheck s then recordCheck (modelOf s)) ≡ 0 → Ranged (modelOf s)
 unfolding jobOf
 ranged s e =
     let b = then-zero _ _ e in
-    let n = counts (jobOf s .count) (header s (b .0) .1) in
+    let n = counts (jobOf s .count) (counted s (b .0)) in
     let m = modelOf s in
     let ok = tables m (b .1) in record {
       factCount = n 0 (lit< tt);

@@ -2,7 +2,6 @@
 use Prim.Native.Nat.{ℕ, _≤_, _<_}
 use mathlib.Core.Path.{_≡_}
 use mathlib.Core.List.{List}
-use lib.ListN.{length}
 use Rattle.laws.specs.Search.{lowest}
 use Rattle.verdict.specs.declared.Verdict.{Verdict}
 use Rattle.verdict.specs.Verdict.{_then_}
@@ -10,7 +9,7 @@ use Rattle.job.specs.declared.layout.Job.{Job}
 use Rattle.job.specs.Model.{Model, view}
 use Rattle.job.specs.WellFormed.{WellFormed}
 use Rattle.job.specs.Clocked.{clocked}
-use Rattle.validity.specs.declared.Rule.the-variants.{Conditions, Levels, Needs, Goals, Steps}
+use Rattle.validity.specs.declared.Rule.the-variants.{Conditions, Levels, Needs, Goals}
 use Rattle.validity.specs.Ticks.{scheduleOf}
 use Rattle.validity.specs.Checks.{conditionFails, ruleCheck}
 use Rattle.points.specs.Points.{PointsKnown, OneValue}
@@ -39,16 +38,14 @@ pub record FormedPoints (m : Model) (x : ℕ → ℕ) (points begins : List ℕ)
   pub form : WellFormed m
   pub known : PointsKnown (clocked m) x points begins
 
--- besides, one start a step, no two effects that give a fact different values at one tick, and the lowest condition that fails
-pub record Settled (m : Model) (starts points begins : List ℕ) (c : ℕ) : Type 0 where
+-- besides, no two effects that give a fact different values at one tick, and the lowest condition that fails
+pub record Settled (m : Model) (x : ℕ → ℕ) (points begins : List ℕ) (c : ℕ) : Type 0 where
   pub form : WellFormed m
-  pub known : PointsKnown (clocked m) (scheduleOf starts) points begins
-  pub oneValue : OneValue (clocked m) (scheduleOf starts)
-  pub counted : length starts ≡ m .steps
-  pub failing : c ≡ lowest (m .conditions) (conditionFails (clocked m) (scheduleOf starts))
+  pub known : PointsKnown (clocked m) x points begins
+  pub oneValue : OneValue (clocked m) x
+  pub failing : c ≡ lowest (m .conditions) (conditionFails (clocked m) x)
 
--- refusals 11 to 14 and 21 after a verdict
+-- refusals 11 to 13 and 21 after a verdict
 abbrev pub settledCheck : Model → (ℕ → ℕ) → Verdict → Verdict
 settledCheck m x v =
     v then ruleCheck m x Conditions then ruleCheck m x Levels then ruleCheck m x Needs then ruleCheck m x Goals
-    then ruleCheck m x Steps

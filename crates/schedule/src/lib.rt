@@ -1,7 +1,7 @@
-// The timing check: refusals 8 to 14 and 21, on the written starts or on any list of starts.
+// The timing check: refusals 8 to 13 and 21, on the written starts or on any list of starts.
 ghost use mathlib.Core.Path.{_≡_};
 ghost use mathlib.Core.Bool.{true};
-ghost use lib.ListN.{length};
+ghost use Prim.Native.Nat.{ℕ};
 ghost use Rattle.job.specs.Model.{view};
 ghost use Rattle.job.specs.WellFormed.{Ranged};
 ghost use Rattle.job.specs.Clocked.{clocked};
@@ -35,17 +35,11 @@ use verdict::Verdict;
 use verdict::number;
 use verdict::refuse_if;
 
-// Refusals 11 to 14 and 21, of a schedule that 10 passes; c is the lowest condition that fails.
-fn check_settled(
-    s: &[u8],
-    job: Job,
-    starts: &[u32],
-    points: &[u64],
-    begins: &[u16],
-    c: u16,
-) -> Verdict
-    requires { ⌜ Settled (view job (now s)) (now starts) (now points) (now begins) c × Laid job (now s) ⌝ }
-    ensures { λ r. ⌜ r ≡ settledCheck (clocked (view job (now (s .entry)))) (scheduleOf (now (starts .entry))) Accepted ⌝ }
+// Refusals 11 to 13 and 21, of a schedule that 10 passes; c is the lowest condition that fails.
+fn check_settled(s: &[u8], job: Job, points: &[u64], begins: &[u16], c: u16) -> Verdict
+    requires { ⌜ Laid job (now s) × ((x : ℕ → ℕ) × Settled (view job (now s)) x (now points) (now begins) c) ⌝ }
+    ensures { λ r. ⌜ ((x : ℕ → ℕ) → Settled (view job (now (s .entry))) x (now (points .entry)) (now (begins .entry)) c
+        → r ≡ settledCheck (clocked (view job (now (s .entry)))) x Accepted) ⌝ }
 {
     let v = Verdict::Accepted;
     let v = refuse_if(v, c < job.count.conditions, Verdict::ConditionFails(c));
@@ -54,15 +48,12 @@ fn check_settled(
     let d = needs::first_unmet(s, job, points, begins);
     let v = refuse_if(v, d < job.count.needs, Verdict::NeedUnmet(d));
     let g = goals::first_missed(s, job, points, begins);
-    let v = refuse_if(v, g < job.count.goals, Verdict::GoalFails(g));
-    let i = steps::first_crowded(s, job, starts);
-    refuse_if(v, i < job.count.steps, Verdict::StepsOverlap(i))
+    refuse_if(v, g < job.count.goals, Verdict::GoalFails(g))
 }
 
-// Refusals 10 to 14 and 21.
+// Refusals 10 to 13 and 21.
 fn check_timing(s: &[u8], job: Job, starts: &[u32], points: &[u64], begins: &[u16]) -> Verdict
-    requires { ⌜ FormedPoints (view job (now s)) (scheduleOf (now starts)) (now points) (now begins)
-        × (length (now starts) ≡ job .count .steps) × Laid job (now s) ⌝ }
+    requires { ⌜ FormedPoints (view job (now s)) (scheduleOf (now starts)) (now points) (now begins) × Laid job (now s) ⌝ }
     ensures { λ r. ⌜ r ≡ timingCheck (clocked (view job (now (s .entry)))) (scheduleOf (now (starts .entry))) ⌝ }
 {
     let e = effects::first_conflict(s, job, starts, points, begins);
@@ -70,7 +61,7 @@ fn check_timing(s: &[u8], job: Job, starts: &[u32], points: &[u64], begins: &[u1
         return Verdict::EffectsConflict(e);
     }
     let c = conditions::first_contested(s, job, starts, points, begins);
-    check_settled(s, job, starts, points, begins, c)
+    check_settled(s, job, points, begins, c)
 }
 
 // Refusals 8 and 9.
@@ -84,7 +75,7 @@ fn check_starts(s: &[u8], job: Job, starts: &[u32]) -> Verdict
     refuse_if(v, k < job.count.steps, Verdict::FixedStepMoved(k))
 }
 
-// Refusals 8 to 14 and 21, of a well-formed job, rule by rule.
+// Refusals 8 to 13 and 21, of a well-formed job, rule by rule.
 fn check_formed(s: &[u8], job: Job, starts: &[u32], points: &[u64], begins: &[u16]) -> Verdict
     requires { ⌜ FormedPoints (view job (now s)) (scheduleOf (now starts)) (now points) (now begins) × Laid job (now s) ⌝ }
     ensures { λ r. ⌜ r ≡ startsCheck (clocked (view job (now (s .entry)))) (now (starts .entry)) ⌝ }
@@ -96,7 +87,7 @@ fn check_formed(s: &[u8], job: Job, starts: &[u32], points: &[u64], begins: &[u1
     check_timing(s, job, starts, points, begins)
 }
 
-// Refusals 8, 9, 12 to 14 and 21, where the walks found nothing else wrong.
+// Refusals 8, 9, 12, 13 and 21, where the walks found nothing else wrong.
 fn check_clear(s: &[u8], job: Job, starts: &[u32], points: &[u64], begins: &[u16]) -> Verdict
     requires { ⌜ FormedPoints (view job (now s)) (scheduleOf (now starts)) (now points) (now begins)
         × Clear (clocked (view job (now s))) (scheduleOf (now starts)) × Laid job (now s) ⌝ }
@@ -106,7 +97,7 @@ fn check_clear(s: &[u8], job: Job, starts: &[u32], points: &[u64], begins: &[u16
     if number(v) != 0 {
         return v;
     }
-    check_settled(s, job, starts, points, begins, job.count.conditions)
+    check_settled(s, job, points, begins, job.count.conditions)
 }
 
 // Whether the walks find nothing wrong: nothing is against itself, nothing conflicts, and no condition fails.
@@ -135,7 +126,7 @@ fn check_against(s: &[u8], job: Job) -> Verdict
     self_check::clock::check_clock(s, job)
 }
 
-// Refusals 7 to 14, 17 and 21, where the walks found something wrong: the search by pairs says whether a step or the clock is against itself.
+// Refusals 7 to 13, 17 and 21, where the walks found something wrong: the search by pairs says whether a step or the clock is against itself.
 fn check_named(s: &[u8], job: Job, starts: &[u32], points: &[u64], begins: &[u16]) -> Verdict
     requires { ⌜ Ordered (now s) job (now starts) (now points) (now begins) ⌝ }
     ensures { λ r. ⌜ r ≡ (stepCheck (view job (now (s .entry))) then timedCheck (view job (now (s .entry)))
@@ -148,7 +139,7 @@ fn check_named(s: &[u8], job: Job, starts: &[u32], points: &[u64], begins: &[u16
     check_formed(s, job, starts, points, begins)
 }
 
-// Refusals 7 to 14, 17 and 21, of points in the order of their ticks.
+// Refusals 7 to 13, 17 and 21, of points in the order of their ticks.
 fn check_ordered(s: &[u8], job: Job, starts: &[u32], points: &[u64], begins: &[u16]) -> Verdict
     requires { ⌜ Ordered (now s) job (now starts) (now points) (now begins) ⌝ }
     ensures { λ r. ⌜ r ≡ (stepCheck (view job (now (s .entry))) then timedCheck (view job (now (s .entry)))
@@ -161,7 +152,7 @@ fn check_ordered(s: &[u8], job: Job, starts: &[u32], points: &[u64], begins: &[u
     }
 }
 
-// Refusals 7 to 14, 17 and 21 of a small job.
+// Refusals 7 to 13, 17 and 21 of a small job.
 fn check_small(s: &[u8], job: Job, starts: &[u32]) -> Verdict
     requires { ⌜ Read (now s) job × Small (job .count) ⌝ }
     ensures { λ r. ⌜ r ≡ (stepCheck (view job (now (s .entry))) then timedCheck (view job (now (s .entry)))
@@ -174,7 +165,7 @@ fn check_small(s: &[u8], job: Job, starts: &[u32]) -> Verdict
     check_ordered(s, job, starts, &points, &begins)
 }
 
-// Refusals 7 to 14, 17 and 21.
+// Refusals 7 to 13, 17 and 21.
 fn check_read(s: &[u8], job: Job, starts: &[u32]) -> Verdict
     requires { ⌜ Read (now s) job ⌝ }
     ensures { λ r. ⌜ r ≡ (stepCheck (view job (now (s .entry))) then timedCheck (view job (now (s .entry)))
@@ -205,7 +196,7 @@ pub fn check_planned(s: &[u8], job: Job, starts: &[u32], points: &[u64], begins:
     check_ordered(s, job, starts, points, begins)
 }
 
-// Whether a job is sound: accepted, or the first of refusals 1 to 7, 17, 10 to 14 and 21 that fits, on the
+// Whether a job is sound: accepted, or the first of refusals 1 to 7, 17, 10 to 13 and 21 that fits, on the
 // written starts.
 pub fn check_job(s: &[u8]) -> Verdict
     ensures { λ r. ⌜ JobPromise (now (s .entry)) r ⌝ }
@@ -221,7 +212,7 @@ pub fn check_job(s: &[u8]) -> Verdict
     check_read(s, job, &starts[..n])
 }
 
-// Whether a list of starts is a sound timing of a job: accepted, or the first of refusals 1 to 7, 17, 8 to 14 and 21 that
+// Whether a list of starts is a sound timing of a job: accepted, or the first of refusals 1 to 7, 17, 8 to 13 and 21 that
 // fits.
 pub fn check_schedule(s: &[u8], starts: &[u32]) -> Verdict
     ensures { λ r. ⌜ SchedulePromise (now (s .entry)) (now (starts .entry)) r ⌝ }

@@ -44,6 +44,11 @@ refusedWord = 114 ∷ 101 ∷ 102 ∷ 117 ∷ 115 ∷ 101 ∷ 100 ∷ 32 ∷ []
 abbrev pub placeWord : List ℕ
 placeWord = 32 ∷ 112 ∷ 108 ∷ 97 ∷ 99 ∷ 101 ∷ 32 ∷ []
 
+-- `serial mark ignored` and a newline
+abbrev pub ignoredLine : List ℕ
+ignoredLine =
+    115 ∷ 101 ∷ 114 ∷ 105 ∷ 97 ∷ 108 ∷ 32 ∷ 109 ∷ 97 ∷ 114 ∷ 107 ∷ 32 ∷ 105 ∷ 103 ∷ 110 ∷ 111 ∷ 114 ∷ 101 ∷ 100 ∷ 10 ∷ []
+
 -- a space, a minus sign, a newline
 abbrev pub space : List ℕ
 space = 32 ∷ []
@@ -101,6 +106,9 @@ orderMost = 40
 
 abbrev pub refusedMost : ℕ
 refusedMost = 36
+
+abbrev pub ignoredMost : ℕ
+ignoredMost = 20
 
 -- the most bytes of the text of a file with as many steps and orders
 abbrev pub sheetMost : ℕ → ℕ → ℕ

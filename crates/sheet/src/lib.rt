@@ -39,14 +39,15 @@ fn put_orders(file: &[u8], orders: usize, at: usize, out: &mut [u8]) -> usize
     next
 }
 
-// Writes the text of an order file to the front of `out`, and answers how long it is, whether or not there was room for it.
-pub fn write_sheet(file: &[u8], out: &mut [u8]) -> usize
-    ensures { λ r. ⌜ Written (sheetText (contentsOf (now (file .entry)))) (now (out .entry)) (now (out .exit)) r ⌝ }
-    ensures { λ r. ⌜ r ≤ sheetMost (contentsOf (now (file .entry)) .steps) (contentsOf (now (file .entry)) .orders) ⌝ }
+// Puts the text of an order file, and answers where it ends, whether or not there was room for it.
+pub fn put_sheet(file: &[u8], at: usize, out: &mut [u8]) -> usize
+    requires { ⌜ at < 100 ⌝ }
+    ensures { λ r. ⌜ Put (now (out .entry)) at (sheetText (contentsOf (now (file .entry)))) (now (out .exit)) r ⌝ }
+    ensures { λ r. ⌜ r ≤ at + sheetMost (contentsOf (now (file .entry)) .steps) (contentsOf (now (file .entry)) .orders) ⌝ }
 {
     let steps = layout::steps(file);
     let orders = layout::orders(file);
-    let windows_at = lines::put_head(file, 0, out);
+    let windows_at = lines::put_head(file, at, out);
     let orders_at = put_windows(file, steps, windows_at, out);
     put_orders(file, orders, orders_at, out)
 }

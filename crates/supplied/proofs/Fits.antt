@@ -46,7 +46,6 @@ tables-model t w e =
     record {
       editionFrom = omega arith;
       editionTo = omega arith;
-      serial = refl;
       timedNone = λ n. refl;
       needsNone = λ n. refl;
       facts = omega (arith, most 0 (omega arith));

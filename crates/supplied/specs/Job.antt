@@ -101,7 +101,6 @@ noGoal = record { fact = 0; value = 0; deadline = 0 }
 -- the job that tables hold
 abbrev pub modelIn : Tables → Model
 modelIn t = record {
-  serial = 0;
   facts = length (t .facts);
   levels = length (t .levels);
   steps = length (t .steps);

@@ -9,11 +9,11 @@ use Rattle.verdict.proofs.Verdict as Tagged
 use Rattle.verdict.specs.declared.Verdict.{Verdict}
 use Rattle.verdict.specs.declared.Verdict.the-variants.{Accepted, FileTooShort, UnknownEdition, MarkOutOfRange, CountTooHigh, LayoutDisagrees}
 use Rattle.verdict.specs.declared.Verdict.the-variants.{RecordOutOfRange, StepAgainstItself, StartsMiscounted, FixedStepMoved, EffectsConflict}
-use Rattle.verdict.specs.declared.Verdict.the-variants.{ConditionFails, LevelOutOfBounds, GoalFails, StepsOverlap, TimedFactsConflict, NeedUnmet}
+use Rattle.verdict.specs.declared.Verdict.the-variants.{ConditionFails, LevelOutOfBounds, GoalFails, TimedFactsConflict, NeedUnmet}
 use Rattle.telling.specs.Told.{unsound}
 
 abbrev others : List ℕ
-others = 0 ∷ 1 ∷ 2 ∷ 3 ∷ 5 ∷ 8 ∷ 9 ∷ 14 ∷ 15 ∷ 16 ∷ []
+others = 0 ∷ 1 ∷ 2 ∷ 3 ∷ 5 ∷ 8 ∷ 9 ∷ 14 ∷ 15 ∷ []
 
 pub unsound-other : (v : Verdict) → OneOf others (tagOf Tagged.the-type v) → unsound v ≡ codes "the job is refused"
 unfolding unsound
@@ -24,7 +24,6 @@ unsound-other MarkOutOfRange h = refl
 unsound-other LayoutDisagrees h = refl
 unsound-other StartsMiscounted h = refl
 unsound-other (FixedStepMoved k) h = refl
-unsound-other (StepsOverlap k) h = refl
 unsound-other (TimedFactsConflict k) h = refl
 unsound-other (NeedUnmet k) h = refl
 unsound-other CountTooHigh h = absurd (miss others 4 tt h)

@@ -7,7 +7,7 @@ use Rattle.spelling.specs.Keywords.{codes}
 use Rattle.verdict.specs.declared.Verdict.{Verdict}
 use Rattle.verdict.specs.declared.Verdict.the-variants.{Accepted, FileTooShort, UnknownEdition, MarkOutOfRange, CountTooHigh, LayoutDisagrees}
 use Rattle.verdict.specs.declared.Verdict.the-variants.{RecordOutOfRange, StepAgainstItself, StartsMiscounted, FixedStepMoved, EffectsConflict}
-use Rattle.verdict.specs.declared.Verdict.the-variants.{ConditionFails, LevelOutOfBounds, GoalFails, StepsOverlap, TimedFactsConflict, NeedUnmet}
+use Rattle.verdict.specs.declared.Verdict.the-variants.{ConditionFails, LevelOutOfBounds, GoalFails, TimedFactsConflict, NeedUnmet}
 use Rattle.texts_answer.specs.declared.TextsAnswer.{TextsAnswer}
 use Rattle.texts_answer.specs.declared.TextsAnswer.the-variants.{Made, ActionsOutside, ActionsTooDeep, PlanOutside, PlanDiffers}
 use Rattle.texts_answer.specs.declared.TextsAnswer.the-variants.{Refused, BufferTooShort}
@@ -39,7 +39,6 @@ unsound MarkOutOfRange = codes "the job is refused"
 unsound LayoutDisagrees = codes "the job is refused"
 unsound StartsMiscounted = codes "the job is refused"
 unsound (FixedStepMoved k) = codes "the job is refused"
-unsound (StepsOverlap k) = codes "the job is refused"
 unsound (TimedFactsConflict k) = codes "the job is refused"
 unsound (NeedUnmet k) = codes "the job is refused"
 

@@ -7,7 +7,6 @@ ghost use Rattle.laws.specs.Listed.{tabulate};
 ghost use Rattle.job.specs.Layout.{mostSteps};
 ghost use Rattle.job.specs.Model.{view};
 ghost use Rattle.validity.specs.Ticks.{scheduleOf, effectTick, lastTick};
-ghost use Rattle.validity.specs.Ticks as spec;
 ghost use Rattle.timeline.specs.Words.{tickSpan};
 use job::layout::Job;
 use job_fields::*;
@@ -37,12 +36,6 @@ pub fn last_tick(s: &[u8], job: Job, starts: &[u32], c: u16, step: u16) -> usize
     ensures { λ r. ⌜ (r ≡ lastTick (view job (now (s .entry))) (scheduleOf (now (starts .entry))) c) × (r < tickSpan) ⌝ }
 {
     start_of(starts, step) + condition_to(s, job, c)
-}
-
-pub fn finish(s: &[u8], job: Job, starts: &[u32], k: u16) -> usize
-    ensures { λ r. ⌜ (r ≡ spec.finish (view job (now (s .entry))) (scheduleOf (now (starts .entry))) k) × (r < tickSpan) ⌝ }
-{
-    start_of(starts, k) + step_length(s, job, k)
 }
 
 // The written starts of the first n steps.

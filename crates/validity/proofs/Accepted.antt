@@ -23,7 +23,7 @@ use Rattle.form.specs.Refused.{FormRefusal, FormNumber}
 use Rattle.form.proofs.WellFormed.{well-formed}
 use Rattle.form.proofs.Refused.{form-most, form-refusal}
 use Rattle.validity.specs.declared.Rule.{Rule}
-use Rattle.validity.specs.declared.Rule.the-variants.{FixedSteps, Effects, Conditions, Levels, Needs, Goals, Steps}
+use Rattle.validity.specs.declared.Rule.the-variants.{FixedSteps, Effects, Conditions, Levels, Needs, Goals}
 use Rattle.validity.specs.Ticks.{scheduleOf, planned}
 use Rattle.validity.specs.Valid.{Valid}
 use Rattle.validity.specs.Checks.{broken, countUnder, refusalOf, ruleCheck, timingCheck, jobCheck, countCheck, startsCheck, scheduleCheck}
@@ -46,17 +46,15 @@ module _ (m : Model) (x : ℕ → ℕ) where
       zero-lowest (countUnder m rule) (broken m x rule) (refusalOf rule)
       (λ k h. keeps-unbroken m x w (valid-kept m x v Effects) rule k h (valid-kept m x v rule k h))
 
-  -- and so a sound timing passes refusals 10 to 14 and 21
+  -- and so a sound timing passes refusals 10 to 13 and 21
   valid-accepted : ClockedForm m → Valid m x → number (timingCheck m x) ≡ 0
   unfolding timingCheck
   valid-accepted w v =
       zero-then _ _
       (zero-then _ _
-      (zero-then _ _
       (zero-then _ _ (zero-then _ _ (rule-accepts w v Effects) (rule-accepts w v Conditions)) (rule-accepts w v Levels))
       (rule-accepts w v Needs))
-      (rule-accepts w v Goals))
-      (rule-accepts w v Steps)
+      (rule-accepts w v Goals)
 
 -- a file's form and then its timing t: the verdict is under its sentence
 module _ (s : List ℕ) (x : ℕ → ℕ) (t : Verdict) {r : Verdict} (e : r ≡ (formCheck s then t)) where
@@ -106,7 +104,7 @@ module _ (s : List ℕ) (x : ℕ → ℕ) (t : Verdict) {r : Verdict} (e : r ≡
           | no z ↦ (form-stands z, form-refusal s (form-stands z))
         ]
 
-    most : (number r ≤ 14) ⊎ ((number r ≡ 17) ⊎ (number r ≡ 21))
+    most : (number r ≤ 13) ⊎ ((number r ≡ 17) ⊎ (number r ≡ 21))
     most =
         elim (ℕ-discrete (number (formCheck s)) 0) [
           | yes z ↦
@@ -114,7 +112,7 @@ module _ (s : List ℕ) (x : ℕ → ℕ) (t : Verdict) {r : Verdict} (e : r ≡
               (λ (l : number r ≤ 8). inl (omega arith))
               (λ (b : (rule : Rule) × (number r ≡ ruleNumber rule)).
               ⊎-elim
-              (λ (l : ruleNumber (b .0) ≤ 14). inl (omega (arith, b .1)))
+              (λ (l : ruleNumber (b .0) ≤ 13). inl (omega (arith, b .1)))
               (λ (q : ruleNumber (b .0) ≡ 21). inr (inr (b .1 ∙ q)))
               (from-nine (b .0) .1))
               (checked z .only)

@@ -1,6 +1,6 @@
 -- A conflict of effects names a step's effect: two timed facts are of one step, so one of the two that conflict is a step's, and has the
 -- lower number.
-use Prim.Native.Nat.{ℕ, _+_, _-_, _≤_, _<_}
+use Prim.Native.Nat.{ℕ, _-_, _≤_, _<_}
 use mathlib.Core.Path.{_≡_, sym, _∙_}
 use native.Mathlib.Decide.{decLt}
 use native.Mathlib.Omega.{arith}

@@ -1,5 +1,5 @@
 -- Each rule's test against what the rule asks of one record: it keeps the rule, or it violates it.
-use Prim.Native.Nat.{ℕ, suc, _+_, _≤_, _<_}
+use Prim.Native.Nat.{ℕ, suc, _+_, _<_}
 use mathlib.Core.Path.{_≡_, ap₂}
 use mathlib.Core.Bool.{true, false, not, _&&_}
 use mathlib.Core.Logic.{inl, inr, ⊎-elim}
@@ -12,17 +12,17 @@ use Rattle.laws.proofs.Search.{contrary, and-both, or-out, any-elim}
 use Rattle.job.specs.Model.{Model}
 use Rattle.job.specs.Clocked.{ClockedForm}
 use Rattle.validity.specs.declared.Rule.{Rule}
-use Rattle.validity.specs.declared.Rule.the-variants.{FixedSteps, Effects, Conditions, Levels, Needs, Goals, Steps}
-use Rattle.validity.specs.Ticks.{effectTick, firstTick, useTick, finish}
+use Rattle.validity.specs.declared.Rule.the-variants.{FixedSteps, Effects, Conditions, Levels, Needs, Goals}
+use Rattle.validity.specs.Ticks.{effectTick, firstTick, useTick}
 use Rattle.validity.specs.Seen.{seen, afterAll}
 use Rattle.validity.specs.Levels.{risesBefore, fallsBefore, unmet}
 use Rattle.validity.specs.Valid.{Valid}
-use Rattle.validity.specs.Checks.{moved, meets, conflicts, breaks, conditionFails, passes, levelFails, undoes, late, goalFails, overlaps, crowded}
+use Rattle.validity.specs.Checks.{moved, meets, conflicts, breaks, conditionFails, passes, levelFails, undoes, late, goalFails}
 use Rattle.validity.specs.Checks.{broken, countUnder}
 use Rattle.validity.specs.Refused.{Keeps, Kept, Violates, turn}
-use Rattle.validity.specs.Refused.{Moved, ConflictsWith, UnseenAt, OpposedBy, OutOfBounds, Unmet, LateAt, OverlapsWith}
+use Rattle.validity.specs.Refused.{Moved, ConflictsWith, UnseenAt, OpposedBy, OutOfBounds, Unmet, LateAt}
 use Rattle.validity.proofs.Tested.{opposes-out, moved-none, none-moved, conflicts-none, none-conflicts, breaks-none, low-everywhere}
-use Rattle.validity.proofs.Tested.{high-everywhere, none-passes, unmet-none, none-unmet, crowded-none, none-crowded, condition-holds, condition-seen}
+use Rattle.validity.proofs.Tested.{high-everywhere, none-passes, unmet-none, none-unmet, condition-holds, condition-seen}
 use Rattle.validity.proofs.Tested.{none-condition-fails, goal-holds, goal-in-time, undone, none-goal-fails}
 
 -- a test of order that fails
@@ -42,7 +42,6 @@ module _ (m : Model) (x : ℕ → ℕ) where
         needMet = kept Needs;
         goalReached = λ g h. kept Goals g h .reached;
         goalInTime = λ g t h. kept Goals g h .inTime t;
-        serialApart = λ s i k h. kept Steps i h s k;
         fixedKept = kept FixedSteps;
       }
 
@@ -53,7 +52,6 @@ module _ (m : Model) (x : ℕ → ℕ) where
   valid-kept v Levels l h = record { low = λ t. v .levelLow l t h; high = λ t. v .levelHigh l t h }
   valid-kept v Needs n h = v .needMet n h
   valid-kept v Goals g h = record { reached = v .goalReached g h; inTime = λ t. v .goalInTime g t h }
-  valid-kept v Steps i h = λ s k. v .serialApart s i k h
 
   -- no record does both
   pub not-both : (rule : Rule) (k : ℕ) → Violates m x rule k → Keeps m x rule k → ⊥
@@ -77,12 +75,6 @@ module _ (m : Model) (x : ℕ → ℕ) where
       (λ (a : seen m x (m .goalFact g) (afterAll m x) ≡ m .goalValue g → ⊥). a (h .reached))
       (λ (u : (t : ℕ) × LateAt m x g t). u .1 .otherValue (h .inTime (u .0) (u .1 .deadline) (u .1 .after)))
       v
-  not-both Steps i v h =
-      let o = v .1 in
-      ⊎-elim
-      (λ (a : finish m x i ≤ x (v .0)). omega (arith, o .before))
-      (λ (a : finish m x (v .0) ≤ x i). omega (arith, o .after))
-      (h (o .serial) (v .0) (o .known) (o .other))
 
 module _ (m : Model) (x : ℕ → ℕ) (w : ClockedForm m) where
   -- what a test does not name keeps the rule
@@ -99,7 +91,6 @@ module _ (m : Model) (x : ℕ → ℕ) (w : ClockedForm m) where
   unbroken-keeps Needs k h n = unmet-none m x k n
   unbroken-keeps Goals g h n =
       let b = goal-holds m x g n in record { reached = b .0; inTime = λ t. goal-in-time m x w g t h (b .1) }
-  unbroken-keeps Steps i h n = λ s k g. crowded-none m x i k g n s
 
   -- and what keeps it is not named
   pub keeps-unbroken :
@@ -110,7 +101,6 @@ module _ (m : Model) (x : ℕ → ℕ) (w : ClockedForm m) where
   keeps-unbroken a Levels l h v = none-passes m x l v
   keeps-unbroken a Needs n h v = none-unmet m x n v
   keeps-unbroken a Goals g h v = none-goal-fails m x w a g h v
-  keeps-unbroken a Steps i h v = none-crowded m x i v
 
   -- what a test names violates the rule, where the rules before it are kept
   moved-violates : (k : ℕ) → moved m x k ≡ true → Moved m x k
@@ -210,23 +200,6 @@ module _ (m : Model) (x : ℕ → ℕ) (w : ClockedForm m) where
       (λ (a : late m x g ≡ true). inr (late-violates apart g h a))
       (or-out _ _ e)
 
-  steps-violate : (i : ℕ) → crowded m x i ≡ true → (k : ℕ) × OverlapsWith m x i k
-  unfolding crowded overlaps
-  steps-violate i e =
-      let s = and-both _ _ e in
-      let f = any-elim (overlaps m x i) (m .steps) (s .1) in
-      let b = and-both _ _ (f .2) in
-      let a = and-both _ _ (b .0) in (
-        f .0,
-        record {
-          serial = eqb-true _ _ (s .0);
-          known = f .1;
-          other = eqb-false _ _ (not-true _ (a .0));
-          before = above _ _ (λ t. contrary t (not-true _ (a .1)));
-          after = above _ _ (λ t. contrary t (not-true _ (b .1)));
-        },
-      )
-
   pub broken-violates :
       (rule : Rule) → ((earlier : Rule) → turn earlier < turn rule → Kept m x earlier) → (k : ℕ) → k < countUnder m rule
       → broken m x rule k ≡ true
@@ -237,4 +210,3 @@ module _ (m : Model) (x : ℕ → ℕ) (w : ClockedForm m) where
   broken-violates Levels earlier k h e = level-violates k e
   broken-violates Needs earlier k h e = unmet-violates k e
   broken-violates Goals earlier k h e = goal-violates (earlier Effects (omega arith)) k h e
-  broken-violates Steps earlier k h e = steps-violate k e

@@ -15,7 +15,7 @@ use Rattle.verdict.proofs.Chain.{then-refused, then-accepted, then-either, refu
 use Rattle.job.specs.Model.{Model}
 use Rattle.job.specs.Clocked.{ClockedForm}
 use Rattle.validity.specs.declared.Rule.{Rule}
-use Rattle.validity.specs.declared.Rule.the-variants.{FixedSteps, Effects, Conditions, Levels, Needs, Goals, Steps}
+use Rattle.validity.specs.declared.Rule.the-variants.{FixedSteps, Effects, Conditions, Levels, Needs, Goals}
 use Rattle.validity.specs.Ticks.{scheduleOf}
 use Rattle.validity.specs.Checks.{broken, countUnder, refusalOf, ruleCheck, timingCheck, countCheck, startsCheck}
 use Rattle.validity.specs.Refused.{Kept, ruleNumber, turn, FirstViolation}
@@ -29,7 +29,6 @@ numbered Conditions k = refl
 numbered Levels k = refl
 numbered Needs k = refl
 numbered Goals k = refl
-numbered Steps k = refl
 
 placed : (rule : Rule) (k : ℕ) → place (refusalOf rule k) ≡ k
 placed FixedSteps k = refl
@@ -38,28 +37,26 @@ placed Conditions k = refl
 placed Levels k = refl
 placed Needs k = refl
 placed Goals k = refl
-placed Steps k = refl
 
--- from 9 to 14, or 21
-pub from-nine : (rule : Rule) → (8 < ruleNumber rule) × ((ruleNumber rule ≤ 14) ⊎ (ruleNumber rule ≡ 21))
+-- from 9 to 13, or 21
+pub from-nine : (rule : Rule) → (8 < ruleNumber rule) × ((ruleNumber rule ≤ 13) ⊎ (ruleNumber rule ≡ 21))
 from-nine FixedSteps = (omega arith, inl (omega arith))
 from-nine Effects = (omega arith, inl (omega arith))
 from-nine Conditions = (omega arith, inl (omega arith))
 from-nine Levels = (omega arith, inl (omega arith))
 from-nine Needs = (omega arith, inr refl)
 from-nine Goals = (omega arith, inl (omega arith))
-from-nine Steps = (omega arith, inl (omega arith))
 
 -- the form check's 17 is no rule's
 pub not-timed : (rule : Rule) → ruleNumber rule ≡ 17 → ⊥
 not-timed rule e =
-    ⊎-elim (λ (l : ruleNumber rule ≤ 14). omega arith) (λ (q : ruleNumber rule ≡ 21). omega arith) (from-nine rule .1)
+    ⊎-elim (λ (l : ruleNumber rule ≤ 13). omega arith) (λ (q : ruleNumber rule ≡ 21). omega arith) (from-nine rule .1)
 
 -- the rule of a number, so that no two rules share one
 abbrev ruleOf : ℕ → Rule
 ruleOf n =
     cond (eqb n 9) FixedSteps
-    (cond (eqb n 10) Effects (cond (eqb n 11) Conditions (cond (eqb n 12) Levels (cond (eqb n 21) Needs (cond (eqb n 13) Goals Steps)))))
+    (cond (eqb n 10) Effects (cond (eqb n 11) Conditions (cond (eqb n 12) Levels (cond (eqb n 21) Needs Goals))))
 
 rule-back : (rule : Rule) → ruleOf (ruleNumber rule) ≡ rule
 rule-back FixedSteps = refl
@@ -68,7 +65,6 @@ rule-back Conditions = refl
 rule-back Levels = refl
 rule-back Needs = refl
 rule-back Goals = refl
-rule-back Steps = refl
 
 same-rule : (a b : Rule) → ruleNumber a ≡ ruleNumber b → a ≡ b
 same-rule a b e = sym (rule-back a) ∙ ap ruleOf e ∙ rule-back b
@@ -84,14 +80,13 @@ number-back Conditions = refl
 number-back Levels = refl
 number-back Needs = refl
 number-back Goals = refl
-number-back Steps = refl
 
 same-turn : (a b : Rule) → turn a ≡ turn b → a ≡ b
 same-turn a b e = same-rule a b (sym (number-back a) ∙ ap numberAt e ∙ number-back b)
 
 -- how many rules there are
 abbrev pub rules : ℕ
-rules = 7
+rules = 6
 
 pub turn-below : (rule : Rule) → turn rule < rules
 turn-below FixedSteps = omega arith
@@ -100,7 +95,6 @@ turn-below Conditions = omega arith
 turn-below Levels = omega arith
 turn-below Needs = omega arith
 turn-below Goals = omega arith
-turn-below Steps = omega arith
 
 -- a verdict after the first n rules: it refuses by a rule or with 8 or less, it has passed those rules where it accepts, and where it
 -- refuses by a rule it names the first violation
@@ -173,19 +167,18 @@ module _ (m : Model) (x : ℕ → ℕ) where
   next-checked w rule n v q a =
       then-checked n (suc n) v (ruleCheck m x rule) a (λ z. rule-checked w rule n q (λ r h. a .kept z r h))
 
-  -- refusals 10 to 14 and 21
+  -- refusals 10 to 13 and 21
   pub timing-checked : ClockedForm m → Kept m x FixedSteps → CheckedTo m x rules (timingCheck m x)
   unfolding timingCheck
   timing-checked w fixed =
-      next-checked w Steps 6 _ refl
-      (next-checked w Goals 5 _ refl
+      next-checked w Goals 5 _ refl
       (next-checked w Needs 4 _ refl
       (next-checked w Levels 3 _ refl
       (next-checked w Conditions 2 _ refl
       (rule-checked w Effects 1 refl
-      (λ r h. subst (Kept m x) (same-turn FixedSteps r (omega arith)) fixed))))))
+      (λ r h. subst (Kept m x) (same-turn FixedSteps r (omega arith)) fixed)))))
 
--- refusals 8 to 14 and 21
+-- refusals 8 to 13 and 21
 pub starts-checked : (m : Model) → ClockedForm m → (starts : List ℕ) → CheckedTo m (scheduleOf starts) rules (startsCheck m starts)
 unfolding startsCheck countCheck
 starts-checked m w starts =
@@ -209,12 +202,10 @@ module _ (m : Model) (x : ℕ → ℕ) where
       then-either (From 10) _ _
       (then-either (From 10) _ _
       (then-either (From 10) _ _
-      (then-either (From 10) _ _
       (then-either (From 10) _ _ (rule-from Effects 10 (omega arith)) (rule-from Conditions 10 (omega arith)))
       (rule-from Levels 10 (omega arith)))
       (rule-from Needs 10 (omega arith)))
-      (rule-from Goals 10 (omega arith)))
-      (rule-from Steps 10 (omega arith))
+      (rule-from Goals 10 (omega arith))
 
 module _ (m : Model) (starts : List ℕ) where
   pub count-from : From 8 (countCheck m starts)

@@ -2,22 +2,22 @@
 use Prim.Native.Nat.{ℕ, suc, _+_, _-_, _≤_, _<_}
 use mathlib.Core.Path.{_≡_, sym, ap, ap₂, _∙_}
 use mathlib.Core.Bool.{Bool, true, false, not, _&&_, _||_, cond}
-use mathlib.Core.Logic.{_⊎_, inl, inr, ⊎-elim}
-use native.Mathlib.Decide.{ℕ-discrete, decLe}
+use mathlib.Core.Logic.{_⊎_, ⊎-elim}
+use native.Mathlib.Decide.{ℕ-discrete}
 use native.Mathlib.Omega.{arith}
 use borrow.Author.Tests.{ltb-true, ltb-false, leb-true, eqb-true, eqb-false, not-true, not-false, lt-ltb, le-ltb, le-leb, eq-eqb, ne-eqb}
-use lib.Dec.{leb, eqb}
+use lib.Dec.{eqb}
 use Rattle.laws.specs.Search.{any}
 use Rattle.laws.proofs.Search.{either, contrary, and-both, or-both, any-none, any-false}
 use Rattle.laws.proofs.Fold.{sum-zero}
 use Rattle.job.specs.Model.{Model}
 use Rattle.job.specs.Model.{noDeadline}
 use Rattle.job.specs.Clocked.{ClockedForm}
-use Rattle.validity.specs.Ticks.{effectTick, firstTick, lastTick, useTick, finish, opposes}
+use Rattle.validity.specs.Ticks.{effectTick, firstTick, lastTick, useTick, opposes}
 use Rattle.validity.specs.Seen.{seen, afterAll}
 use Rattle.validity.specs.Levels.{risesBefore, fallsBefore, usedBy, rise, fall, aboveLeast, belowMost, unmet}
-use Rattle.validity.specs.Checks.{moved, meets, conflicts, breaks, conditionFails, passes, levelFails, undoes, late, goalFails, overlaps, crowded}
-use Rattle.validity.specs.declared.Rule.the-variants.{Effects, Needs, Steps}
+use Rattle.validity.specs.Checks.{moved, meets, conflicts, breaks, conditionFails, passes, levelFails, undoes, late, goalFails}
+use Rattle.validity.specs.declared.Rule.the-variants.{Effects, Needs}
 use Rattle.validity.specs.Refused.{Keeps, Kept, ConditionHolds, LevelHolds, GoalHolds}
 use Rattle.validity.proofs.Seen.{Giver, seen-persists, seen-other}
 use Rattle.validity.proofs.Levels.{rises-idle, falls-idle, rises-ascend, falls-ascend, last-use}
@@ -177,39 +177,6 @@ module _ (m : Model) (x : ℕ → ℕ) where
   pub none-unmet : (n : ℕ) → Keeps m x Needs n → unmet m x n ≡ false
   unfolding unmet
   none-unmet n v = le-ltb _ _ v
-
-  -- refusal 14
-  pub crowded-none :
-      (i k : ℕ) → k < m .steps → crowded m x i ≡ false → m .serial ≡ 1 → (i ≡ k → ⊥)
-      → (finish m x i ≤ x k) ⊎ (finish m x k ≤ x i)
-  unfolding crowded overlaps
-  crowded-none i k h n s d =
-      let o = any-false (overlaps m x i) (m .steps) (sym (ap (λ b. b && any (m .steps) (overlaps m x i)) (eq-eqb _ _ s)) ∙ n) k h in
-      elim (decLe (finish m x i) (x k)) [
-        | yes l ↦ inl l
-        | no l ↦ inr (leb-true _ _
-            (not-false _
-            (sym (ap (λ b. b && not (leb (finish m x k) (x i)))
-            (ap₂ _&&_ (ap not (ne-eqb _ _ d)) (ap not (fails (leb (finish m x i) (x k)) (λ t. l (leb-true _ _ t)))))) ∙ o)))
-      ]
-
-  pub none-crowded : (i : ℕ) → Keeps m x Steps i → crowded m x i ≡ false
-  unfolding crowded overlaps
-  none-crowded i v =
-      fails _
-      (λ t.
-      let s = and-both _ _ t in
-      contrary (s .1)
-      (any-none (overlaps m x i) (m .steps)
-      (λ k g.
-      fails _
-      (λ r.
-      let b = and-both _ _ r in
-      let a = and-both _ _ (b .0) in
-      ⊎-elim
-      (λ (l : finish m x i ≤ x k). contrary (le-leb _ _ l) (not-true _ (a .1)))
-      (λ (l : finish m x k ≤ x i). contrary (le-leb _ _ l) (not-true _ (b .1)))
-      (v (eqb-true _ _ (s .0)) k g (eqb-false _ _ (not-true _ (a .0))))))))
 
   -- the two halves of 11, and those of 13
   pub condition-holds :

@@ -1,4 +1,4 @@
--- Refusals 8 to 14 and 21, in checking order: 21 comes after 12. Rules that speak of every tick are tested at the ticks where something happens.
+-- Refusals 8 to 13 and 21, in checking order: 21 comes after 12. Rules that speak of every tick are tested at the ticks where something happens.
 use Prim.Native.Nat.{ℕ, suc}
 use mathlib.Core.Bool.{Bool, _&&_, _||_, not}
 use mathlib.Core.List.{List}
@@ -7,15 +7,15 @@ use lib.Dec.{ltb, leb, eqb}
 use Rattle.laws.specs.Search.{any}
 use Rattle.verdict.specs.declared.Verdict.{Verdict}
 use Rattle.verdict.specs.declared.Verdict.the-variants.{StartsMiscounted, FixedStepMoved, EffectsConflict, ConditionFails, LevelOutOfBounds}
-use Rattle.verdict.specs.declared.Verdict.the-variants.{GoalFails, StepsOverlap, NeedUnmet}
+use Rattle.verdict.specs.declared.Verdict.the-variants.{GoalFails, NeedUnmet}
 use Rattle.verdict.specs.Verdict.{_then_, refuseIf, refuseLowest}
 use Rattle.job.specs.Model.{Model, modelOf}
 use Rattle.job.specs.Clocked.{clocked}
 use Rattle.job.specs.Model.{noDeadline}
 use Rattle.form.specs.Refusals.{formCheck}
 use Rattle.validity.specs.declared.Rule.{Rule}
-use Rattle.validity.specs.declared.Rule.the-variants.{FixedSteps, Effects, Conditions, Levels, Needs, Goals, Steps}
-use Rattle.validity.specs.Ticks.{scheduleOf, planned, effectTick, firstTick, lastTick, useTick, finish, opposes, ofAnother}
+use Rattle.validity.specs.declared.Rule.the-variants.{FixedSteps, Effects, Conditions, Levels, Needs, Goals}
+use Rattle.validity.specs.Ticks.{scheduleOf, planned, effectTick, firstTick, lastTick, useTick, opposes, ofAnother}
 use Rattle.validity.specs.Seen.{seen, afterAll}
 use Rattle.validity.specs.Levels.{aboveLeast, belowMost, unmet}
 
@@ -68,15 +68,7 @@ late m x g =
 unfoldable pub goalFails : Model → (ℕ → ℕ) → ℕ → Bool
 goalFails m x g = not (eqb (seen m x (m .goalFact g) (afterAll m x)) (m .goalValue g)) || late m x g
 
--- steps i and k overlap
-unfoldable pub overlaps : Model → (ℕ → ℕ) → ℕ → ℕ → Bool
-overlaps m x i k = not (eqb i k) && not (leb (finish m x i) (x k)) && not (leb (finish m x k) (x i))
-
--- refusal 14: steps of a serial job overlap
-unfoldable pub crowded : Model → (ℕ → ℕ) → ℕ → Bool
-crowded m x i = eqb (m .serial) 1 && any (m .steps) (overlaps m x i)
-
--- whether the k-th fixed step, effect, condition, level, need, goal or step breaks its rule
+-- whether the k-th fixed step, effect, condition, level, need or goal breaks its rule
 abbrev pub broken : Model → (ℕ → ℕ) → Rule → ℕ → Bool
 broken m x FixedSteps k = moved m x k
 broken m x Effects k = conflicts m x k
@@ -84,7 +76,6 @@ broken m x Conditions k = conditionFails m x k
 broken m x Levels k = levelFails m x k
 broken m x Needs k = unmet m x k
 broken m x Goals k = goalFails m x k
-broken m x Steps k = crowded m x k
 
 -- how many there are under a rule
 abbrev pub countUnder : Model → Rule → ℕ
@@ -94,7 +85,6 @@ countUnder m Conditions = m .conditions
 countUnder m Levels = m .levels
 countUnder m Needs = m .needs
 countUnder m Goals = m .goals
-countUnder m Steps = m .steps
 
 -- what a rule refuses
 abbrev pub refusalOf : Rule → ℕ → Verdict
@@ -104,20 +94,18 @@ refusalOf Conditions k = ConditionFails k
 refusalOf Levels k = LevelOutOfBounds k
 refusalOf Needs k = NeedUnmet k
 refusalOf Goals k = GoalFails k
-refusalOf Steps k = StepsOverlap k
 
 -- a rule refuses the lowest that breaks it
 unfoldable pub ruleCheck : Model → (ℕ → ℕ) → Rule → Verdict
 ruleCheck m x rule = refuseLowest (countUnder m rule) (broken m x rule) (refusalOf rule)
 
--- refusals 10 to 14 and 21
+-- refusals 10 to 13 and 21
 unfoldable pub timingCheck : Model → (ℕ → ℕ) → Verdict
 timingCheck m x =
     ruleCheck m x Effects then ruleCheck m x Conditions then ruleCheck m x Levels then ruleCheck m x Needs
     then ruleCheck m x Goals
-    then ruleCheck m x Steps
 
--- the job check: 1 to 7 and 17, then 10 to 14 and 21 on the written starts, of the job with its timed facts as effects of the clock
+-- the job check: 1 to 7 and 17, then 10 to 13 and 21 on the written starts, of the job with its timed facts as effects of the clock
 unfoldable pub jobCheck : List ℕ → Verdict
 jobCheck s = formCheck s then timingCheck (clocked (modelOf s)) (planned (modelOf s))
 
@@ -125,11 +113,11 @@ jobCheck s = formCheck s then timingCheck (clocked (modelOf s)) (planned (modelO
 unfoldable pub countCheck : Model → List ℕ → Verdict
 countCheck m starts = refuseIf (not (eqb (length starts) (m .steps))) StartsMiscounted
 
--- refusals 8 to 14 and 21
+-- refusals 8 to 13 and 21
 unfoldable pub startsCheck : Model → List ℕ → Verdict
 startsCheck m starts =
     countCheck m starts then ruleCheck m (scheduleOf starts) FixedSteps then timingCheck m (scheduleOf starts)
 
--- the timing check: 1 to 7 and 17, then 8 to 14 and 21
+-- the timing check: 1 to 7 and 17, then 8 to 13 and 21
 unfoldable pub scheduleCheck : List ℕ → List ℕ → Verdict
 scheduleCheck s starts = formCheck s then startsCheck (clocked (modelOf s)) starts

@@ -35,7 +35,6 @@ shelves uses wanted goals =
     let used : ℕ → Use = λ k. getD uses k (usage 0 0 0 0) in
     let needed : ℕ → Need = λ k. getD wanted k (need 0 0 0 0) in
     record {
-      serial = 0;
       facts = 1;
       levels = 2;
       steps = 2;

@@ -1,4 +1,4 @@
--- Part of the promise: what each refusal says. One plain predicate a rule, 9 to 14 and 21, of one record, in the words of `Valid`.
+-- Part of the promise: what each refusal says. One plain predicate a rule, 9 to 13 and 21, of one record, in the words of `Valid`.
 use Prim.Native.Nat.{ℕ, suc, _+_, _≤_, _<_}
 use mathlib.Core.Path.{_≡_}
 use mathlib.Core.List.{List}
@@ -11,8 +11,8 @@ use Rattle.job.specs.Clocked.{clocked}
 use Rattle.form.specs.Refusals.{formCheck}
 use Rattle.form.specs.Refused.{FormRefusal, FormNumber}
 use Rattle.validity.specs.declared.Rule.{Rule}
-use Rattle.validity.specs.declared.Rule.the-variants.{FixedSteps, Effects, Conditions, Levels, Needs, Goals, Steps}
-use Rattle.validity.specs.Ticks.{effectTick, firstTick, lastTick, finish}
+use Rattle.validity.specs.declared.Rule.the-variants.{FixedSteps, Effects, Conditions, Levels, Needs, Goals}
+use Rattle.validity.specs.Ticks.{effectTick, firstTick, lastTick}
 use Rattle.validity.specs.Seen.{seen, afterAll}
 use Rattle.validity.specs.Levels.{risesBefore, fallsBefore, fallsAgainst, risenTo}
 use Rattle.validity.specs.Valid.{Valid}
@@ -37,7 +37,7 @@ pub record GoalHolds (m : Model) (x : ℕ → ℕ) (g : ℕ) : Type 0 where
   pub reached : seen m x (m .goalFact g) (afterAll m x) ≡ m .goalValue g
   pub inTime : (t : ℕ) → (m .goalDeadline g ≡ noDeadline → ⊥) → m .goalDeadline g < t → seen m x (m .goalFact g) t ≡ m .goalValue g
 
--- the k-th fixed step, effect, condition, level, need, goal or step keeps its rule: what `Valid` asks of it
+-- the k-th fixed step, effect, condition, level, need or goal keeps its rule: what `Valid` asks of it
 abbrev pub Keeps : Model → (ℕ → ℕ) → Rule → ℕ → Type 0
 Keeps m x FixedSteps k = m .fixed k ≡ 1 → x k ≡ m .start k
 Keeps m x Effects e =
@@ -48,7 +48,6 @@ Keeps m x Conditions c = ConditionHolds m x c
 Keeps m x Levels l = LevelHolds m x l
 Keeps m x Needs n = m .needLeast n + fallsAgainst m x n ≤ risenTo m x n
 Keeps m x Goals g = GoalHolds m x g
-Keeps m x Steps i = m .serial ≡ 1 → (k : ℕ) → k < m .steps → (i ≡ k → ⊥) → (finish m x i ≤ x k) ⊎ (finish m x k ≤ x i)
 
 -- every record keeps a rule
 abbrev pub Kept : Model → (ℕ → ℕ) → Rule → Type 0
@@ -98,15 +97,7 @@ pub record LateAt (m : Model) (x : ℕ → ℕ) (g t : ℕ) : Type 0 where
   pub after : m .goalDeadline g < t
   pub otherValue : seen m x (m .goalFact g) t ≡ m .goalValue g → ⊥
 
--- 14: k is another step of a serial job, and each of the two starts before the other finishes
-pub record OverlapsWith (m : Model) (x : ℕ → ℕ) (i k : ℕ) : Type 0 where
-  pub serial : m .serial ≡ 1
-  pub known : k < m .steps
-  pub other : i ≡ k → ⊥
-  pub before : x k < finish m x i
-  pub after : x i < finish m x k
-
--- the k-th fixed step, effect, condition, level, need, goal or step violates its rule
+-- the k-th fixed step, effect, condition, level, need or goal violates its rule
 abbrev pub Violates : Model → (ℕ → ℕ) → Rule → ℕ → Type 0
 Violates m x FixedSteps k = Moved m x k
 Violates m x Effects e = (f : ℕ) × ConflictsWith m x e f
@@ -114,7 +105,6 @@ Violates m x Conditions c = ((t : ℕ) × UnseenAt m x c t) ⊎ ((e : ℕ) × Op
 Violates m x Levels l = (t : ℕ) × OutOfBounds m x l t
 Violates m x Needs n = Unmet m x n
 Violates m x Goals g = (seen m x (m .goalFact g) (afterAll m x) ≡ m .goalValue g → ⊥) ⊎ ((t : ℕ) × LateAt m x g t)
-Violates m x Steps i = (k : ℕ) × OverlapsWith m x i k
 
 -- the number of what a rule refuses
 abbrev pub ruleNumber : Rule → ℕ
@@ -124,7 +114,6 @@ ruleNumber Conditions = 11
 ruleNumber Levels = 12
 ruleNumber Needs = 21
 ruleNumber Goals = 13
-ruleNumber Steps = 14
 
 -- a rule's turn in checking order, which its number does not tell: 21 comes after 12
 abbrev pub turn : Rule → ℕ
@@ -134,7 +123,6 @@ turn Conditions = 2
 turn Levels = 3
 turn Needs = 4
 turn Goals = 5
-turn Steps = 6
 
 -- record k violates the rule, every lower one keeps it, and so does every record under each rule checked before
 pub record FirstViolation (m : Model) (x : ℕ → ℕ) (rule : Rule) (k : ℕ) : Type 0 where
@@ -149,7 +137,7 @@ pub record UnderItsSentence (s : List ℕ) (x : ℕ → ℕ) (r : Verdict) : Typ
   pub form : (number r ≡ 0 → ⊥) → FormNumber (number r) → (r ≡ formCheck s) × FormRefusal s r
   -- above 7 the file is well formed, but for 17
   pub wellFormed : 7 < number r → (number r ≡ 17 → ⊥) → WellFormed (modelOf s)
-  -- from 9 to 14 and 21 the number is that of the first rule that is violated, the place the lowest record that violates it
+  -- from 9 to 13 and 21 the number is that of the first rule that is violated, the place the lowest record that violates it
   pub first : (rule : Rule) → number r ≡ ruleNumber rule → FirstViolation (clocked (modelOf s)) x rule (place r)
   -- 10 names an effect of a step
   pub ofStep : number r ≡ 10 → place r < modelOf s .effects
@@ -157,4 +145,5 @@ pub record UnderItsSentence (s : List ℕ) (x : ℕ → ℕ) (r : Verdict) : Typ
   pub unsound : 8 < number r → (number r ≡ 17 → ⊥) → Valid (clocked (modelOf s)) x → ⊥
   -- 0 to 5 and 8 name no place
   pub unplaced : (number r ≤ 5) ⊎ (number r ≡ 8) → place r ≡ nowhere
-  pub most : (number r ≤ 14) ⊎ ((number r ≡ 17) ⊎ (number r ≡ 21))
+  -- serial jobs are retired: 14 is given to none
+  pub most : (number r ≤ 13) ⊎ ((number r ≡ 17) ⊎ (number r ≡ 21))

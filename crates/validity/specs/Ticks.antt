@@ -37,10 +37,6 @@ useTick m x u = x (m .useStep u) + m .useAt u
 abbrev pub needTick : Model → (ℕ → ℕ) → ℕ → ℕ
 needTick m x n = x (m .needStep n) + m .needAt n
 
--- when a step finishes: start + length
-abbrev pub finish : Model → (ℕ → ℕ) → ℕ → ℕ
-finish m x k = x k + m .stepLength k
-
 -- "An effect opposes a condition, goal or other effect on its fact if the values differ"
 abbrev pub opposes : Model → ℕ → ℕ → ℕ → Bool
 opposes m e fact value = eqb (m .effectFact e) fact && not (eqb (m .effectValue e) value)

@@ -1,10 +1,9 @@
 -- "When a timing is sound": one field a sentence, over all ticks and any natural starts.
 use Prim.Native.Nat.{ℕ, suc, _+_, _≤_, _<_}
 use mathlib.Core.Path.{_≡_}
-use mathlib.Core.Logic.{_⊎_}
 use Rattle.job.specs.Model.{Model}
 use Rattle.job.specs.Model.{noDeadline}
-use Rattle.validity.specs.Ticks.{effectTick, firstTick, lastTick, finish}
+use Rattle.validity.specs.Ticks.{effectTick, firstTick, lastTick}
 use Rattle.validity.specs.Seen.{seen, afterAll}
 use Rattle.validity.specs.Levels.{risesBefore, fallsBefore, fallsAgainst, risenTo}
 
@@ -36,8 +35,5 @@ pub record Valid (m : Model) (x : ℕ → ℕ) : Type 0 where
   -- a goal with a deadline has it seen at every tick after the deadline
   pub goalInTime :
       (g t : ℕ) → g < m .goals → (m .goalDeadline g ≡ noDeadline → ⊥) → m .goalDeadline g < t → seen m x (m .goalFact g) t ≡ m .goalValue g
-  -- in a serial job, of two steps one finishes no later than the other starts
-  pub serialApart :
-      m .serial ≡ 1 → (i k : ℕ) → i < m .steps → k < m .steps → (i ≡ k → ⊥) → (finish m x i ≤ x k) ⊎ (finish m x k ≤ x i)
   -- a fixed step has its written start
   pub fixedKept : (k : ℕ) → k < m .steps → m .fixed k ≡ 1 → x k ≡ m .start k

@@ -8,5 +8,4 @@ pub enum Rule {
     Levels,
     Needs,
     Goals,
-    Steps,
 }

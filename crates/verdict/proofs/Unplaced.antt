@@ -6,7 +6,7 @@ use native.Mathlib.Omega.{arith}
 use Rattle.verdict.specs.declared.Verdict.{Verdict}
 use Rattle.verdict.specs.declared.Verdict.the-variants.{Accepted, FileTooShort, UnknownEdition, MarkOutOfRange, CountTooHigh, LayoutDisagrees}
 use Rattle.verdict.specs.declared.Verdict.the-variants.{RecordOutOfRange, StepAgainstItself, StartsMiscounted, FixedStepMoved, EffectsConflict}
-use Rattle.verdict.specs.declared.Verdict.the-variants.{ConditionFails, LevelOutOfBounds, GoalFails, StepsOverlap, TimedFactsConflict, NeedUnmet}
+use Rattle.verdict.specs.declared.Verdict.the-variants.{ConditionFails, LevelOutOfBounds, GoalFails, TimedFactsConflict, NeedUnmet}
 use Rattle.verdict.specs.Verdict.{number, place, nowhere}
 
 -- nowhere, or neither 0 to 5 nor 8
@@ -25,7 +25,6 @@ somewhere (EffectsConflict k) = inr (omega arith, λ e. let z : _≡_ {A = ℕ} 
 somewhere (ConditionFails k) = inr (omega arith, λ e. let z : _≡_ {A = ℕ} 11 8 = e in omega arith)
 somewhere (LevelOutOfBounds k) = inr (omega arith, λ e. let z : _≡_ {A = ℕ} 12 8 = e in omega arith)
 somewhere (GoalFails k) = inr (omega arith, λ e. let z : _≡_ {A = ℕ} 13 8 = e in omega arith)
-somewhere (StepsOverlap k) = inr (omega arith, λ e. let z : _≡_ {A = ℕ} 14 8 = e in omega arith)
 somewhere (TimedFactsConflict k) = inr (omega arith, λ e. let z : _≡_ {A = ℕ} 17 8 = e in omega arith)
 somewhere (NeedUnmet k) = inr (omega arith, λ e. let z : _≡_ {A = ℕ} 21 8 = e in omega arith)
 

@@ -6,7 +6,7 @@ use Rattle.laws.specs.Search.{lowest}
 use Rattle.verdict.specs.declared.Verdict.{Verdict}
 use Rattle.verdict.specs.declared.Verdict.the-variants.{Accepted, FileTooShort, UnknownEdition, MarkOutOfRange, CountTooHigh, LayoutDisagrees}
 use Rattle.verdict.specs.declared.Verdict.the-variants.{RecordOutOfRange, StepAgainstItself, StartsMiscounted, FixedStepMoved, EffectsConflict}
-use Rattle.verdict.specs.declared.Verdict.the-variants.{ConditionFails, LevelOutOfBounds, GoalFails, StepsOverlap, TimedFactsConflict, NeedUnmet}
+use Rattle.verdict.specs.declared.Verdict.the-variants.{ConditionFails, LevelOutOfBounds, GoalFails, TimedFactsConflict, NeedUnmet}
 
 -- the place where none is named
 abbrev pub nowhere : ℕ
@@ -28,7 +28,6 @@ number (EffectsConflict k) = 10
 number (ConditionFails k) = 11
 number (LevelOutOfBounds k) = 12
 number (GoalFails k) = 13
-number (StepsOverlap k) = 14
 number (TimedFactsConflict k) = 17
 number (NeedUnmet k) = 21
 
@@ -48,7 +47,6 @@ place (EffectsConflict k) = k
 place (ConditionFails k) = k
 place (LevelOutOfBounds k) = k
 place (GoalFails k) = k
-place (StepsOverlap k) = k
 place (TimedFactsConflict k) = k
 place (NeedUnmet k) = k
 

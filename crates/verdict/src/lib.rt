@@ -18,7 +18,6 @@ pub enum Verdict {
     ConditionFails(u16),
     LevelOutOfBounds(u16),
     GoalFails(u16),
-    StepsOverlap(u16),
     TimedFactsConflict(u16),
     NeedUnmet(u16),
 }
@@ -45,7 +44,6 @@ pub fn number(v: Verdict) -> u16
         Verdict::ConditionFails(_) => 11,
         Verdict::LevelOutOfBounds(_) => 12,
         Verdict::GoalFails(_) => 13,
-        Verdict::StepsOverlap(_) => 14,
         Verdict::TimedFactsConflict(_) => 17,
         Verdict::NeedUnmet(_) => 21,
     }
@@ -70,7 +68,6 @@ pub fn place(v: Verdict) -> u16
         Verdict::ConditionFails(k) => k,
         Verdict::LevelOutOfBounds(k) => k,
         Verdict::GoalFails(k) => k,
-        Verdict::StepsOverlap(k) => k,
         Verdict::TimedFactsConflict(k) => k,
         Verdict::NeedUnmet(k) => k,
     }

@@ -4,12 +4,11 @@ use mathlib.Core.Path.{_≡_, sym, ap, _∙_}
 use mathlib.Core.List.{List}
 use native.Mathlib.Omega.{arith}
 use denote.Ref.{now}
-use lib.ListN.{length, getD, List·getD-eq-default}
-use Rattle.laws.proofs.Listed.{length-tabulate, getD-tabulate}
+use lib.ListN.{length, List·getD-eq-default}
+use Rattle.laws.proofs.Listed.{length-tabulate}
 use Rattle.job.specs.Model.{Model, view}
 use Rattle.job.specs.WellFormed.{WellFormed}
 use Rattle.validity.specs.Ticks.{plannedStarts, scheduleOf}
-use Rattle.gaps.specs.Table.{Writable}
 use Rattle.schedule.proofs.Reading.{read-lies}
 use Rattle.partialize.specs.Partialization.{looseOf}
 use Rattle.partialize.proofs.Promised.{refused-promise, filed-promise}
@@ -17,20 +16,14 @@ use borrow.Author.Needs.{needs}
 use Rattle.partialize.proofs.loosen_ordered.Statement.{statement}
 use Rattle.partialize.proofs.loosen_ordered.Tie as tie
 
--- written starts are such as a job can write
-written-writable : (m : Model) (starts : List ℕ) → starts ≡ plannedStarts m → WellFormed m → Writable m starts
-written-writable m starts e form =
-    record {
-      each = omega (arith, ap length e ∙ length-tabulate (m .start) (m .steps));
-      early = λ k h.
-          let start : scheduleOf starts k ≡ m .start k = ap (λ (l : List ℕ). getD l k 0) e ∙ getD-tabulate (m .start) (m .steps) k 0 h in
-          omega (arith, start, form .startRange k h);
-    }
+-- there is one written start for each step
+written-each : (m : Model) (starts : List ℕ) → starts ≡ plannedStarts m → length starts ≡ m .steps
+written-each m starts e = ap length e ∙ length-tabulate (m .start) (m .steps)
 
--- and give the clock none
+-- and none for the clock
 written-clock : (m : Model) (starts : List ℕ) → starts ≡ plannedStarts m → scheduleOf starts (m .steps) ≡ 0
 written-clock m starts e =
-    List·getD-eq-default starts 0 {n = m .steps} (omega (arith, ap length e ∙ length-tabulate (m .start) (m .steps)))
+    List·getD-eq-default starts 0 {n = m .steps} (omega (arith, written-each m starts e))
 
 pub loosen-ordered-spec : {M : Type 1} → statement M
 unfolding looseOf
@@ -49,7 +42,7 @@ loosen-ordered-spec =
         valid = record {
           form = form;
           valid = rw (p .written, p .read .header) (sound .valid);
-          written = written-writable _ _ (p .written) form;
+          written = omega (arith, written-each (view (start .args .job) (now (start .args .s))) _ (p .written));
           clock = written-clock (view (start .args .job) (now (start .args .s))) _ (p .written);
         };
         known = p .known;

@@ -1,4 +1,4 @@
--- Of a file that 1 to 6 pass, refusals 7 to 14 and 21 of the planned starts are the job check.
+-- Of a file that 1 to 6 pass, refusals 7 to 13 and 21 of the planned starts are the job check.
 use mathlib.Core.Path.{ap, ap₂, _∙_}
 use denote.Ref.{now}
 use Rattle.verdict.specs.Verdict.{_then_}

@@ -30,7 +30,7 @@ fill-gaps-spec =
     let w = d .pre .0 in
     let none = empty-gaps _ (w .size) (w .empty) in
     let whole1 = support .fill-support .ensures _ (w .linked) .whole none in
-    (now (d .args .s), own-points w, whole1, d .pre .2 .each))
+    (now (d .args .s), own-points w, whole1, d .pre .2))
     (λ c κs.
     let opposing = c .before .before .before in
     let support = opposing .before .before .before .before in
@@ -40,7 +40,7 @@ fill-gaps-spec =
     let none = empty-gaps _ (w .size) (w .empty) in
     let whole1 = support .fill-support .ensures _ (w .linked) .whole none in
     let whole2 = opposing .fill-opposing .ensures _ known .whole whole1 in
-    (known, whole2, d .pre .2 .each))
+    (known, whole2, d .pre .2))
     (λ c κs.
     let conditions = c .before .before .before in
     let opposing = conditions .before .before .before .before in
@@ -52,7 +52,7 @@ fill-gaps-spec =
     let whole1 = support .fill-support .ensures _ (w .linked) .whole none in
     let whole2 = opposing .fill-opposing .ensures _ known .whole whole1 in
     let whole3 = conditions .fill-conditions .ensures .whole whole2 in
-    (now (d .args .s), known, whole3, d .pre .2 .each))
+    (now (d .args .s), known, whole3, d .pre .2))
     (λ c κs.
     let levels = c .before .before .before in
     let conditions = levels .before .before .before .before in
@@ -66,7 +66,7 @@ fill-gaps-spec =
     let whole2 = opposing .fill-opposing .ensures _ known .whole whole1 in
     let whole3 = conditions .fill-conditions .ensures .whole whole2 in
     let whole4 = levels .fill-levels .ensures _ known .whole whole3 in
-    (now (d .args .s), known, whole4, d .pre .2 .each))
+    (now (d .args .s), known, whole4, d .pre .2))
     (λ c κs.
     let needed = c .before .before .before in
     let levels = needed .before .before .before .before in
@@ -81,11 +81,10 @@ fill-gaps-spec =
     let whole2 = opposing .fill-opposing .ensures _ known .whole whole1 in
     let whole3 = conditions .fill-conditions .ensures .whole whole2 in
     let whole4 = levels .fill-levels .ensures _ known .whole whole3 in
-    let whole5 = needed .fill-needs .ensures _ known .whole whole4 in
-    (w .form, whole5, d .pre .2))
-    (λ c κs.
-    let serial = c .before .before .before in
-    let needed = serial .before .before .before .before in
+    needed .fill-needs .ensures _ known .whole whole4 .size)
+    (λ c.
+    let clear = c .before .before in
+    let needed = clear .before .before .before .before in
     let levels = needed .before .before .before .before in
     let conditions = levels .before .before .before .before in
     let opposing = conditions .before .before .before .before in
@@ -99,30 +98,10 @@ fill-gaps-spec =
     let whole3 = conditions .fill-conditions .ensures .whole whole2 in
     let whole4 = levels .fill-levels .ensures _ known .whole whole3 in
     let whole5 = needed .fill-needs .ensures _ known .whole whole4 in
-    serial .fill-serial .ensures .whole whole5 .size)
+    omega (arith, clear .clear-own .ensures .size, whole5 .size, w .size))
     (λ c.
     let clear = c .before .before in
-    let serial = clear .before .before .before .before in
-    let needed = serial .before .before .before .before in
-    let levels = needed .before .before .before .before in
-    let conditions = levels .before .before .before .before in
-    let opposing = conditions .before .before .before .before in
-    let support = opposing .before .before .before .before in
-    let d = support .before .before .before .before .before .before .before .before in
-    let w = d .pre .0 in
-    let known = own-points w in
-    let none = empty-gaps _ (w .size) (w .empty) in
-    let whole1 = support .fill-support .ensures _ (w .linked) .whole none in
-    let whole2 = opposing .fill-opposing .ensures _ known .whole whole1 in
-    let whole3 = conditions .fill-conditions .ensures .whole whole2 in
-    let whole4 = levels .fill-levels .ensures _ known .whole whole3 in
-    let whole5 = needed .fill-needs .ensures _ known .whole whole4 in
-    let whole6 = serial .fill-serial .ensures .whole whole5 in
-    omega (arith, clear .clear-own .ensures .size, whole6 .size, w .size))
-    (λ c.
-    let clear = c .before .before in
-    let serial = clear .before .before .before .before in
-    let needed = serial .before .before .before .before in
+    let needed = clear .before .before .before .before in
     let levels = needed .before .before .before .before in
     let conditions = levels .before .before .before .before in
     let opposing = conditions .before .before .before .before in
@@ -136,8 +115,7 @@ fill-gaps-spec =
     (raised-then _ _ _ _ _ _
     (raised-then _ _ _ _ _ _
     (raised-then _ _ _ _ _ _
-    (raised-then _ _ _ _ _ _
     (raised-then _ _ _ _ _ _ (support .fill-support .ensures _ (w .linked)) (opposing .fill-opposing .ensures _ known))
     (conditions .fill-conditions .ensures)) (levels .fill-levels .ensures _ known)) (needed .fill-needs .ensures _ known))
-    (serial .fill-serial .ensures)) (own-gaps m _)) (clear .clear-own .ensures)
+    (own-gaps m _)) (clear .clear-own .ensures)
     (w .size) (w .empty)))

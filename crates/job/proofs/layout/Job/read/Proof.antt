@@ -9,12 +9,10 @@ unfolding jobOf
 read-spec =
     tie.close
     (tie.spec
-    (λ c κs. search needs) (λ c. search needs) (λ c κs. search needs) (λ c. search needs) (λ c κs. search needs)
-    (λ c. search needs) (λ c _. c .header-width .ensures .1)
+    (λ c κs. search needs) (λ c. search needs) (λ c κs. search needs) (λ c. search needs) (λ c _. c .header-width .ensures .1)
     (λ c. rw (
       c .of .ensures,
       c .before .header-width .ensures .0,
       c .before .before .read .ensures,
-      c .before .before .before .u16-at2 .ensures .0,
-      c .before .before .before .before .u16-at .ensures .0,
+      c .before .before .before .u16-at .ensures .0,
     )))

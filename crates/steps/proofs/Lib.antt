@@ -1,2 +1,0 @@
--- An overlap by the later steps alone.
-mod Overlap

@@ -1,2 +1,0 @@
--- When two steps overlap.
-pub mod Overlap
