@@ -6,7 +6,8 @@ use mathlib.Core.List.{List, [], _++_}
 use lib.Dec.{eqb}
 use lib.ListN.{length, take}
 use Rattle.verdict.specs.Verdict.{number, place}
-use Rattle.job.specs.Layout.{serialMark, longestHeader, factWidth, levelWidth, stepWidth, conditionWidth, effectWidth, useWidth, goalWidth, timedWidth, needWidth}
+use Rattle.job.specs.Layout.{serialMark, longestHeader, factWidth, levelWidth, stepWidth, conditionWidth, effectWidth, useWidth}
+use Rattle.job.specs.Layout.{goalWidth, timedWidth, needWidth}
 use Rattle.job.specs.Layout.{mostFacts, mostLevels, mostSteps, mostConditions, mostEffects, mostUses, mostGoals, mostTimed, mostNeeds}
 use Rattle.validity.specs.Checks.{jobCheck}
 use Rattle.order_file.specs.Contents.{stepLimit, orderLimit}
