@@ -1,8 +1,9 @@
 //! Prints the sheet of a job file, as the program `show` does:
 //! `cargo run --example loosen -- ../samples/deck-resigned.job`
 
+use std::io::{BufWriter, ErrorKind, Write};
 use std::process::ExitCode;
-use std::{env, fs};
+use std::{env, fs, io};
 
 use callers::{order_header, order_record, partialize, Answer};
 
@@ -14,42 +15,56 @@ fn main() -> ExitCode {
         eprintln!("which job file?");
         return ExitCode::FAILURE;
     };
+    match print_sheet(&job, &mut BufWriter::new(io::stdout().lock())) {
+        // Whoever reads has seen enough.
+        Err(error) if error.kind() == ErrorKind::BrokenPipe => ExitCode::SUCCESS,
+        Err(error) => {
+            eprintln!("{error}");
+            ExitCode::FAILURE
+        }
+        Ok(()) => ExitCode::SUCCESS,
+    }
+}
+
+fn print_sheet(job: &[u8], out: &mut impl Write) -> io::Result<()> {
     let mut buffer = [0; LONGEST];
-    match partialize(&job, &mut buffer).answer() {
+    match partialize(job, &mut buffer).answer() {
         Answer::Accepted(length) => {
-            print_mark(&job);
-            print_file(&buffer[..length as usize]);
+            print_mark(job, out)?;
+            print_file(&buffer[..length as usize], out)?;
         }
         Answer::Refused { number, place } => {
-            println!("refused {number} place {}", place.unwrap_or(u16::MAX));
+            writeln!(out, "refused {number} place {}", place.unwrap_or(u16::MAX))?;
         }
     }
-    ExitCode::SUCCESS
+    out.flush()
 }
 
 /// An accepted job's second number, its serial mark, is 0 or 1.
-fn print_mark(job: &[u8]) {
+fn print_mark(job: &[u8], out: &mut impl Write) -> io::Result<()> {
     if job[2] == 1 {
-        println!("serial mark ignored");
+        writeln!(out, "serial mark ignored")?;
     }
+    Ok(())
 }
 
-fn print_file(file: &[u8]) {
+fn print_file(file: &[u8], out: &mut impl Write) -> io::Result<()> {
     let mut header = [0; 8];
     order_header(file, &mut header);
     let [_, steps, orders, _, rounds, ..] = header;
-    println!("steps {steps} rounds {rounds}");
+    writeln!(out, "steps {steps} rounds {rounds}")?;
     for step in 0..steps {
         let [_, latest, earliest] = record(file, 0, step);
         match latest {
-            u32::MAX => println!("step {step} earliest {earliest} latest none"),
-            _ => println!("step {step} earliest {earliest} latest {latest}"),
+            u32::MAX => writeln!(out, "step {step} earliest {earliest} latest none")?,
+            _ => writeln!(out, "step {step} earliest {earliest} latest {latest}")?,
         }
     }
     for number in 0..orders {
         let [first, second, gap] = record(file, 1, number);
-        println!("order {first} {second} {}", gap as i32);
+        writeln!(out, "order {first} {second} {}", gap as i32)?;
     }
+    Ok(())
 }
 
 fn record(file: &[u8], table: u32, number: u32) -> [u32; 3] {
