@@ -1,4 +1,5 @@
 // When a step or the clock is against itself, and what the search by pairs finds: definitions and theorems without code.
+#![tactic(auto)]
 
 // How many pairs were compared, and whether the last of them sets a fact both ways.
 #[derive(Drop)]

@@ -1,5 +1,7 @@
 // What is printed of each answer, and its exit status. A refusal is told on standard output as everywhere, and on standard error in plain
 // words under the name of the input that it concerns.
+#![tactic(auto)]
+
 ghost use Rattle.std.specs.Prelude.{◌≤◌, length};
 
 use command_line::files::{print, write_output};

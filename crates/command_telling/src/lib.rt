@@ -1,5 +1,7 @@
 // The line that `jobs` prints of each entry point's answer. Each function writes it to the front of `out`, and answers how long it is, whether
 // or not there was room for it.
+#![tactic(auto)]
+
 ghost use Rattle.std.specs.Prelude.{◌≤◌};
 ghost use Rattle.text.specs.Put.{Written};
 ghost use Rattle.pair_search.specs.declared.answer.PairsAnswer.TheVariants.{NoneFound, Found};

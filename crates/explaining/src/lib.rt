@@ -1,4 +1,6 @@
 // What a refusal means, as a line of plain words for a person.
+#![tactic(auto)]
+
 mod detail;
 mod table;
 

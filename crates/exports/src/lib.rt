@@ -1,4 +1,6 @@
 // The functions that C and Rust callers link. Each asks one entry point and packs its answer into one number.
+#![tactic(auto)]
+
 ghost use Rattle.std.specs.Prelude.{◌≡◌, length};
 ghost use Rattle.validity.specs.Checks.{job_check, schedule_check};
 ghost use Rattle.validity.specs.Promise.{JobPromise, SchedulePromise};

@@ -1,4 +1,6 @@
 // Whether a job file is well formed: refusals 1 to 7, then 17.
+#![tactic(auto)]
+
 ghost use Rattle.std.specs.Prelude.{◌≡◌};
 ghost use Rattle.job.specs.Model.{model_of};
 ghost use Rattle.form.specs.Refusals.{form_check, FormPromise};

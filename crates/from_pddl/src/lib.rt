@@ -1,4 +1,6 @@
 // Jobs from a supplier's two texts: the actions, then the plan, then the job.
+#![tactic(auto)]
+
 ghost use Rattle.texts_answer.specs.Promise.{TextsPromise};
 
 mod actions;

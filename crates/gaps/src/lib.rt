@@ -1,3 +1,5 @@
 // The table of gaps, filled by the rules.
+#![tactic(auto)]
+
 pub mod fill;
 mod needs;

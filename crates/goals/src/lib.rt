@@ -1,4 +1,6 @@
 // Refusal 13: what the last points of a goal's fact say of it.
+#![tactic(auto)]
+
 ghost use Rattle.std.specs.Prelude.{◌≡◌, ℕ, ◌≤◌, ◌<◌, length};
 ghost use Rattle.laws.specs.Search.{lowest};
 ghost use Rattle.job.specs.Clocked.{clocked};

@@ -1,4 +1,6 @@
 // Refusals 1 to 5: the header and the layout.
+#![tactic(auto)]
+
 ghost use Rattle.std.specs.Prelude.{◌≡◌};
 ghost use Rattle.job.specs.Layout.{job_of};
 ghost use Rattle.header_check.specs.Header.{edition_known, marks_wrong, layout_agrees, header_check};

@@ -1,3 +1,5 @@
 // The job file: its layout, and the readers of its fields.
+#![tactic(auto)]
+
 pub mod layout;
 pub mod records;

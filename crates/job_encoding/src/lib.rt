@@ -1,1 +1,2 @@
 // The bytes of a job file: definitions and theorems without code.
+#![tactic(auto)]

@@ -1,5 +1,7 @@
 // A field of a record, read from the caller's own bytes. A record that is not there reads as what stands in its place, and
 // bytes past the end as 0, so no reader asks anything of its caller.
+#![tactic(auto)]
+
 ghost use Rattle.std.specs.Prelude.{◌≡◌, ◌<◌};
 ghost use Rattle.job.specs.Model.{view};
 ghost use Rattle.little_endian.specs.Bytes.{u32_values};

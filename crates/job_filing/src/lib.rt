@@ -1,4 +1,6 @@
 // The job that notes hold: counted, written, checked, and put into the caller's buffer.
+#![tactic(auto)]
+
 ghost use Rattle.std.specs.Prelude.{◌≡◌, ◌||◌, ◌≤◌, ltb, length};
 ghost use Rattle.job.specs.Layout.{most_facts, most_levels, most_conditions, most_effects, most_uses, most_goals};
 ghost use Rattle.supplied.specs.Job.{model_in};

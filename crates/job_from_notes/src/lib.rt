@@ -1,4 +1,6 @@
 // A job's file from the notes of two texts: how many records they bring, and the job's bytes.
+#![tactic(auto)]
+
 mod brought;
 mod entries;
 pub mod file;

@@ -1,4 +1,6 @@
 // Whole records of any bytes: levels, steps and goals.
+#![tactic(auto)]
+
 ghost use Rattle.std.specs.Prelude.{◌≡◌};
 ghost use Rattle.job.specs.Model.{view, level_of, step_of, goal_of};
 

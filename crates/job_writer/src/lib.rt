@@ -1,4 +1,6 @@
 // Writing a job file's parts into a caller's bytes: the header of edition 1, and a record of each of its tables.
+#![tactic(auto)]
+
 ghost use Rattle.std.specs.Prelude.{◌≡◌, ◌+◌, ◌≤◌, length, take, drop};
 ghost use Rattle.std.proofs.lemmas.List.Edits.{sets};
 ghost use Rattle.little_endian.specs.Bytes.{u16_bytes, u32_bytes};

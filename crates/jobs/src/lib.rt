@@ -1,5 +1,7 @@
 // The command line `jobs`, over the proved entry points: it reads arguments and files, and writes what the libraries say of them.
 // A program in Rattle has no exit status, so this one is a library with one function, and `program/jobs.c` returns what that answers.
+#![tactic(auto)]
+
 mod commands;
 
 use command_line::help;

@@ -1,4 +1,6 @@
 // Whole records of tables that lie within the bytes: conditions, effects, uses, timed facts and needs. No field is tested for room.
+#![tactic(auto)]
+
 ghost use Rattle.std.specs.Prelude.{◌≡◌, ◌<◌};
 ghost use Rattle.job.specs.Laid.{Laid};
 ghost use Rattle.job.specs.Model.{view, condition_of, effect_of, use_of, timed_of, need_of};

@@ -1,4 +1,6 @@
 // What a reader found, as numbers in a lent list.
+#![tactic(auto)]
+
 ghost use Rattle.std.specs.Prelude.{◌≡◌, set};
 ghost use Rattle.listing.specs.Listed as spec;
 

@@ -1,4 +1,6 @@
 // Little-endian numbers in a caller's bytes: total readers and writers.
+#![tactic(auto)]
+
 ghost use Rattle.std.specs.Prelude.{◌≡◌, ◌+◌, ◌≤◌, ◌<◌, leb, length, set};
 ghost use Rattle.std.proofs.lemmas.List.Edits.{sets};
 ghost use Rattle.little_endian.specs.Bytes.{u16_values, u32_values, byte_at, u16_at, u32_at, biased_at, u16_bytes, u32_bytes};

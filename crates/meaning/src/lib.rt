@@ -1,4 +1,6 @@
 // What a refusal means, in plain words, with the record that its place is.
+#![tactic(auto)]
+
 pub mod faults;
 
 ghost use Rattle.std.specs.Prelude.{◌+◌, ◌≤◌, ◌<◌, length};

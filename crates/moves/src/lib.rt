@@ -1,4 +1,6 @@
 // The start of one step moved beside a timed fact: a limit raised, a latest start lowered.
+#![tactic(auto)]
+
 ghost use Rattle.std.specs.Prelude.{◌≡◌, ◌+◌, ◌-◌, ◌≤◌, ◌<◌, length};
 ghost use Rattle.little_endian.specs.Bytes.{u32_values};
 ghost use Rattle.timeline.specs.Words.{word_step, word_number, word_tick};

@@ -1,5 +1,7 @@
 // Names of the action text: which of them may not stand where they do, the number of each among those of its kind, and the action of a
 // name.
+#![tactic(auto)]
+
 ghost use Rattle.std.specs.Prelude.{◌≡◌, ℕ, ◌≤◌, ◌<◌, length, get_or};
 ghost use Rattle.std.proofs.Math.Seq.{slice};
 ghost use Rattle.notes.specs.Notes.{notes_most, items_in};

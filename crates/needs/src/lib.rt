@@ -1,4 +1,6 @@
 // Refusal 21: the needs of each level, in the order of their ticks, beside its uses.
+#![tactic(auto)]
+
 ghost use Rattle.std.specs.Prelude.{◌≡◌, cond, ℕ, min, ◌+◌, ◌≤◌, ◌<◌};
 ghost use Rattle.laws.specs.Search.{lowest};
 ghost use Rattle.little_endian.specs.Bytes.{sign_bias};

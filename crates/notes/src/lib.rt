@@ -1,4 +1,6 @@
 // What a text says, noted in a list: a number for each item, with its role, its line, and where its name stands or which number it is.
+#![tactic(auto)]
+
 ghost use Rattle.std.specs.Prelude.{◌≡◌, ◌+◌, ◌≤◌, ◌<◌};
 ghost use Rattle.notes.specs.Notes.{value_in, line_in, role_in, name_at, name_end, roles, first_role, fact_role, numbered, named};
 

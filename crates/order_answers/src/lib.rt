@@ -1,4 +1,5 @@
 // What the reader of order files and the alike test answer: definitions and theorems without code.
+#![tactic(auto)]
 
 // What reading the header finds.
 #[derive(Drop)]

@@ -1,4 +1,6 @@
 // Whether bytes are an order file: the clauses of refusal 16.
+#![tactic(auto)]
+
 ghost use Rattle.std.specs.Prelude.{◌≡◌, ◌<◌, ◌-◌};
 ghost use Rattle.laws.specs.Search.{all};
 ghost use Rattle.order_file.specs.Layout.{contents_of};

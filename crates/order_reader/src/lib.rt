@@ -1,4 +1,6 @@
 // Order files: the reader of a header and of one record, and the test whether two files are alike.
+#![tactic(auto)]
+
 mod compare;
 pub mod numbers;
 

@@ -1,4 +1,6 @@
 // The text of an order file: header, windows, orders and links, or the line of its refusal.
+#![tactic(auto)]
+
 mod lines;
 
 ghost use Rattle.std.specs.Prelude.{◌+◌, ◌*◌, ◌≤◌, ◌<◌};

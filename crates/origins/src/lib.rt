@@ -1,4 +1,6 @@
 // What orders lead from, and one order into the table of gaps.
+#![tactic(auto)]
+
 ghost use Rattle.std.specs.Prelude.{◌≡◌, ◌≤◌, ◌<◌};
 ghost use Rattle.job.specs.Model.{view, longest};
 ghost use Rattle.validity.specs.Ticks.{schedule_of};

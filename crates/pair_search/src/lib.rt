@@ -1,4 +1,6 @@
 // The search by pairs for a step that sets a fact both ways at one tick, with how many pairs it compares: a part of refusal 7, and alone.
+#![tactic(auto)]
+
 ghost use Rattle.std.specs.Prelude.{◌≡◌, List, ℕ, ◌*◌, ◌≤◌, ◌<◌, length};
 ghost use Rattle.timeline.specs.Indexed.{Growing};
 ghost use Rattle.job.specs.Layout.{most_effects};

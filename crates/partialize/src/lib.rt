@@ -1,4 +1,6 @@
 // Loosening: an order file from a sound job.
+#![tactic(auto)]
+
 ghost use Rattle.job.specs.Model.{view};
 ghost use Rattle.job.specs.Laid.{Laid};
 ghost use Rattle.validity.specs.Ticks.{schedule_of};

@@ -1,4 +1,6 @@
 // Makes a job of a supplier's two texts: `pddl ACTIONS PLAN JOB`. Prints a line, the job's length or in words what is wrong and where.
+#![tactic(auto)]
+
 mod files;
 
 use from_pddl::job_from_texts;

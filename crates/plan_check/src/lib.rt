@@ -1,4 +1,6 @@
 // The lines of a plan against the actions that they name: the first that names none or has another duration.
+#![tactic(auto)]
+
 ghost use Rattle.std.specs.Prelude.{◌≡◌, List, ℕ, ◌+◌, ◌*◌, ◌≤◌, ◌<◌, length, set, drop};
 ghost use Rattle.notes.specs.Notes.{said_in, items_in};
 ghost use Rattle.supplied.specs.Plan.{number_in, leading};

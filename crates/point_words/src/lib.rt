@@ -1,4 +1,6 @@
 // The word of each condition, effect, timed fact, use and need of a job.
+#![tactic(auto)]
+
 ghost use Rattle.std.specs.Prelude.{◌≡◌, ◌+◌, ◌<◌};
 ghost use Rattle.timeline.specs.Words.{tick_span};
 ghost use Rattle.job.specs.Model.{view};

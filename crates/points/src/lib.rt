@@ -1,2 +1,4 @@
 // The points of a job: their words in order.
+#![tactic(auto)]
+
 pub mod words;

@@ -1,4 +1,6 @@
 // What `show` prints of a job: the sheet of its order file, behind a line if a serial mark was ignored, or its refusal.
+#![tactic(auto)]
+
 ghost use Rattle.std.specs.Prelude.{◌≤◌, length};
 ghost use Rattle.text.specs.Put.{Put, Written};
 ghost use Rattle.sheet.specs.Text.{ignored_most};

@@ -1,4 +1,6 @@
 // What refusal 6 asks of a record: it keeps its ranges and names what is counted.
+#![tactic(auto)]
+
 ghost use Rattle.std.specs.Prelude.{◌≡◌, List, ℕ, ◌≤◌, ◌<◌};
 ghost use Rattle.laws.specs.Search.{lowest};
 ghost use Rattle.job.specs.Laid.{Laid};

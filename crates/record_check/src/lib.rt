@@ -1,4 +1,6 @@
 // The header and the records of a job file: refusals 1 to 6.
+#![tactic(auto)]
+
 ghost use Rattle.record_check.specs.Records.{RecordsPromise};
 
 mod tables;

@@ -1,4 +1,6 @@
 // Runs made cases: reads the file `cases` to its end and prints a line a case.
+#![tactic(auto)]
+
 mod buffers;
 mod fields;
 mod lines;

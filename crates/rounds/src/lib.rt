@@ -1,1 +1,2 @@
 // Rounds over a table of gaps: definitions and theorems without code.
+#![tactic(auto)]

@@ -1,4 +1,6 @@
 // Orders between groups of points, into the table of gaps: pair by pair, or a row of the table for each point. No rule.
+#![tactic(auto)]
+
 ghost use Rattle.std.specs.Prelude.{◌≤◌};
 ghost use Rattle.job.specs.Model.{view};
 ghost use Rattle.validity.specs.Ticks.{schedule_of};

@@ -1,4 +1,6 @@
 // The timing check: refusals 8 to 13 and 21, on the written starts or on any list of starts.
+#![tactic(auto)]
+
 ghost use Rattle.std.specs.Prelude.{◌≡◌, true, ℕ};
 ghost use Rattle.job.specs.Model.{view};
 ghost use Rattle.job.specs.WellFormed.{Ranged};

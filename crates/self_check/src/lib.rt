@@ -2,6 +2,8 @@
 // or uses a level twice is found in one pass over the effects and one over the uses. Each record walks an index, so that it meets only those
 // of its own step and fact or level, and the few others that share the key. The field that most often tells two such records apart is read
 // first. Refusal 17, the clock against itself, is in `clock`.
+#![tactic(auto)]
+
 ghost use Rattle.std.specs.Prelude.{◌≡◌, ◌&&◌, cond, ℕ, min, ◌≤◌, ◌<◌, ltb};
 ghost use Rattle.job.specs.Model.{view, effect_of};
 ghost use Rattle.job.specs.Laid.{Laid};

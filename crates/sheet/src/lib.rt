@@ -1,4 +1,6 @@
 // The text that `show` prints: the sheet of an order file, or the line of a refusal.
+#![tactic(auto)]
+
 pub mod lines;
 
 ghost use Rattle.std.specs.Prelude.{◌+◌, ◌*◌, ◌≤◌, ◌<◌};

@@ -1,4 +1,6 @@
 // Prints the sheet of the job on standard input, or its refusal.
+#![tactic(auto)]
+
 use libc::{STDIN_FILENO, STDOUT_FILENO};
 use printout::{INPUT, MOST_TEXT, show_input};
 

@@ -1,4 +1,6 @@
 // Names of actions, facts and levels, and the words of the grammar, anywhere in a text and at a cursor.
+#![tactic(auto)]
+
 ghost use Rattle.std.specs.Prelude.{◌≡◌, ◌-◌, ◌≤◌, ◌<◌, length, get_or};
 ghost use Rattle.std.proofs.Math.Seq.{slice};
 ghost use Rattle.laws.specs.Search.{all};

@@ -1,4 +1,6 @@
 // Numbers: W, a whole amount, and T, a time in ticks, anywhere in a text and at a cursor.
+#![tactic(auto)]
+
 ghost use Rattle.std.specs.Prelude.{◌≡◌, ◌+◌, ◌-◌, ◌*◌, ◌^◌, ◌≤◌, ◌<◌, length};
 ghost use Rattle.std.proofs.Math.Seq.{slice};
 ghost use Rattle.spelling.specs.Numbers.{point_at, digits_of, Below, whole_of, time_of};

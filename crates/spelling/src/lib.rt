@@ -1,5 +1,7 @@
 // Words, brackets and lines of a text, one after the other, at a cursor. In a plan a colon is like a bracket and a line end stands for
 // itself.
+#![tactic(auto)]
+
 pub mod here;
 pub mod numbers;
 

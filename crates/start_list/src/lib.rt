@@ -1,4 +1,6 @@
 // The list of starts that a person writes, as 0,6,20.
+#![tactic(auto)]
+
 ghost use Rattle.std.specs.Prelude.{◌≡◌, true, ◌≤◌, ◌<◌, length};
 ghost use Rattle.listing.specs.Listed.{filled};
 ghost use Rattle.start_list.specs.Starts.{is_list, starts_in, starts_read};

@@ -1,4 +1,6 @@
 // Refusal 9: a fixed step has its written start.
+#![tactic(auto)]
+
 ghost use Rattle.std.specs.Prelude.{◌≡◌};
 ghost use Rattle.laws.specs.Search.{lowest};
 ghost use Rattle.job.specs.Clocked.{clocked};

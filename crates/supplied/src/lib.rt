@@ -1,1 +1,2 @@
 // The job that a supplier's two texts describe: definitions without code.
+#![tactic(auto)]

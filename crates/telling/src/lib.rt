@@ -1,4 +1,6 @@
 // What `pddl` prints: a line that says in words what two texts are answered.
+#![tactic(auto)]
+
 ghost use Rattle.std.specs.Prelude.{◌+◌, ◌≤◌, ◌<◌, length};
 ghost use Rattle.text.specs.Put.{Put, Written};
 ghost use Rattle.telling.specs.Told.{at_line, of_record, unsound, fault, made_line, refused_line, told, fault_most, told_most};

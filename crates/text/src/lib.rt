@@ -1,5 +1,7 @@
 // Texts put into a buffer from a position on. Each function answers where its text ends; bytes past the buffer's end are not written.
 // The bounds on positions keep every sum far below the highest usize.
+#![tactic(auto)]
+
 ghost use Rattle.std.specs.Prelude.{◌+◌, ◌≤◌, ◌<◌, [], ◌∷◌, length};
 ghost use Rattle.text.specs.Decimal.{decimal, field};
 ghost use Rattle.text.specs.Put.{Put};

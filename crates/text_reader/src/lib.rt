@@ -1,4 +1,6 @@
 // The readers of a supplier's two texts: what each says is noted in a list, or the reader stands at the first fault.
+#![tactic(auto)]
+
 mod plan_lines;
 mod sections;
 

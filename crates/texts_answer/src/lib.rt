@@ -1,4 +1,6 @@
 // What two texts are answered.
+#![tactic(auto)]
+
 ghost use Rattle.std.specs.Prelude.{◌≡◌};
 ghost use Rattle.texts_answer.specs.Answer as spec;
 

@@ -1,5 +1,7 @@
 // Ticks of a job's points under a list of starts. A start past the list's end counts as 0, so nothing is asked of the caller;
 // starts are any u32, and sums are made in 64 bits.
+#![tactic(auto)]
+
 ghost use Rattle.std.specs.Prelude.{◌≡◌, ◌≤◌, ◌<◌, length, take};
 ghost use Rattle.laws.specs.Listed.{tabulate};
 ghost use Rattle.job.specs.Layout.{most_steps};

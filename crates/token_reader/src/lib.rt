@@ -1,5 +1,7 @@
 // The tokens of a supplier's text, read one after the other: each function reads one symbol of the grammar, or marks the first fault.
 // A reader with a fault passes through every function unchanged.
+#![tactic(auto)]
+
 ghost use Rattle.std.specs.Prelude.{◌≡◌, ◌<◌, length};
 ghost use Rattle.spelling.specs.Cursor.{here, is_bracket, is_word, is_stop};
 ghost use Rattle.grammar.specs.Reader.{bracket, keyword, name, time, amount};

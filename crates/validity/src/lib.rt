@@ -1,4 +1,5 @@
 // When a timing is sound: definitions and theorems without code.
+#![tactic(auto)]
 
 // The rules that name a record, in checking order.
 #[derive(Drop)]

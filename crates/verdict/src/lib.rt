@@ -1,4 +1,6 @@
 // What a check answers: accepted, or the first refusal in checking order with the record concerned.
+#![tactic(auto)]
+
 ghost use Rattle.std.specs.Prelude.{◌≡◌};
 ghost use Rattle.verdict.specs.Verdict.{◌then◌, refuse_if};
 ghost use Rattle.verdict.specs.Verdict as spec;

@@ -1,3 +1,5 @@
 // Limits, latest starts, and the rounds to the earliest starts.
+#![tactic(auto)]
+
 pub mod starts;
 pub mod window;
