@@ -7,7 +7,7 @@ use crate::names::is_standard;
 use libc::{STDERR_FILENO, STDIN_FILENO, STDOUT_FILENO};
 
 // An input: how much of the buffer it fills, or that it could not be read.
-#[derive(Drop)]
+#[derive(Clone, Copy)]
 pub struct Input {
     pub is_read: bool,
     pub len: usize,

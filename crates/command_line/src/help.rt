@@ -3,7 +3,7 @@ use crate::names::is_word;
 use crate::status::{TROUBLE, YES};
 use libc::{STDERR_FILENO, STDOUT_FILENO};
 
-#[derive(Drop)]
+#[derive(Clone, Copy)]
 pub enum Command {
     Check,
     Loosen,

@@ -8,7 +8,7 @@ use naming::{Names, number_names};
 use text_reader::read_actions;
 
 // What was read: a fault's number, 0 for none, with its line, how many notes were made, and how many names there are.
-#[derive(Drop)]
+#[derive(Clone, Copy)]
 pub struct Actions {
     pub fault: usize,
     pub line: usize,

@@ -12,7 +12,7 @@ use notes::Place;
 use token_reader::{Reader, refuse, sees_bracket, sees_word, take_bracket, take_word};
 
 // What the items are.
-#[derive(Drop)]
+#[derive(Clone, Copy)]
 pub enum Items {
     Conditions,
     Effects,

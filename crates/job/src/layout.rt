@@ -6,7 +6,7 @@ ghost use Rattle.job.specs.Layout.{needs_edition, header_width, longest_header, 
 use little_endian::SIGN_BIAS;
 
 // The tables, in their order in the file.
-#[derive(Drop)]
+#[derive(Clone, Copy)]
 pub enum Table {
     Facts,
     Levels,
@@ -20,7 +20,7 @@ pub enum Table {
 }
 
 // How many records each table has.
-#[derive(Drop)]
+#[derive(Clone, Copy)]
 pub struct Counts {
     pub facts: u16,
     pub levels: u16,
@@ -34,7 +34,7 @@ pub struct Counts {
 }
 
 // Where each table starts, and where the file ends.
-#[derive(Drop)]
+#[derive(Clone, Copy)]
 pub struct Positions {
     pub facts: u32,
     pub levels: u32,
@@ -49,7 +49,7 @@ pub struct Positions {
 }
 
 // What the header says of a job, and where that puts its tables.
-#[derive(Drop)]
+#[derive(Clone, Copy)]
 pub struct Job {
     pub edition: u16,
     pub count: Counts,

@@ -1,7 +1,7 @@
 // The records of a job file, whole.
 
 // A level's record: its three numbers, each plus SIGN_BIAS.
-#[derive(Drop)]
+#[derive(Clone, Copy)]
 pub struct Level {
     pub initial: usize,
     pub least: usize,
@@ -12,7 +12,7 @@ pub struct Level {
 pub const NO_DEADLINE: usize = 4294967295;
 
 // A step's record.
-#[derive(Drop)]
+#[derive(Clone, Copy)]
 pub struct Step {
     pub start: usize,
     pub length: usize,
@@ -20,7 +20,7 @@ pub struct Step {
 }
 
 // A goal's.
-#[derive(Drop)]
+#[derive(Clone, Copy)]
 pub struct Goal {
     pub fact: u16,
     pub value: u16,
@@ -28,7 +28,7 @@ pub struct Goal {
 }
 
 // A condition's, an effect's and a use's.
-#[derive(Drop)]
+#[derive(Clone, Copy)]
 pub struct Condition {
     pub step: u16,
     pub fact: u16,
@@ -37,7 +37,7 @@ pub struct Condition {
     pub value: u16,
 }
 
-#[derive(Drop)]
+#[derive(Clone, Copy)]
 pub struct Effect {
     pub step: u16,
     pub fact: u16,
@@ -45,7 +45,7 @@ pub struct Effect {
     pub value: u16,
 }
 
-#[derive(Drop)]
+#[derive(Clone, Copy)]
 pub struct Use {
     pub step: u16,
     pub level: u16,
@@ -54,7 +54,7 @@ pub struct Use {
 }
 
 // A need's: what its level must reach, plus SIGN_BIAS.
-#[derive(Drop)]
+#[derive(Clone, Copy)]
 pub struct Need {
     pub step: u16,
     pub level: u16,
@@ -63,7 +63,7 @@ pub struct Need {
 }
 
 // A timed fact's: what the clock sets, and at which tick.
-#[derive(Drop)]
+#[derive(Clone, Copy)]
 pub struct TimedFact {
     pub fact: u16,
     pub tick: usize,

@@ -8,7 +8,7 @@ ghost use Rattle.job_from_notes.specs.Brought.{brings, within, goes_on};
 use notes::{GIVEN, NUMBER, OVER_ALL, REACHED, RISE, SET, WANTED, WANTED_AT_END};
 
 // The tables whose records notes bring one by one.
-#[derive(Drop)]
+#[derive(Clone, Copy)]
 pub enum Kind {
     Conditions,
     Effects,

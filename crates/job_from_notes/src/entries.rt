@@ -14,7 +14,7 @@ use little_endian::SIGN_BIAS;
 use notes::{FALL, OVER_ALL, SET_AT_END, WANTED_AT_END};
 
 // A step, and how long it lasts.
-#[derive(Drop)]
+#[derive(Clone, Copy)]
 pub struct Span {
     pub step: u16,
     pub duration: usize,

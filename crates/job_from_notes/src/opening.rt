@@ -7,7 +7,7 @@ use crate::brought::leading;
 use notes::{GIVEN, STOCK};
 
 // What is said of the beginning.
-#[derive(Drop)]
+#[derive(Clone, Copy)]
 pub enum Opening {
     Fact,
     Level,

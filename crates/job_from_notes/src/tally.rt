@@ -8,7 +8,7 @@ ghost use Rattle.job_from_notes.specs.Counted.{tables_in, Walked, Counted};
 use crate::brought::{Kind, brings, goes_on, lasts};
 
 // How many records each table has that steps bring.
-#[derive(Drop)]
+#[derive(Clone, Copy)]
 pub struct Totals {
     pub conditions: usize,
     pub effects: usize,

@@ -9,7 +9,7 @@ use job::records::{Goal, Level, Step};
 use job_fields::fact_initial;
 use job_records::{goal_record, level_record, step_record};
 
-#[derive(Drop)]
+#[derive(Clone, Copy)]
 pub struct JobReader<'a> {
     pub bytes: &'a [u8],
     pub job: Job,

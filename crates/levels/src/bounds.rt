@@ -15,7 +15,7 @@ use little_endian::SIGN_BIAS;
 use timeline::word::{begin_at, number_of, tick_of};
 
 // What a level's uses before a place add to it and take from it.
-#[derive(Drop)]
+#[derive(Clone, Copy)]
 pub struct Sums {
     pub place: usize,
     pub rises: usize,

@@ -12,7 +12,7 @@ use points::words::list_points;
 use timeline::word::begin_at;
 
 // Points of a fact from place `low` up to `high`, and its timed facts from place `from` up to `until`.
-#[derive(Drop)]
+#[derive(Clone, Copy)]
 pub struct Span {
     pub low: usize,
     pub high: usize,

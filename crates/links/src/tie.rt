@@ -11,7 +11,7 @@ use timeline::word::{STEP_SPAN, step_of, tick_of};
 pub const FIRSTS: usize = STEP_SPAN as usize;
 
 // The points from place `from` up to `end`.
-#[derive(Drop)]
+#[derive(Clone, Copy)]
 pub struct Tie {
     pub from: usize,
     pub end: usize,

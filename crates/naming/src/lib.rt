@@ -20,7 +20,7 @@ pub const INDEX_SIZE: usize = KEYS + NOTES_MOST;
 
 pub const UNLINKED: u16 = 65535;
 
-#[derive(Drop)]
+#[derive(Clone, Copy)]
 pub struct Names {
     // The first item that may not stand behind those before it, or how many items there are.
     pub clash: usize,

@@ -37,7 +37,7 @@ pub const GIVEN: usize = 20;
 pub const NOTES_MOST: usize = 65536;
 
 // Where a fact stands.
-#[derive(Drop)]
+#[derive(Clone, Copy)]
 pub enum Place {
     WantedAtStart,
     WantedOverAll,

@@ -2,7 +2,7 @@
 #![tactic(auto)]
 
 // What reading the header finds.
-#[derive(Drop)]
+#[derive(Clone, Copy)]
 pub enum HeaderRead {
     Header {
         edition: u16,
@@ -19,7 +19,7 @@ pub enum HeaderRead {
 }
 
 // What reading one record finds.
-#[derive(Drop)]
+#[derive(Clone, Copy)]
 pub enum RecordRead {
     Window {
         limit: u32,
@@ -37,7 +37,7 @@ pub enum RecordRead {
 }
 
 // Whether two order files are alike, or which of them is none.
-#[derive(Drop)]
+#[derive(Clone, Copy)]
 pub enum AlikeAnswer {
     Alike,
     Different,

@@ -19,7 +19,7 @@ use little_endian::{U32_VALUES, put_u16, put_u16_within, put_u32, put_u32_within
 const UNBIASED: usize = U32_VALUES - ENTRY_BIAS as usize;
 
 // The counts of a file, and its rounds.
-#[derive(Drop)]
+#[derive(Clone, Copy)]
 pub struct Header {
     pub steps: usize,
     pub orders: usize,

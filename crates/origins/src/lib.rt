@@ -23,7 +23,7 @@ pub const OTHER: u16 = 1;
 pub const SAME: u16 = 0;
 
 // The places of a fact: its setters from `low` up to `high`, its conditions from `after` up to `until`.
-#[derive(Drop)]
+#[derive(Clone, Copy)]
 pub struct Fact {
     pub low: usize,
     pub high: usize,
@@ -32,14 +32,14 @@ pub struct Fact {
 }
 
 // Places from `low` up to `high`.
-#[derive(Drop)]
+#[derive(Clone, Copy)]
 pub struct Span {
     pub low: usize,
     pub high: usize,
 }
 
 // What orders lead from, `at` into a step, and which points they lead to: those with a value, from a tick on.
-#[derive(Drop)]
+#[derive(Clone, Copy)]
 pub struct Origin {
     pub step: u16,
     pub at: usize,

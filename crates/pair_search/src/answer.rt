@@ -4,7 +4,7 @@ ghost use Rattle.pair_search.specs.Answer as spec;
 
 use verdict::{NOWHERE, Verdict};
 
-#[derive(Drop)]
+#[derive(Clone, Copy)]
 pub enum PairsAnswer {
     // How many pairs were compared: all, as no step sets a fact both ways.
     NoneFound(u32),

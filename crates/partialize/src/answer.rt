@@ -4,7 +4,7 @@ ghost use Rattle.partialize.specs.Answer as spec;
 
 use verdict::{NOWHERE, Verdict};
 
-#[derive(Drop)]
+#[derive(Clone, Copy)]
 pub enum Answer {
     // The file's length.
     Filed(u32),

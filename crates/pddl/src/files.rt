@@ -2,7 +2,7 @@
 ghost use Rattle.io.specs.Counts.{IsPrefixLen};
 
 // A file that was read: how much of the buffer it fills, or that it could not be.
-#[derive(Drop)]
+#[derive(Clone, Copy)]
 pub struct Text {
     pub whole: bool,
     pub len: usize,

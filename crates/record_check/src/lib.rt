@@ -10,7 +10,7 @@ use job::layout::Job;
 use verdict::{Verdict, number};
 
 // What a check found, and what it read of the header on the way: for whoever goes on with the file.
-#[derive(Drop)]
+#[derive(Clone, Copy)]
 pub struct Form {
     pub verdict: Verdict,
     pub job: Job,

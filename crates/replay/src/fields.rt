@@ -3,14 +3,14 @@ ghost use Rattle.std.specs.Prelude.{◌<◌};
 ghost use Rattle.io.specs.Counts.{IsPrefixLen};
 
 // A field that was read: its length, or that it is damaged or too long.
-#[derive(Drop)]
+#[derive(Clone, Copy)]
 pub struct Field {
     pub whole: bool,
     pub len: usize,
 }
 
 // A field that holds one u32.
-#[derive(Drop)]
+#[derive(Clone, Copy)]
 pub struct Number {
     pub whole: bool,
     pub value: u32,

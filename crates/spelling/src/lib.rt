@@ -40,7 +40,7 @@ fn line_after(b: u8, line: usize) -> usize
 }
 
 // A place of a text, and its line.
-#[derive(Drop)]
+#[derive(Clone, Copy)]
 struct Spot {
     at: usize,
     line: usize,
@@ -80,7 +80,7 @@ fn run_end(plan: bool, text: &[u8], from: usize) -> usize
 }
 
 // A token of a text: where it begins and ends, and its line. The text's end stands past the last byte.
-#[derive(Drop)]
+#[derive(Clone, Copy)]
 pub struct Cursor {
     pub at: usize,
     pub end: usize,

@@ -9,7 +9,7 @@ pub fn is_digit(b: u8) -> bool
 }
 
 // What a word spells: a number, or none.
-#[derive(Drop)]
+#[derive(Clone, Copy)]
 pub enum Spelt {
     Number(u32),
     Nothing,

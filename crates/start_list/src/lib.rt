@@ -10,7 +10,7 @@ use spelled_numbers::read_whole;
 use spelling::numbers::Spelt;
 
 // What a text of starts is read as.
-#[derive(Drop)]
+#[derive(Clone, Copy)]
 pub enum StartsRead {
     // How many starts it lists.
     Starts(usize),

@@ -6,7 +6,7 @@ ghost use Rattle.texts_answer.specs.Answer as spec;
 
 use verdict::{NOWHERE, Verdict};
 
-#[derive(Drop)]
+#[derive(Clone, Copy)]
 pub enum TextsAnswer {
     // The job's length.
     Made(u32),

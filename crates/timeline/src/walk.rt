@@ -6,7 +6,7 @@ ghost use Rattle.timeline.specs.Walking.{Walking};
 use crate::word::{tick_of, value_of};
 
 // A place, and where the run of points of one value that ends before it begins.
-#[derive(Drop)]
+#[derive(Clone, Copy)]
 pub struct Cursor {
     pub place: usize,
     pub run: usize,

@@ -15,7 +15,7 @@ use spelling::here::{at_bracket, at_end};
 use spelling::numbers::Spelt;
 
 // The token [at, end) on a line at which the reader stands, the items noted so far, and a fault's number, 0 for none.
-#[derive(Drop)]
+#[derive(Clone, Copy)]
 pub struct Reader {
     pub at: usize,
     pub end: usize,

@@ -2,7 +2,7 @@
 #![tactic(auto)]
 
 // The rules that name a record, in checking order.
-#[derive(Drop)]
+#[derive(Clone, Copy)]
 pub enum Rule {
     FixedSteps,
     Effects,

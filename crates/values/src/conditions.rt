@@ -19,7 +19,7 @@ use timeline::walk::{Cursor, advance};
 use timeline::word::{STEP_SPAN, begin_at, number_of, step_of, tick_of, value_of};
 
 // The places of a fact's setters, and the fact's initial value.
-#[derive(Drop)]
+#[derive(Clone, Copy)]
 struct Setters {
     low: usize,
     high: usize,
@@ -27,7 +27,7 @@ struct Setters {
 }
 
 // A place among a fact's setters and the run before it; the points from there up to `off` give 0, those up to `on` give 1.
-#[derive(Drop)]
+#[derive(Clone, Copy)]
 struct Walk {
     place: usize,
     run: usize,

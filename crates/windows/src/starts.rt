@@ -17,7 +17,7 @@ use order_file::table::{ENTRY_BIAS, WIDTH};
 const NO_START: u32 = NO_LATEST;
 
 // A start for each step.
-#[derive(Drop)]
+#[derive(Clone, Copy)]
 pub struct Starts {
     pub at: [u32; WIDTH],
 }
