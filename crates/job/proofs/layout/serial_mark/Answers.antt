@@ -1,0 +1,6 @@
+-- The mark stands at byte 2.
+use borrow.Author.Rules.{rules}
+use Rattle.job.proofs.layout.serial_mark.Goals as goal
+
+pub returns : goal.returns
+returns c = c.u16_at.ensures.0
