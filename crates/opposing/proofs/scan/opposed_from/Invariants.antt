@@ -1,0 +1,14 @@
+use Prim.Native.Nat.{◌-◌}
+use mathlib.Core.Path.{refl}
+use native.Mathlib.Omega.{arith}
+use borrow.Author.Rules.{rules}
+use lib.ListN.{get_or}
+use Rattle.opposing.specs.Against.{against}
+use Rattle.opposing.proofs.Scanned.{Passed, passed_start, passed_more, scan_found, scan_ends, scan_past}
+use Rattle.opposing.proofs.scan.opposed_from.Given as goal
+
+abbrev pub invariant-loop-p : goal.invariant-loop-p
+invariant-loop-p l = Passed (λ p. against (get_or l.points p 0) l.value l.step) l.from l.p
+
+abbrev pub decreases-loop-p : goal.decreases-loop-p
+decreases-loop-p l = l.high - l.p
