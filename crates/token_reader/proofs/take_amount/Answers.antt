@@ -1,0 +1,59 @@
+use mathlib.Core.Path.{refl}
+use mathlib.Core.Logic.{inl, inr}
+use Rattle.token_reader.proofs.Steps.{stand, passes, fault}
+use Rattle.token_reader.proofs.Numbering.{lines_fit, numbered_sound, whole_inside, whole_no, whole_reads}
+use borrow.Author.Rules.{rules}
+use Rattle.token_reader.proofs.take_amount.Goals as goal
+
+pub returns-then-r-ne0 : goal.returns-then-r-ne0
+returns-then-r-ne0 c =
+    let start = c in
+    passes _ _ _ _ _ start.requires c.if-r-ne0.true
+
+pub whole_at-requires : goal.whole_at-requires
+whole_at-requires c =
+    let start = c in
+    stand _ _ _ c.cursor.ensures start.requires.stands
+
+pub returns-in_default : goal.returns-in_default
+returns-in_default c =
+    let at-enum-told = c in
+    let at-whole-at = at-enum-told in
+    let at-cursor = at-whole-at in
+    let at-if1 = at-cursor in
+    let start = at-if1 in
+    fault _ _ _ _ _ _ 17 (inr (inl refl)) start.requires at-if1.if-r-ne0.false
+    (whole_no _ _ start.requires.stands at-cursor.cursor.ensures at-whole-at.whole_at.ensures at-enum-told.in_default.is)
+    c.refuse.ensures
+
+pub note_number-w-requires : goal.note_number-w-requires
+note_number-w-requires c =
+    let start = c in
+    lines_fit start.requires.stands
+
+pub note-requires : goal.note-requires
+note-requires c =
+    let at-note-number = c in
+    let at_n = at-note-number in
+    let at-whole-at = at_n in
+    let at-cursor = at-whole-at in
+    let at-if1 = at-cursor in
+    let start = at-if1 in
+    let p = start.requires.stands in (
+      start.requires,
+      whole_inside _ _ p at-cursor.cursor.ensures at-whole-at.whole_at.ensures
+          at_n.in-Number.is,
+      at-if1.if-r-ne0.false,
+      numbered_sound p (search rules) at-note-number.note_number-w.ensures,
+    )
+
+pub returns : goal.returns
+returns c =
+    let at-note = c in
+    let at-note-number = at-note in
+    let at_n = at-note-number in
+    let at-whole-at = at_n in
+    let at-cursor = at-whole-at in
+    let start = at-cursor in
+    whole_reads _ _ start.requires.stands at-cursor.cursor.ensures at-whole-at.whole_at.ensures at_n.in-Number.is (search rules)
+    at-note-number.note_number-w.ensures at-note.note.ensures

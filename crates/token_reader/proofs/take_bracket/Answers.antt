@@ -1,0 +1,38 @@
+use Rattle.token_reader.proofs.Steps.{take_passes, take_goes, take_fails}
+use Rattle.token_reader.proofs.Tested.{bracket_inside, bracket_yes, bracket_no}
+use borrow.Author.Rules.{rules}
+use Rattle.token_reader.proofs.take_bracket.Goals as goal
+
+pub returns-then-r-ne0 : goal.returns-then-r-ne0
+returns-then-r-ne0 c =
+    let start = c in
+    take_passes _ _ start.requires c.if-r-ne0.true
+
+pub sees_bracket-requires : goal.sees_bracket-requires
+sees_bracket-requires c =
+    let start = c in
+    start.requires
+
+pub advance-requires : goal.advance-requires
+advance-requires c =
+    let at-sees-bracket = c in
+    let start = at-sees-bracket in
+    (start.requires, bracket_inside _ _ _ _ at-sees-bracket.sees_bracket.ensures c.if-sees_bracket.true)
+
+pub returns-then-sees_bracket : goal.returns-then-sees_bracket
+returns-then-sees_bracket c =
+    let at-if2 = c in
+    let at-sees-bracket = at-if2 in
+    let at-if1 = at-sees-bracket in
+    let start = at-if1 in
+    take_goes _ _ start.requires at-if1.if-r-ne0.false (bracket_yes _ _ at-sees-bracket.sees_bracket.ensures at-if2.if-sees_bracket.true)
+    c.advance.ensures
+
+pub returns : goal.returns
+returns c =
+    let at-if2 = c in
+    let at-sees-bracket = at-if2 in
+    let at-if1 = at-sees-bracket in
+    let start = at-if1 in
+    take_fails _ _ start.requires at-if1.if-r-ne0.false (bracket_no _ _ at-sees-bracket.sees_bracket.ensures at-if2.if-sees_bracket.false)
+    c.refuse.ensures
