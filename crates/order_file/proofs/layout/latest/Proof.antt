@@ -1,8 +1,0 @@
-use Rattle.order_file.specs.Layout.{contents_of}
-use borrow.Author.Rules.{rules}
-use Rattle.order_file.proofs.layout.latest.Statement.{statement}
-use Rattle.order_file.proofs.layout.latest.Tie as tie
-
-pub latest_spec : {M : Type 1} → statement M
-unfolding contents_of
-latest_spec = tie.close (tie.spec (λ c κs. search rules) (λ c. search rules) (λ c κs. search rules) (λ c. (cc, c.u32-at.ensures.1)))

@@ -1,8 +1,0 @@
-use Rattle.order_file.specs.Layout.{contents_of}
-use borrow.Author.Rules.{rules}
-use Rattle.order_file.proofs.layout.links.Statement.{statement}
-use Rattle.order_file.proofs.layout.links.Tie as tie
-
-pub links_spec : {M : Type 1} → statement M
-unfolding contents_of
-links_spec = tie.close (tie.spec (λ c κs. search rules) (λ c. search rules))

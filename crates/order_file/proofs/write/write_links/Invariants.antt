@@ -1,0 +1,14 @@
+use Prim.Native.Nat.{◌≤◌, ◌-◌}
+use mathlib.Core.Path.{◌≡◌, refl}
+use native.Mathlib.Omega.{arith}
+use lib.Seq.{sets}
+use Rattle.laws.specs.Listed.{concatenate}
+use Rattle.order_file.specs.Held.{link_in}
+use Rattle.order_file.proofs.Put.{put_start, put_size, links_more, put_end}
+use Rattle.order_file.proofs.write.write_links.Given as goal
+
+abbrev pub invariant-loop-j : goal.invariant-loop-j
+invariant-loop-j l = (l.j ≤ l.links) × (l.out ≡ sets l.initial.out l.from (concatenate l.j (link_in l.linked)))
+
+abbrev pub decreases-loop-j : goal.decreases-loop-j
+decreases-loop-j l = l.links - l.j

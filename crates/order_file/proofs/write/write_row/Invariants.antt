@@ -1,0 +1,16 @@
+use Prim.Native.Nat.{ℕ, ◌*◌, ◌-◌, ◌≤◌, ◌<◌}
+use mathlib.Core.List.{List}
+use mathlib.Core.Logic.{⊎_elim}
+use mathlib.Core.Path.{◌∙◌}
+use native.Mathlib.Omega.{arith}
+use Rattle.order_file.specs.Table.{row_width, table_size}
+use Rattle.order_file.specs.Held.{OrdersPut}
+use Rattle.order_file.proofs.Put.{put_size, order_fits, orders_more, orders_same, orders_row}
+use Rattle.order_file.proofs.write.write_row.Given as goal
+
+abbrev pub invariant-loop-q : goal.invariant-loop-q
+invariant-loop-q l =
+    (l.q ≤ l.end) × ((b : List ℕ) (s : ℕ) → OrdersPut l.gaps b s (row_width * l.i) l.from l.initial.out → OrdersPut l.gaps b s l.q l.at l.out)
+
+abbrev pub decreases-loop-q : goal.decreases-loop-q
+decreases-loop-q l = l.end - l.q

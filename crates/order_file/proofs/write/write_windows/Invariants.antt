@@ -1,0 +1,16 @@
+use Prim.Native.Nat.{◌≤◌, ◌-◌}
+use mathlib.Core.Path.{◌≡◌}
+use native.Mathlib.Omega.{arith}
+use lib.Seq.{sets}
+use Rattle.laws.specs.Listed.{concatenate}
+use Rattle.order_file.specs.Layout.{windows_at}
+use Rattle.order_file.specs.Held.{window_in}
+use Rattle.order_file.proofs.Put.{put_start, put_size, windows_more, put_end}
+use Rattle.order_file.proofs.write.write_windows.Given as goal
+
+abbrev pub invariant-loop-k : goal.invariant-loop-k
+invariant-loop-k l =
+    (l.k ≤ l.steps) × (l.out ≡ sets l.initial.out windows_at (concatenate l.k (window_in l.limits l.latest l.earliest)))
+
+abbrev pub decreases-loop-k : goal.decreases-loop-k
+decreases-loop-k l = l.steps - l.k
