@@ -1,0 +1,6 @@
+-- The three fields are the record's.
+use borrow.Author.Rules.{rules}
+use Rattle.job_records.proofs.step_record.Goals as goal
+
+pub returns : goal.returns
+returns c = cc
