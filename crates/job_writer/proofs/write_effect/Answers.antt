@@ -1,0 +1,9 @@
+-- Each field is put behind the one before it.
+use borrow.Author.Rules.{rules}
+use Rattle.job_writer.proofs.PutRecord.{put_effect}
+use Rattle.job_writer.proofs.write_effect.Goals as goal
+
+pub returns : goal.returns
+returns c =
+    put_effect _ _ _ c.put_u16_within.ensures c.put_u16_within-2.ensures c.put_u32_within.ensures
+    c.put_u16_within-3.ensures
