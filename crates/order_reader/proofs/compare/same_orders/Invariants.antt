@@ -1,0 +1,13 @@
+use Prim.Native.Nat.{◌-◌}
+use Rattle.order_file.specs.Layout.{contents_of}
+use Rattle.order_answers.specs.Alike.{same_order}
+use Rattle.order_check.proofs.Passed.{Passed, passed_start, passed_more, passed_found, passed_end}
+use borrow.Author.Rules.{rules}
+use native.Mathlib.Omega.{arith}
+use Rattle.order_reader.proofs.compare.same_orders.Given as goal
+
+abbrev pub invariant-loop-k : goal.invariant-loop-k
+invariant-loop-k l = Passed l.orders (same_order (contents_of l.a) (contents_of l.b)) l.k
+
+abbrev pub decreases-loop-k : goal.decreases-loop-k
+decreases-loop-k l = l.orders - l.k
