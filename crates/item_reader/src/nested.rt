@@ -105,7 +105,7 @@ pub fn goes_on(text: &[u8], r: Reader) -> bool
 }
 
 // An item, in which so many (and ..) may stand inside one another.
-#[cycle(read_item_read_items)]
+#[cycle(items)]
 pub fn read_item(text: &[u8], said: &mut [u64], r: Reader, kind: Items, left: usize) -> Reader
     requires { Ready false text.now said.old r }
     ensures { Reads false text.now said.old r (item (kind_of kind) left) said.new result }
@@ -122,7 +122,7 @@ pub fn read_item(text: &[u8], said: &mut [u64], r: Reader, kind: Items, left: us
 }
 
 // Items up to the bracket that closes their (and ..), and that bracket.
-#[cycle(read_item_read_items)]
+#[cycle(items)]
 fn read_items(text: &[u8], said: &mut [u64], r: Reader, kind: Items, left: usize) -> Reader
     requires { Ready false text.now said.old r }
     ensures { Reads false text.now said.old r (items (kind_of kind) left) said.new result }
