@@ -1,0 +1,20 @@
+-- The lines of the steps, one behind the other.
+use Prim.Native.Nat.{◌-◌}
+use Rattle.order_file.specs.Layout.{contents_of}
+use Rattle.order_text.specs.Text.{window_line, window_most}
+use Rattle.sheet.proofs.LineByLine.{LinesPut, lines_start, lines_more, lines_length, lines_end}
+use borrow.Author.Rules.{rules}
+use native.Mathlib.Omega.{arith}
+use Rattle.order_text.proofs.put_windows.Goals as goal
+
+pub loop-k-init : goal.loop-k-init
+loop-k-init c = lines_start _ _ _ _ _
+
+pub loop-k-preserved : goal.loop-k-preserved
+loop-k-preserved c = lines_more c.loop-k.invariant (omega arith) c.put_window-next.ensures.0 (omega arith)
+
+pub shape_of-out : goal.shape_of-out
+shape_of-out c = lines_length c.loop-k.invariant
+
+pub returns : goal.returns
+returns c = lines_end c.loop-k.invariant (omega arith)
