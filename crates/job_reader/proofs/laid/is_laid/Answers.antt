@@ -6,8 +6,7 @@ use lib.Dec.{leb}
 use Rattle.laws.proofs.Search.{and_both}
 use borrow.Author.Tests.{leb-true, le-leb}
 use borrow.Author.Rules.{rules}
-use Rattle.job_reader.proofs.laid.is_laid.Statement.{statement}
-use Rattle.job_reader.proofs.laid.is_laid.Tie as tie
+use Rattle.job_reader.proofs.laid.is_laid.Goals as goal
 
 parts :
     (a b c d t u n : ℕ) → (leb a n && leb b n && leb c n && leb d n && leb t n && leb u n) ≡ true
@@ -25,21 +24,17 @@ whole :
     → (leb a n && leb b n && leb c n && leb d n && leb t n && leb u n) ≡ true
 whole a b c d t u n p q r s v w = rw (le-leb a n p, le-leb b n q, le-leb c n r, le-leb d n s, le-leb t n v, le-leb u n w) refl
 
-pub is_laid_spec : {M : Type 1} → statement M
-is_laid_spec =
-    tie.close
-    (tie.spec
-    (λ c κs. search rules) (λ c κs. search rules) (λ c κs. search rules) (λ c κs. search rules) (λ c κs. search rules) (λ c κs. search rules)
-    (λ c.
-    let steps = c.before.before.before.before.before.steps_end.ensures in
-    let conditions = c.before.before.before.before.conditions-end.ensures in
-    let effects = c.before.before.before.effects-end.ensures in
-    let uses = c.before.before.uses-end.ensures in
-    let timed = c.before.timed-end.ensures in
-    let needed = c.needs-end.ensures in (
+pub returns : goal.returns
+returns c =
+    let steps = c.steps_end.ensures in
+    let conditions = c.conditions_end.ensures in
+    let effects = c.effects_end.ensures in
+    let uses = c.uses_end.ensures in
+    let timed = c.timed_end.ensures in
+    let needed = c.needs_end.ensures in (
       rw (needed, timed, uses, effects, conditions, steps) (λ e.
           let p = parts _ _ _ _ _ _ _ e in
           record { steps = p.0; conditions = p.1; effects = p.2; uses = p.3; timed = p.4; needs = p.5 }),
       rw (needed, timed, uses, effects, conditions, steps)
           (λ l. whole _ _ _ _ _ _ _ l.steps l.conditions l.effects l.uses l.timed l.needs),
-    )))
+    )
