@@ -1,0 +1,12 @@
+-- The record that is read is the one that `step_ok` tests.
+use Rattle.ranges.specs.Ranges.{step_ok}
+use borrow.Author.Rules.{rules}
+use Rattle.ranges.proofs.step_ok.Goals as goal
+
+pub step_at-step-requires : goal.step_at-step-requires
+unfolding step_ok
+step_at-step-requires c = search rules
+
+pub returns : goal.returns
+unfolding step_ok
+returns c = rw c.step_at-step.ensures
