@@ -14,31 +14,25 @@ use Rattle.verdict.proofs.Chain.{stands, decides}
 use Rattle.record_check.proofs.Ranged.{ranged}
 use Rattle.record_check.proofs.Laid.{header_laid}
 use borrow.Author.Rules.{rules}
-use Rattle.record_check.proofs.read_records.Statement.{statement}
-use Rattle.record_check.proofs.read_records.Tie as tie
+use Rattle.record_check.proofs.read_records.Goals as goal
 
 -- the ranges follow from the verdict
 promise : (s : List ℕ) {r : Form} → r.verdict ≡ (header_check s then record_check (model_of s)) → r.job ≡ job_of s → RecordsPromise s r
 promise s v j = record { verdict = v; job = j; ranged = λ z. ranged s (sym (ap number v) ∙ z) }
 
-pub read_records_spec : {M : Type 1} → statement M
-read_records_spec =
-    tie.close
-    (tie.spec
-    (λ c κs. search rules)
-    (λ c κs. c.read.ensures)
-    (λ c κs. search rules)
-    (λ c.
-    let h = c.before.before in
-    promise _ (stands _ h.check-header.ensures c.before.number.ensures c.if1.true) h.before.read.ensures)
-    (λ c κs. search rules)
-    (λ c.
-    let h = c.before.before.before in
-    let j = h.before.read.ensures in
+pub check_header-verdict-requires : goal.check_header-verdict-requires
+check_header-verdict-requires c = c.read-job.ensures
+
+pub returns-then-number-ne0 : goal.returns-then-number-ne0
+returns-then-number-ne0 c = promise _ (stands _ c.check_header-verdict.ensures c.number.ensures c.if-number-ne0.true) c.read-job.ensures
+
+pub returns : goal.returns
+returns c =
+    let j = c.read-job.ensures in
     promise _
-    (decides h.check-header.ensures c.before.before.number.ensures c.before.if1.false
-    (c.check-file.ensures
-    (subst (λ (x : Job). Laid x h.before.before.before.args.s.now) (sym j)
-    (header_laid _ (sym (ap number h.check-header.ensures) ∙ sym c.before.before.number.ensures ∙ c.before.if1.false)))
-    ∙ ap (λ (x : Job). record_check (view x h.before.before.before.args.s.now)) j))
-    j))
+    (decides c.check_header-verdict.ensures c.number.ensures c.if-number-ne0.false
+    (c.check_file-verdict.ensures
+    (subst (λ (x : Job). Laid x c.args.s.now) (sym j)
+    (header_laid _ (sym (ap number c.check_header-verdict.ensures) ∙ sym c.number.ensures ∙ c.if-number-ne0.false)))
+    ∙ ap (λ (x : Job). record_check (view x c.args.s.now)) j))
+    j
