@@ -1,0 +1,14 @@
+use Prim.Native.Nat.{◌-◌}
+use mathlib.Core.Path.{◌≡◌, sym, ◌∙◌}
+use native.Mathlib.Omega.{arith}
+use lib.ListN.{get_or}
+use borrow.Author.Rules.{rules}
+use Rattle.pair_search.specs.Keys.{opposite}
+use Rattle.pair_search.proofs.Comparing.{Passed, passed_start, passed_more, passed_found, passed_end}
+use Rattle.pair_search.proofs.compare.with_higher.Given as goal
+
+abbrev pub invariant-loop-q : goal.invariant-loop-q
+invariant-loop-q l = (l.other ≡ opposite (get_or l.keys l.p 0)) × Passed l.keys l.p l.q
+
+abbrev pub decreases-loop-q : goal.decreases-loop-q
+decreases-loop-q l = l.n - l.q
