@@ -1,0 +1,62 @@
+-- The lowest step found so far is kept; one more effect lowers it or not.
+use Prim.Native.Nat.{◌≤◌, ◌-◌}
+use mathlib.Core.Path.{◌≡◌, sym, ap}
+use native.Mathlib.Omega.{arith}
+use Rattle.laws.specs.Search.{lowest_owner}
+use Rattle.laws.proofs.Search.{owner_start, owner_more, owner_end}
+use Rattle.timeline.proofs.Indexing.{growing_start}
+use Rattle.job.specs.declared.records.Effect.{Effect}
+use Rattle.job.specs.Model.{view}
+use Rattle.against.specs.Against.{opposes_any, opposes_own_step}
+use borrow.Author.Rules.{rules}
+use Rattle.self_check.proofs.effects_against.Goals as goal
+
+pub link_conditions-requires : goal.link_conditions-requires
+unfolding opposes_own_step
+link_conditions-requires c = (growing_start _, c.requires.1.condition_count)
+
+pub loop-k-init : goal.loop-k-init
+unfolding opposes_own_step
+loop-k-init c = (search rules, sym (owner_start _ _ _))
+
+pub effect_of-e-requires : goal.effect_of-e-requires
+unfolding opposes_own_step
+effect_of-e-requires c = search rules
+
+pub step_key-key-requires : goal.step_key-key-requires
+unfolding opposes_own_step
+step_key-key-requires c = search rules
+
+pub slice_bounds-opposes_any-end : goal.slice_bounds-opposes_any-end
+unfolding opposes_own_step
+slice_bounds-opposes_any-end c = sym c.link_conditions.ensures.size
+
+pub opposes_any-found-requires : goal.opposes_any-found-requires
+unfolding opposes_own_step
+opposes_any-found-requires c =
+    let k = c.step_key-key.ensures in
+    record { growing = c.link_conditions.ensures; few = c.requires.1.condition_count; same = k.0; low = k.1 }
+
+pub lower_if-best-requires : goal.lower_if-best-requires
+unfolding opposes_own_step
+lower_if-best-requires c = search rules
+
+pub overflow_add-k : goal.overflow_add-k
+unfolding opposes_own_step
+overflow_add-k c = omega (arith, c.loop-k-test.true, c.requires.1.effect_count)
+
+pub loop-k-smaller : goal.loop-k-smaller
+unfolding opposes_own_step
+loop-k-smaller c = search rules
+
+pub loop-k-preserved : goal.loop-k-preserved
+unfolding opposes_own_step
+loop-k-preserved c =
+    let r = c.effect_of-e.ensures in (
+      omega (arith, c.loop-k-test.true),
+      owner_more _ _ _ _ c.loop-k.invariant.1 (c.opposes_any-found.ensures _ r) (ap (λ (x : Effect). x.step) r) c.lower_if-best.ensures,
+    )
+
+pub returns : goal.returns
+unfolding opposes_own_step
+returns c = let i = c.loop-k.invariant in owner_end _ _ _ _ _ i.1 i.0 c.loop-k-test.false

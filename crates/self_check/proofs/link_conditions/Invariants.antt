@@ -1,0 +1,15 @@
+use Prim.Native.Nat.{◌≤◌, ◌-◌}
+use mathlib.Core.Path.{ap₂, ◌∙◌}
+use native.Mathlib.Omega.{arith}
+use Rattle.job.specs.Model.{view}
+use Rattle.self_check.specs.Keys.{step_key, condition_key}
+use Rattle.timeline.specs.Indexed.{Growing}
+use Rattle.timeline.proofs.Indexing.{growing_more, growing_end}
+use borrow.Author.Rules.{rules}
+use Rattle.self_check.proofs.link_conditions.Given as goal
+
+abbrev pub invariant-loop-c : goal.invariant-loop-c
+invariant-loop-c l = (l.c ≤ l.n) × Growing (condition_key (view l.job l.s)) l.c l.index
+
+abbrev pub decreases-loop-c : goal.decreases-loop-c
+decreases-loop-c l = l.n - l.c

@@ -1,0 +1,20 @@
+use Prim.Native.Nat.{ℕ}
+use mathlib.Core.Path.{◌≡◌, ap, ◌∙◌}
+use native.Mathlib.Omega.{arith}
+use Rattle.laws.proofs.Search.{any_found}
+use Rattle.laws.proofs.Linked.{WalkBack, ahead, back_start, back_more, back_less, back_end}
+use Rattle.job.specs.declared.records.Effect.{Effect}
+use Rattle.job.specs.Model.{view, effect_of}
+use Rattle.self_check.specs.Keys.{step_key, effect_key, condition_key}
+use Rattle.against.specs.Against.{opposes_own, opposes_any}
+use Rattle.self_check.proofs.Steps.{own_opposes}
+use borrow.Author.Rules.{rules}
+use Rattle.self_check.proofs.opposes_any.Given as goal
+
+abbrev pub invariant-loop-c : goal.invariant-loop-c
+invariant-loop-c l =
+    (k : ℕ) → l.e ≡ effect_of (view l.job l.s) k → WalkBack (condition_key (view l.job l.s)) (effect_key (view l.job l.s) k)
+    (opposes_own (view l.job l.s) k) l.job.count.conditions l.c
+
+abbrev pub decreases-loop-c : goal.decreases-loop-c
+decreases-loop-c l = ahead l.job.count.conditions l.c

@@ -1,0 +1,15 @@
+use native.Mathlib.Omega.{arith}
+use Rattle.laws.proofs.Search.{any_found}
+use Rattle.laws.proofs.Linked.{WalkBack, ahead, back_start, back_more, back_less, back_end}
+use Rattle.job.specs.Model.{view}
+use Rattle.self_check.specs.Keys.{use_key}
+use Rattle.against.specs.Against.{uses_twice, used_before}
+use Rattle.self_check.proofs.Steps.{own_uses_twice}
+use borrow.Author.Rules.{rules}
+use Rattle.self_check.proofs.used_before.Given as goal
+
+abbrev pub invariant-loop-v : goal.invariant-loop-v
+invariant-loop-v l = WalkBack (use_key (view l.job l.s)) (use_key (view l.job l.s) l.u) (uses_twice (view l.job l.s) l.u) l.u l.v
+
+abbrev pub decreases-loop-v : goal.decreases-loop-v
+decreases-loop-v l = ahead l.u l.v

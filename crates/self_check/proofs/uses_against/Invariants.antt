@@ -1,0 +1,19 @@
+use Prim.Native.Nat.{◌≤◌, ◌-◌}
+use mathlib.Core.Path.{◌≡◌, sym, ap₂, ◌∙◌}
+use native.Mathlib.Omega.{arith}
+use Rattle.laws.specs.Search.{lowest_owner}
+use Rattle.laws.proofs.Search.{owner_start, owner_more, owner_end}
+use Rattle.job.specs.Model.{view}
+use Rattle.self_check.specs.Keys.{step_key, use_key}
+use Rattle.timeline.specs.Indexed.{Growing}
+use Rattle.against.specs.Against.{used_before, uses_twice_step}
+use Rattle.timeline.proofs.Indexing.{growing_start, growing_more}
+use borrow.Author.Rules.{rules}
+use Rattle.self_check.proofs.uses_against.Given as goal
+
+abbrev pub invariant-loop-u : goal.invariant-loop-u
+invariant-loop-u l =
+    (l.u ≤ l.n) × Growing (use_key (view l.job l.s)) l.u l.index × (l.best ≡ lowest_owner l.job.count.steps l.u (view l.job l.s).use_step (used_before (view l.job l.s)))
+
+abbrev pub decreases-loop-u : goal.decreases-loop-u
+decreases-loop-u l = l.n - l.u
