@@ -1,0 +1,7 @@
+-- The start of the point's step, and the point.
+use borrow.Author.Rules.{rules}
+use native.Mathlib.Omega.{arith}
+use Rattle.ticks.proofs.last_tick.Goals as goal
+
+pub returns : goal.returns
+returns c = (cc, omega arith)

@@ -1,0 +1,17 @@
+use Prim.Native.Nat.{ℕ, ◌≤◌, ◌-◌}
+use mathlib.Core.Path.{◌≡◌, refl, ap₂, ◌∙◌}
+use mathlib.Core.List.{List, [], ◌∷◌, ◌++◌}
+use native.Mathlib.Numerals.{add-one}
+use lib.ListN.{length, take, length-set}
+use lib.Seq.{take-suc-set}
+use Rattle.laws.specs.Listed.{tabulate}
+use Rattle.job.specs.Model.{view}
+use borrow.Author.Rules.{rules}
+use native.Mathlib.Omega.{arith}
+use Rattle.ticks.proofs.planned_starts.Given as goal
+
+abbrev pub invariant-loop-k : goal.invariant-loop-k
+invariant-loop-k l = (l.k ≤ l.n) × (length l.starts ≡ 64) × (take l.k l.starts ≡ tabulate l.k (view l.job l.s).start)
+
+abbrev pub decreases-loop-k : goal.decreases-loop-k
+decreases-loop-k l = l.n - l.k
