@@ -1,0 +1,16 @@
+use Prim.Native.Nat.{◌≤◌, ◌-◌}
+use mathlib.Core.Path.{◌≡◌}
+use Rattle.laws.specs.Search.{lowest}
+use Rattle.laws.proofs.Search.{lowest_start, lowest_more, lowest_found, lowest_end}
+use Rattle.job.specs.Clocked.{clocked}
+use Rattle.job.specs.Model.{view}
+use Rattle.validity.specs.Ticks.{schedule_of}
+use Rattle.validity.specs.Checks.{moved}
+use borrow.Author.Rules.{rules}
+use Rattle.steps.proofs.first_moved.Given as goal
+
+abbrev pub invariant-loop-k : goal.invariant-loop-k
+invariant-loop-k l = (l.k ≤ l.n) × (lowest l.k (moved (clocked (view l.job l.s)) (schedule_of l.starts)) ≡ l.k)
+
+abbrev pub decreases-loop-k : goal.decreases-loop-k
+decreases-loop-k l = l.n - l.k
