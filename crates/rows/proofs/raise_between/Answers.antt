@@ -12,8 +12,7 @@ use Rattle.validity.specs.Ticks.{schedule_of}
 use Rattle.origins.specs.declared.Span.{Span}
 use Rattle.origins.specs.Points.{Reached, FromTo, Between}
 use Rattle.origins.proofs.Reached.{reached_none, reached_either}
-use Rattle.rows.proofs.raise_between.Statement.{statement}
-use Rattle.rows.proofs.raise_between.Tie as tie
+use Rattle.rows.proofs.raise_between.Goals as goal
 
 between_none :
     (n : ℕ) (x : ℕ → ℕ) (points : List ℕ) (first second : Span) (gaps : List ℕ)
@@ -31,26 +30,19 @@ between_none n x points first second gaps e =
     both p q a b c d =
         contrary (ap₂ ◌&&◌ (lt-ltb first.low first.high (omega arith)) (lt-ltb second.low second.high (omega arith))) e
 
-pub raise_between_spec : {M : Type 1} → statement M
-raise_between_spec =
-    tie.close
-    (tie.spec
-    (λ c κs.
-    let d = c.before.before.before.before.before.before.before in
-    (d.requires.0, d.requires.1, d.requires.2, d.requires.3, omega arith))
-    (λ c κs.
-    let raised = c.before.before.before in
-    let d = raised.before.before.before.before.before.before.before.before in
-    (raised.row-points.ensures.whole d.requires.0, d.requires.1, search (d.requires.2, d.requires.3), search (d.requires.2, d.requires.3), omega arith))
-    (λ c.
-    let second = c.before.before in
-    let first = second.before.before.before.before in
-    let d = first.before.before.before.before.before.before.before.before in
-    omega (arith, (second.row-points2.ensures.whole (first.row-points.ensures.whole d.requires.0)).size, d.requires.0.size))
-    (λ c.
-    let second = c.before.before in
-    let first = second.before.before.before.before in
-    reached_either _ _ _ _ _ _ first.row-points.ensures second.row-points2.ensures)
-    (λ c.
-    let d = c.before.before.before.before.before.before in
-    between_none _ (schedule_of d.args.starts.now) d.args.points.now _ _ _ c.if1.false))
+pub row_points-requires : goal.row_points-requires
+row_points-requires c = (c.requires.0, c.requires.1, c.requires.2, c.requires.3, omega arith)
+
+pub row_points-requires-then-first-second : goal.row_points-requires-then-first-second
+row_points-requires-then-first-second c =
+    (c.row_points.ensures.whole c.requires.0, c.requires.1, search (c.requires.2, c.requires.3), search (c.requires.2, c.requires.3), omega arith)
+
+pub shape_of-gaps : goal.shape_of-gaps
+shape_of-gaps c =
+    omega (arith, (c.row_points-then-first-second.ensures.whole (c.row_points.ensures.whole c.requires.0)).size, c.requires.0.size)
+
+pub returns-then-first-second : goal.returns-then-first-second
+returns-then-first-second c = reached_either _ _ _ _ _ _ c.row_points.ensures c.row_points-then-first-second.ensures
+
+pub returns-else-first-second : goal.returns-else-first-second
+returns-else-first-second c = between_none _ (schedule_of c.args.starts.now) c.args.points.now _ _ _ c.if-first-second.false

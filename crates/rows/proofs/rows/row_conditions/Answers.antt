@@ -1,0 +1,64 @@
+-- Back over the conditions.
+use mathlib.Core.Path.{refl}
+use native.Mathlib.Omega.{arith}
+use borrow.Author.Rules.{rules}
+use Rattle.job.specs.Model.{view}
+use Rattle.validity.specs.Ticks.{schedule_of}
+use Rattle.origins.specs.Points.{last_origin, Rowing}
+use Rattle.origins.proofs.Reached.{within_all}
+use Rattle.rows.proofs.Grouped.{last_known, rowing_start, rowing_noting, rowing_known, rowing_more}
+use Rattle.rows.proofs.rows.row_conditions.Goals as goal
+
+pub loop-p-init : goal.loop-p-init
+loop-p-init c =
+    let w = c.requires.0.placed in
+    rowing_start w.few w.setters _ w.wanted.begins
+
+pub overflow_sub-p : goal.overflow_sub-p
+overflow_sub-p c = omega (arith, c.loop-p-test.true)
+
+pub offset_bounds-points-p : goal.offset_bounds-points-p
+offset_bounds-points-p c = search (rules, c.loop-p.invariant.upto, c.requires.0.placed.wanted.ends)
+
+pub bounds-points-p : goal.bounds-points-p
+bounds-points-p c = omega (arith, c.loop-p-test.true, c.loop-p.invariant.upto, c.requires.0.placed.wanted.ends)
+
+pub note_from-noted-requires : goal.note_from-noted-requires
+note_from-noted-requires c =
+    let w = c.requires.0.placed in
+    (c.args.fact.high, rowing_noting w.few w.setters c.loop-p.invariant c.loop-p-test.true c.last_origin-origin.ensures)
+
+pub raise_row-requires : goal.raise_row-requires
+raise_row-requires c =
+    let w = c.requires.0.placed in
+    let i = c.loop-p.invariant in
+    let t = c.loop-p-test.true in
+    let e = c.last_origin-origin.ensures in
+    let m = view c.args.job c.args.s.now in
+    let back = c.note_from-noted.ensures _ (rowing_noting w.few w.setters i t e) in (
+      i.reached.whole c.requires.1,
+      w.few,
+      last_known w.wanted w.few _ (omega (arith, t)) (omega (arith, t, i.upto)) m e
+          (c.requires.0.ended _ (omega (arith, t)) (omega (arith, t, i.upto))),
+      rowing_known w.few w.setters i t e back,
+    )
+
+pub loop-p-smaller : goal.loop-p-smaller
+loop-p-smaller c = omega (arith, c.loop-p-test.true)
+
+pub loop-p-preserved : goal.loop-p-preserved
+loop-p-preserved c =
+    let w = c.requires.0.placed in
+    let i = c.loop-p.invariant in
+    let t = c.loop-p-test.true in
+    let e = c.last_origin-origin.ensures in
+    let back = c.note_from-noted.ensures _ (rowing_noting w.few w.setters i t e) in
+    rowing_more w.few w.setters i t e back w.wanted.rises c.raise_row.ensures
+
+pub shape_of-gaps : goal.shape_of-gaps
+shape_of-gaps c = omega (arith, (c.loop-p.invariant.reached.whole c.requires.1).size, c.requires.1.size)
+
+pub returns : goal.returns
+returns c =
+    let i = c.loop-p.invariant in
+    within_all _ _ _ _ _ _ _ _ (omega (arith, i.from, c.loop-p-test.false)) refl i.reached

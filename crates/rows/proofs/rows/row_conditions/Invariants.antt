@@ -1,0 +1,17 @@
+use mathlib.Core.Path.{refl}
+use native.Mathlib.Omega.{arith}
+use borrow.Author.Rules.{rules}
+use Rattle.job.specs.Model.{view}
+use Rattle.validity.specs.Ticks.{schedule_of}
+use Rattle.origins.specs.Points.{last_origin, Rowing}
+use Rattle.origins.proofs.Reached.{within_all}
+use Rattle.rows.proofs.Grouped.{last_known, rowing_start, rowing_noting, rowing_known, rowing_more}
+use Rattle.rows.proofs.rows.row_conditions.Given as goal
+
+abbrev pub invariant-loop-p : goal.invariant-loop-p
+invariant-loop-p l =
+    Rowing l.job.count.steps (schedule_of l.starts) l.points (last_origin (view l.job l.s)) l.fact.after l.fact.until l.fact.low l.fact.high l.initial.gaps l.leads
+    l.noted l.p l.gaps
+
+abbrev pub decreases-loop-p : goal.decreases-loop-p
+decreases-loop-p l = l.p

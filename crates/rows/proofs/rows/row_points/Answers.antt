@@ -1,0 +1,66 @@
+-- Back over the first points: what is noted of the second only grows, and each row is raised by it.
+use mathlib.Core.Path.{refl}
+use native.Mathlib.Omega.{arith}
+use borrow.Author.Rules.{rules}
+use Rattle.validity.specs.Ticks.{schedule_of}
+use Rattle.origins.specs.Points.{point_origin, Rowing}
+use Rattle.origins.proofs.Reached.{within_all}
+use Rattle.rows.proofs.Grouped.{group_notable, point_known, rowing_start, rowing_noting, rowing_known, rowing_more}
+use Rattle.rows.proofs.rows.row_points.Goals as goal
+
+pub loop-p-init : goal.loop-p-init
+loop-p-init c =
+    let p = c.requires in
+    rowing_start p.1 p.3 _ p.2.begins
+
+pub overflow_sub-p : goal.overflow_sub-p
+overflow_sub-p c = omega (arith, c.loop-p-test.true)
+
+pub offset_bounds-points-p : goal.offset_bounds-points-p
+offset_bounds-points-p c = search (rules, c.loop-p.invariant.upto, c.requires.2.ends)
+
+pub bounds-points-p : goal.bounds-points-p
+bounds-points-p c = omega (arith, c.loop-p-test.true, c.loop-p.invariant.upto, c.requires.2.ends)
+
+pub point_origin-origin-requires : goal.point_origin-origin-requires
+point_origin-origin-requires c =
+    let t = c.loop-p-test.true in
+    (group_notable c.requires.2 c.requires.1 _ (omega (arith, t)) (omega (arith, t, c.loop-p.invariant.upto)), c.requires.4)
+
+pub note_from-noted-requires : goal.note_from-noted-requires
+note_from-noted-requires c =
+    let w = c.requires in
+    (c.args.second.high, rowing_noting w.1 w.3 c.loop-p.invariant c.loop-p-test.true c.point_origin-origin.ensures)
+
+pub raise_row-requires : goal.raise_row-requires
+raise_row-requires c =
+    let w = c.requires in
+    let i = c.loop-p.invariant in
+    let t = c.loop-p-test.true in
+    let e = c.point_origin-origin.ensures in
+    let back = c.note_from-noted.ensures _ (rowing_noting w.1 w.3 i t e) in (
+      i.reached.whole c.requires.0,
+      w.1,
+      point_known w.2 w.1 _ (omega (arith, t)) (omega (arith, t, i.upto)) c.args.turn e,
+      rowing_known w.1 w.3 i t e back,
+    )
+
+pub loop-p-smaller : goal.loop-p-smaller
+loop-p-smaller c = omega (arith, c.loop-p-test.true)
+
+pub loop-p-preserved : goal.loop-p-preserved
+loop-p-preserved c =
+    let w = c.requires in
+    let i = c.loop-p.invariant in
+    let t = c.loop-p-test.true in
+    let e = c.point_origin-origin.ensures in
+    let back = c.note_from-noted.ensures _ (rowing_noting w.1 w.3 i t e) in
+    rowing_more w.1 w.3 i t e back (λ r q a b h. omega (arith, w.2.rises r q a b h)) c.raise_row.ensures
+
+pub shape_of-gaps : goal.shape_of-gaps
+shape_of-gaps c = omega (arith, (c.loop-p.invariant.reached.whole c.requires.0).size, c.requires.0.size)
+
+pub returns : goal.returns
+returns c =
+    let i = c.loop-p.invariant in
+    within_all _ _ _ _ _ _ _ _ (omega (arith, i.from, c.loop-p-test.false)) refl i.reached
