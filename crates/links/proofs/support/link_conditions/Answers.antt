@@ -1,0 +1,40 @@
+-- Fact by fact.
+use Prim.Native.Nat.{◌-◌}
+use mathlib.Core.Path.{◌≡◌, refl, sym}
+use native.Mathlib.Omega.{arith}
+use borrow.Author.Rules.{rules}
+use lib.ListN.{length}
+use Rattle.timeline.specs.Words.{step_span}
+use Rattle.job.specs.Model.{view}
+use Rattle.job.specs.Clocked.{clocked}
+use Rattle.links.specs.Linkable.{Linkable}
+use Rattle.links.specs.Linking.{Below, LinksPut}
+use Rattle.links.proofs.Putting.{links_size, links_room}
+use Rattle.links.proofs.Linking.{below_start, below_more, below_end}
+use Rattle.links.proofs.support.link_conditions.Goals as goal
+
+pub loop-fact-init : goal.loop-fact-init
+loop-fact-init c = (c.requires, refl, below_start)
+
+pub slice_bounds-link_fact-end : goal.slice_bounds-link_fact-end
+slice_bounds-link_fact-end c = sym c.loop-fact.invariant.1
+
+pub link_fact-requires : goal.link_fact-requires
+link_fact-requires c = let i = c.loop-fact.invariant in (links_room i.0 i.2, c.loop-fact-test.true, i.1)
+
+pub overflow_add-fact : goal.overflow_add-fact
+overflow_add-fact c = omega (arith, c.loop-fact-test.true)
+
+pub loop-fact-smaller : goal.loop-fact-smaller
+loop-fact-smaller c = omega (arith, c.loop-fact-test.true)
+
+pub loop-fact-preserved : goal.loop-fact-preserved
+loop-fact-preserved c =
+    let i = c.loop-fact.invariant in
+    (i.0, search (rules, i.1), below_more i.2 c.link_fact.ensures)
+
+pub shape_of-links : goal.shape_of-links
+shape_of-links c = let i = c.loop-fact.invariant in links_size i.0 i.2
+
+pub returns : goal.returns
+returns c = let i = c.loop-fact.invariant in below_end i.0.form i.2 c.loop-fact-test.false

@@ -1,0 +1,18 @@
+use Prim.Native.Nat.{◌+◌, ◌-◌, ◌≤◌}
+use native.Mathlib.Omega.{arith}
+use borrow.Author.Rules.{rules}
+use Rattle.job.specs.Model.{view}
+use Rattle.job.specs.Clocked.{clocked}
+use Rattle.links.specs.Linkable.{Linkable}
+use Rattle.links.specs.Linking.{FromTo, LinksPut}
+use Rattle.links.proofs.Putting.{links_size, links_room}
+use Rattle.links.proofs.Linking.{goals_start, goals_more, goals_end}
+use Rattle.links.proofs.support.link_goals.Given as goal
+
+abbrev pub invariant-loop-g : goal.invariant-loop-g
+invariant-loop-g l =
+    Linkable (clocked (view l.job l.s)) l.points l.begins l.initial.links × (l.g ≤ l.job.count.goals)
+    × LinksPut (clocked (view l.job l.s)) l.points l.begins (FromTo l.job.count.conditions (l.job.count.conditions + l.g)) l.initial.links l.links
+
+abbrev pub decreases-loop-g : goal.decreases-loop-g
+decreases-loop-g l = l.job.count.goals - l.g

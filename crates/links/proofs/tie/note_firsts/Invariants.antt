@@ -1,0 +1,15 @@
+use Prim.Native.Nat.{◌≤◌}
+use mathlib.Core.Path.{◌≡◌, sym, ◌∙◌}
+use native.Mathlib.Omega.{arith}
+use borrow.Author.Rules.{rules}
+use lib.ListN.{length}
+use Rattle.timeline.specs.Words.{step_span}
+use Rattle.links.specs.Tied.{Firsts}
+use Rattle.links.proofs.Tied.{firsts_none, firsts_more}
+use Rattle.links.proofs.tie.note_firsts.Given as goal
+
+abbrev pub invariant-loop-p : goal.invariant-loop-p
+invariant-loop-p l = (l.from ≤ l.p) × (l.p ≤ l.end) × (length l.firsts ≡ step_span) × Firsts l.points l.p l.end l.firsts
+
+abbrev pub decreases-loop-p : goal.decreases-loop-p
+decreases-loop-p l = l.p

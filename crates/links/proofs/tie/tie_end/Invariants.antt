@@ -1,0 +1,13 @@
+use Prim.Native.Nat.{◌-◌, ◌≤◌, ◌<◌}
+use mathlib.Core.Path.{refl, sym, ◌∙◌}
+use native.Mathlib.Omega.{arith}
+use borrow.Author.Rules.{rules}
+use Rattle.links.specs.Tied.{OneTick}
+use Rattle.links.proofs.Tied.{tick_start, tick_more}
+use Rattle.links.proofs.tie.tie_end.Given as goal
+
+abbrev pub invariant-loop-end : goal.invariant-loop-end
+invariant-loop-end l = OneTick l.points l.from l.end × (l.from < l.end) × (l.end ≤ l.high)
+
+abbrev pub decreases-loop-end : goal.decreases-loop-end
+decreases-loop-end l = l.high - l.end
