@@ -1,0 +1,51 @@
+-- Need by need, beside the uses.
+use Prim.Native.Nat.{◌-◌}
+use native.Mathlib.Omega.{arith}
+use borrow.Author.Rules.{rules}
+use Rattle.job.specs.Clocked.{clocked}
+use Rattle.job.specs.Model.{view}
+use Rattle.needs.proofs.LevelNeeds.{Visited, visited_start, visited_listed, visited_behind, visited_one, visited_more, visited_end}
+use Rattle.needs.proofs.with_level.Goals as goal
+
+pub begin_at-high-requires : goal.begin_at-high-requires
+begin_at-high-requires c = let p = c.requires in omega (arith, p.1, p.2.1.room)
+
+pub begin_at-end-requires : goal.begin_at-end-requires
+begin_at-end-requires c = let p = c.requires in omega (arith, p.1, p.2.1.room)
+
+pub begin_at-requires : goal.begin_at-requires
+begin_at-requires c = let p = c.requires in omega (arith, p.1, p.2.1.room)
+
+pub begin_at-q-requires : goal.begin_at-q-requires
+begin_at-q-requires c = let p = c.requires in omega (arith, p.1, p.2.1.room)
+
+pub loop-q-init : goal.loop-q-init
+loop-q-init c =
+    let p = c.requires in
+    visited_start p.2 p.1 c.begin_at-high.ensures c.begin_at-end.ensures.0 c.begin_at.ensures.0
+    c.begin_at-q.ensures.0
+
+pub bounds-points-q : goal.bounds-points-q
+bounds-points-q c = visited_listed c.loop-q.invariant c.loop-q-test.true
+
+pub sums_before-sums-requires : goal.sums_before-sums-requires
+sums_before-sums-requires c = (_, visited_behind c.loop-q.invariant c.loop-q-test.true)
+
+pub is_unmet-found-requires : goal.is_unmet-found-requires
+is_unmet-found-requires c =
+    let m = clocked (view c.args.job c.args.s.now) in (
+      c.requires.0,
+      c.loop-q.invariant.few,
+      visited_one {m = m} c.loop-q.invariant c.loop-q-test.true c.sums_before-sums.ensures,
+    )
+
+pub loop-q-smaller : goal.loop-q-smaller
+loop-q-smaller c = omega (arith, c.loop-q-test.true)
+
+pub loop-q-preserved : goal.loop-q-preserved
+loop-q-preserved c =
+    visited_more c.loop-q.invariant c.loop-q-test.true
+    c.sums_before-sums.ensures c.number_of.ensures.0 c.is_unmet-found.ensures c.noted-best.ensures
+
+pub returns : goal.returns
+returns c = visited_end c.loop-q.invariant c.loop-q-test.false
