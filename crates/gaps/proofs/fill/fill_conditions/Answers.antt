@@ -1,0 +1,47 @@
+-- Each fact in turn.
+use Prim.Native.Nat.{◌-◌, ◌≤◌}
+use mathlib.Core.Path.{refl}
+use native.Mathlib.Omega.{arith}
+use borrow.Author.Rules.{rules}
+use Rattle.job.specs.Model.{view}
+use Rattle.validity.specs.Ticks.{schedule_of}
+use Rattle.gaps.specs.Rules.{fact_at}
+use Rattle.origins.specs.Points.{FactOrder, Reached, Among}
+use Rattle.origins.proofs.Reached.{within_up, within_all, within_empty}
+use Rattle.gaps.proofs.Rules.{given_known, given_reached, fact_known, conditions_raised}
+use Rattle.gaps.proofs.fill.fill_conditions.Goals as goal
+
+pub loop-f-init : goal.loop-f-init
+loop-f-init c = (omega arith, within_empty _ _ _ _ _ (omega arith))
+
+pub places_of-fact-requires : goal.places_of-fact-requires
+places_of-fact-requires c = (c.loop-f-test.true, omega (arith, c.requires.0.known.room), omega (arith, c.requires.0.form.fact_count))
+
+pub raise_conditions-requires : goal.raise_conditions-requires
+raise_conditions-requires c = (
+  given_known c.places_of-fact.ensures (fact_known c.requires.0 c.requires.2 _ c.loop-f-test.true),
+  c.loop-f.invariant.1.whole c.requires.1,
+)
+
+pub overflow_add-f : goal.overflow_add-f
+overflow_add-f c = omega (arith, c.loop-f-test.true, c.requires.0.form.fact_count)
+
+pub loop-f-smaller : goal.loop-f-smaller
+loop-f-smaller c = omega (arith, c.loop-f-test.true)
+
+pub loop-f-preserved : goal.loop-f-preserved
+loop-f-preserved c =
+    let a = c.args in (
+      omega (arith, c.loop-f-test.true),
+      within_up _ _ _ _ _ _ _ (omega arith) c.loop-f.invariant.1
+          (given_reached c.places_of-fact.ensures _ (view a.job a.s.now) (schedule_of a.starts.now) a.points.now _ _
+          c.raise_conditions.ensures),
+    )
+
+pub shape_of-gaps : goal.shape_of-gaps
+shape_of-gaps c = omega (arith, (c.loop-f.invariant.1.whole c.requires.1).size, c.requires.1.size)
+
+pub returns : goal.returns
+returns c =
+    let i = c.loop-f.invariant in
+    conditions_raised c.requires.0 _ _ (within_all _ _ _ _ _ _ _ _ refl (omega (arith, i.0, c.loop-f-test.false)) i.1)

@@ -1,0 +1,66 @@
+-- Each level in turn.
+use Prim.Native.Nat.{◌-◌, ◌≤◌}
+use mathlib.Core.Path.{refl}
+use native.Mathlib.Omega.{arith}
+use borrow.Author.Rules.{rules}
+use Rattle.validity.specs.Ticks.{schedule_of}
+use Rattle.origins.specs.Points.{Reached, Among}
+use Rattle.origins.proofs.Reached.{within_up, within_all, within_empty}
+use Rattle.gaps.proofs.Rules.{given_points, LevelOrder, level_known, levels_raised}
+use Rattle.gaps.proofs.fill.fill_levels.Goals as goal
+
+pub loop-l-init : goal.loop-l-init
+loop-l-init c = (omega arith, within_empty _ _ _ _ _ (omega arith))
+
+pub overflow_add-used : goal.overflow_add-used
+overflow_add-used c =
+    let form = c.requires.1.form in
+    omega (arith, c.loop-l-test.true, form.fact_count, form.level_count)
+
+pub overflow_add-used-in-loop-l : goal.overflow_add-used-in-loop-l
+overflow_add-used-in-loop-l c =
+    let form = c.requires.1.form in
+    omega (arith, c.loop-l-test.true, form.fact_count, form.level_count)
+
+pub begin_at-low-requires : goal.begin_at-low-requires
+begin_at-low-requires c = omega (arith, c.requires.1.known.room, c.loop-l-test.true)
+
+pub overflow_add-used-in-loop-l-2 : goal.overflow_add-used-in-loop-l-2
+overflow_add-used-in-loop-l-2 c =
+    let form = c.requires.1.form in
+    omega (arith, c.loop-l-test.true, form.fact_count, form.level_count)
+
+pub begin_at-high-requires : goal.begin_at-high-requires
+begin_at-high-requires c = omega (arith, c.requires.1.known.room, c.loop-l-test.true)
+
+pub raise_among-requires : goal.raise_among-requires
+raise_among-requires c = (
+  c.loop-l.invariant.1.whole c.requires.2,
+  c.requires.1.form.step_count,
+  rw (c.begin_at-low.ensures.0, c.begin_at-high.ensures.0) (level_known c.requires.1 c.requires.3 _ c.loop-l-test.true),
+)
+
+pub overflow_add-l : goal.overflow_add-l
+overflow_add-l c =
+    let form = c.requires.1.form in
+    omega (arith, c.loop-l-test.true, form.level_count)
+
+pub loop-l-smaller : goal.loop-l-smaller
+loop-l-smaller c = omega (arith, c.loop-l-test.true)
+
+pub loop-l-preserved : goal.loop-l-preserved
+loop-l-preserved c =
+    let a = c.args in (
+      omega (arith, c.loop-l-test.true),
+      within_up _ _ _ _ _ _ _ (omega arith) c.loop-l.invariant.1
+          (given_points _ (schedule_of a.starts.now) a.points.now _ _ 0 c.begin_at-low.ensures.0 c.begin_at-high.ensures.0
+          c.raise_among.ensures),
+    )
+
+pub shape_of-gaps : goal.shape_of-gaps
+shape_of-gaps c = omega (arith, (c.loop-l.invariant.1.whole c.requires.2).size, c.requires.2.size)
+
+pub returns : goal.returns
+returns c s known =
+    let i = c.loop-l.invariant in
+    levels_raised known _ _ (within_all _ _ _ _ _ _ _ _ refl (omega (arith, i.0, c.loop-l-test.false)) i.1)

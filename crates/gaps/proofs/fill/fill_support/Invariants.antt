@@ -1,0 +1,17 @@
+use Prim.Native.Nat.{◌≤◌, ◌-◌}
+use Rattle.laws.specs.Fold.{largest}
+use Rattle.job.specs.Model.{view}
+use Rattle.job.specs.Clocked.{clocked}
+use Rattle.orders.specs.Gaps.{support_order, support_gap}
+use Rattle.order_file.specs.Table.{Gaps}
+use Rattle.gaps.specs.Rules.{RaisedByLinks}
+use Rattle.gaps.proofs.Filled.{raised_start, raised_more, raised_end}
+use native.Mathlib.Omega.{arith}
+use Rattle.gaps.proofs.fill.fill_support.Given as goal
+
+abbrev pub invariant-loop-c : goal.invariant-loop-c
+invariant-loop-c l =
+    (l.c ≤ l.n) × Gaps l.gaps × RaisedByLinks (clocked (view l.job l.s)) l.links (λ m x i k. largest l.c (support_order m x i k)) l.initial.gaps l.gaps
+
+abbrev pub decreases-loop-c : goal.decreases-loop-c
+decreases-loop-c l = l.n - l.c
