@@ -215,4 +215,4 @@ module _ {m : Model} {x : ℕ → ℕ} {points : List ℕ} {setters : Setters} {
       ∙ ap₂ ◌||◌ (fails_there is ends begins by opposed.scan sees) (early_there is ends begins opposed.scanned)
     where
       or_or : (a b c : Bool) → (a || (b || c)) ≡ (a || b || c)
-      or_or a b c = elim a [ true ↦ refl | false ↦ refl ]
+      or_or a b c = elim a as (λ k. (k || (b || c)) ≡ (k || b || c)) [ true ↦ refl | false ↦ refl ]

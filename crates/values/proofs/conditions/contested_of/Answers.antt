@@ -1,0 +1,51 @@
+-- Condition by condition, beside the setters.
+use Prim.Native.Nat.{◌-◌}
+use native.Mathlib.Omega.{arith}
+use borrow.Author.Rules.{rules}
+use Rattle.job.specs.Clocked.{clocked}
+use Rattle.job.specs.Model.{view}
+use Rattle.validity.specs.Ticks.{schedule_of}
+use Rattle.values.proofs.Walked.{Walked, walked_start, walked_listed, walked_before, walked_at, walked_more, walked_end}
+use Rattle.values.proofs.conditions.contested_of.Goals as goal
+
+pub begin_at-requires : goal.begin_at-requires
+begin_at-requires c = let p = c.requires in omega (arith, p.0.known.room, p.1)
+
+pub begin_at-requires-2 : goal.begin_at-requires-2
+begin_at-requires-2 c = let p = c.requires in omega (arith, p.0.known.room, p.1)
+
+pub begin_at-end-requires : goal.begin_at-end-requires
+begin_at-end-requires c = let p = c.requires in omega (arith, p.0.known.room, p.1)
+
+pub begin_at-q-requires : goal.begin_at-q-requires
+begin_at-q-requires c = let p = c.requires in omega (arith, p.0.known.room, p.1)
+
+pub loop-q-init : goal.loop-q-init
+loop-q-init c =
+    let p = c.requires in
+    let low = c.begin_at.ensures.0 in
+    let high = c.begin_at-2.ensures.0 in
+    walked_start p.0 p.1 c.begin_at-end.ensures.0
+    (record { low = low; high = high; initial = c.fact_at.ensures })
+    c.begin_at-q.ensures.0
+
+pub bounds-points-q : goal.bounds-points-q
+bounds-points-q c = walked_listed c.loop-q.invariant c.loop-q-test.true
+
+pub walk_to-walk-requires : goal.walk_to-walk-requires
+walk_to-walk-requires c = walked_before c.loop-q.invariant c.loop-q-test.true
+
+pub is_contested-found-requires : goal.is_contested-found-requires
+is_contested-found-requires c = walked_at c.loop-q.invariant c.loop-q-test.true c.walk_to-walk.ensures
+
+pub loop-q-smaller : goal.loop-q-smaller
+loop-q-smaller c = omega (arith, c.loop-q-test.true)
+
+pub loop-q-preserved : goal.loop-q-preserved
+loop-q-preserved c =
+    walked_more c.loop-q.invariant c.loop-q-test.true
+    c.walk_to-walk.ensures
+    c.number_of.ensures.0 c.is_contested-found.ensures c.noted-best.ensures
+
+pub returns : goal.returns
+returns c = walked_end c.loop-q.invariant c.loop-q-test.false

@@ -1,0 +1,32 @@
+-- Fact by fact: every condition is on one of them.
+use Prim.Native.Nat.{◌-◌, ◌<◌}
+use native.Mathlib.Omega.{arith}
+use borrow.Author.Rules.{rules}
+use Rattle.job.specs.Clocked.{clocked}
+use Rattle.job.specs.Model.{view}
+use Rattle.validity.specs.Ticks.{schedule_of}
+use Rattle.values.specs.Contested.{contested}
+use Rattle.laws.specs.Noted.{Noted}
+use Rattle.laws.proofs.Noted.{noted_start, noted_lowest}
+use Rattle.values.proofs.Walked.{fact_more}
+use Rattle.values.proofs.conditions.first_contested.Goals as goal
+
+pub loop-fact-init : goal.loop-fact-init
+loop-fact-init c = noted_start _ (λ k l. omega arith)
+
+pub contested_of-requires : goal.contested_of-requires
+contested_of-requires c = (c.requires, c.loop-fact-test.true)
+
+pub loop-fact-smaller : goal.loop-fact-smaller
+loop-fact-smaller c = omega (arith, c.loop-fact-test.true)
+
+pub loop-fact-preserved : goal.loop-fact-preserved
+loop-fact-preserved c =
+    fact_more (clocked (view c.args.job
+    c.args.s.now)) c.lower-best.ensures
+    c.loop-fact.invariant c.contested_of.ensures
+
+pub returns : goal.returns
+returns c =
+    noted_lowest c.loop-fact.invariant (λ k l. omega
+    (arith, c.requires.form.condition_fact k l, c.loop-fact-test.false))

@@ -1,0 +1,19 @@
+use Prim.Native.Nat.{◌-◌, ◌<◌}
+use native.Mathlib.Omega.{arith}
+use borrow.Author.Rules.{rules}
+use Rattle.job.specs.Clocked.{clocked}
+use Rattle.job.specs.Model.{view}
+use Rattle.validity.specs.Ticks.{schedule_of}
+use Rattle.values.specs.Contested.{contested}
+use Rattle.laws.specs.Noted.{Noted}
+use Rattle.laws.proofs.Noted.{noted_start, noted_lowest}
+use Rattle.values.proofs.Walked.{fact_more}
+use Rattle.values.proofs.conditions.first_contested.Given as goal
+
+abbrev pub invariant-loop-fact : goal.invariant-loop-fact
+invariant-loop-fact l =
+    Noted l.job.count.conditions (contested (clocked (view l.job l.s)) (schedule_of l.starts))
+    (λ c. (view l.job l.s).condition_fact c < l.fact) l.best
+
+abbrev pub decreases-loop-fact : goal.decreases-loop-fact
+decreases-loop-fact l = l.job.count.facts - l.fact
