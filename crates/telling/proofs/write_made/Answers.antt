@@ -1,0 +1,23 @@
+-- The parts of the line, one behind the other.
+use Rattle.text.proofs.Writing.{put_then, put_written}
+use Rattle.telling.specs.Told.{made_line}
+use borrow.Author.Rules.{rules}
+use native.Mathlib.Omega.{arith}
+use Rattle.telling.proofs.write_made.Goals as goal
+
+pub put_field-made-requires : goal.put_field-made-requires
+unfolding made_line
+put_field-made-requires c = search rules
+
+pub put_word-requires : goal.put_word-requires
+unfolding made_line
+put_word-requires c = search rules
+
+pub shape_of-out : goal.shape_of-out
+unfolding made_line
+shape_of-out c = search rules
+
+pub returns : goal.returns
+unfolding made_line
+returns c =
+    (put_written (put_then c.put_field-made.ensures.0 c.put_word.ensures), omega (arith, c.put_word.ensures.ends))
