@@ -14,8 +14,7 @@ use Rattle.values.specs.Contested.{contested}
 use Rattle.schedule.specs.Timed.{FormedPoints, Settled}
 use Rattle.schedule.proofs.Chained.{conflict_refused, others_decide, none_conflict}
 use Rattle.values.proofs.Contested.{contested_lowest}
-use Rattle.schedule.proofs.check_timing.Statement.{statement}
-use Rattle.schedule.proofs.check_timing.Tie as tie
+use Rattle.schedule.proofs.check_timing.Goals as goal
 
 -- what first-contested finds where no two effects conflict
 settled :
@@ -27,27 +26,33 @@ settled {m} p one found =
     let form = clocked_form m p.form in
     record { form = p.form; known = p.known; one_value = one form; failing = contested_lowest _ _ form.keeps_own found }
 
-pub check_timing_spec : {M : Type 1} → statement M
-check_timing_spec =
-    tie.close
-    (tie.spec
-    (λ c κs. let p = c.before.before.before.before.requires.0 in (p.form, p.known))
-    (λ c. let w = c.before.before.before.before.before.before.requires.0.form in omega (arith, w.effect_count, w.timed_count))
-    (λ c. conflict_refused _ _ c.before.before.first-conflict.ensures c.if1.true)
-    (λ c κs.
-    let p = c.before.before.before.before.before.before.before.requires in
+pub first_conflict-e-requires : goal.first_conflict-e-requires
+first_conflict-e-requires c = let p = c.requires.0 in (p.form, p.known)
+
+pub overflow_add-job : goal.overflow_add-job
+overflow_add-job c = let w = c.requires.0.form in omega (arith, w.effect_count, w.timed_count)
+
+pub returns-then-e-job : goal.returns-then-e-job
+returns-then-e-job c = conflict_refused _ _ c.first_conflict-e.ensures c.if-e-job.true
+
+pub first_contested-c-requires : goal.first_contested-c-requires
+first_contested-c-requires c =
+    let p = c.requires in
     record {
       form = form_range (clocked_form _ p.0.form);
       known = p.0.known;
-      one_value = none_conflict _ _ c.before.before.first-conflict.ensures (clocked_form _ p.0.form) c.if1.false;
-    })
-    (λ c κs.
-    let start = c.before.before.before.before.before.before.before.before in
-    let none = none_conflict _ _ c.before.before.before.first-conflict.ensures in
-    (start.requires.1, (schedule_of start.args.starts.now, settled start.requires.0 (λ form. none form c.before.if1.false) c.first-contested.ensures)))
-    (λ c.
-    let p = c.before.before.before.before.before.before.before.before.before.requires in
-    let found = c.before.before.before.before.first-conflict.ensures in
-    let left = c.before.before.if1.false in
+      one_value = none_conflict _ _ c.first_conflict-e.ensures (clocked_form _ p.0.form) c.if-e-job.false;
+    }
+
+pub check_settled-requires : goal.check_settled-requires
+check_settled-requires c =
+    let none = none_conflict _ _ c.first_conflict-e.ensures in
+    (c.requires.1, (schedule_of c.args.starts.now, settled c.requires.0 (λ form. none form c.if-e-job.false) c.first_contested-c.ensures))
+
+pub returns : goal.returns
+returns c =
+    let p = c.requires in
+    let found = c.first_conflict-e.ensures in
+    let left = c.if-e-job.false in
     others_decide _ _ found left
-    (c.check-settled.ensures _ (settled p.0 (λ form. none_conflict _ _ found form left) c.before.first-contested.ensures))))
+    (c.check_settled.ensures _ (settled p.0 (λ form. none_conflict _ _ found form left) c.first_contested-c.ensures))

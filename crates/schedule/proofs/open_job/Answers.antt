@@ -8,20 +8,19 @@ use Rattle.form.proofs.Decides.{read_refused}
 use Rattle.validity.specs.Checks.{job_check}
 use Rattle.validity.proofs.Accepted.{job_promise}
 use borrow.Author.Rules.{rules}
-use Rattle.schedule.proofs.open_job.Statement.{statement}
-use Rattle.schedule.proofs.open_job.Tie as tie
+use Rattle.schedule.proofs.open_job.Goals as goal
 
-pub open_job_spec : {M : Type 1} → statement M
+pub read_records-requires : goal.read_records-requires
 unfolding job_check
-open_job_spec =
-    tie.close
-    (tie.spec
-    (λ c κs. search rules)
-    (λ c.
-    let f = c.read-records.ensures in
+read_records-requires c = search rules
+
+pub returns : goal.returns
+unfolding job_check
+returns c =
+    let f = c.read_records.ensures in
     record {
       refused = λ h. let e = read_refused f h in job_promise _ (e ∙ then_refused _ _ (λ z. h (ap number e ∙ z)));
       read = λ z. record { passed = sym (ap number f.verdict) ∙ z; header = f.job };
       ranged = read_ranged f;
       laid = read_laid f;
-    }))
+    }

@@ -1,0 +1,17 @@
+-- The points in the order of their ticks, then the refusals.
+use native.Mathlib.Omega.{arith}
+use Rattle.schedule.proofs.Reading.{read_in_range, read_lies}
+use borrow.Author.Rules.{rules}
+use Rattle.schedule.proofs.check_small.Goals as goal
+
+pub list_points-requires : goal.list_points-requires
+list_points-requires c =
+    let p = c.requires in
+    let few = p.1 in (
+      read_in_range p.0,
+      record { listed = omega (arith, few.points); sorted = omega (arith, few.points); grouped = omega (arith, few.groups) },
+      read_lies p.0,
+    )
+
+pub check_ordered-requires : goal.check_ordered-requires
+check_ordered-requires c = record { read = c.requires.0; known = c.list_points.ensures }
