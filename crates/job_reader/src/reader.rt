@@ -1,6 +1,5 @@
-// A job as its readings hold it: the caller's own bytes by reference, and what their header says, read once. The borrow checker
-// covers no function over a struct that holds a reference, so each takes it apart and calls a covered one on the slice and the
-// numbers; and whoever has a plain slice calls a function of plain parameters that makes the reader, as `fact_at`.
+// A job as its readings hold it: the caller's own bytes by reference, and what their header says, read once. Whoever has a plain slice
+// calls a function of plain parameters that makes the reader, as `fact_at`.
 ghost use Rattle.std.specs.Prelude.{◌≡◌};
 ghost use Rattle.job.specs.Model.{view, level_of, step_of, goal_of};
 
