@@ -5,11 +5,11 @@ use std::{env, process};
 
 fn main() {
     let here = env::var("CARGO_MANIFEST_DIR").expect("cargo names the package's folder");
-    let folder = Path::new(&here).join("../../target/staticlib");
+    let folder = Path::new(&here).join("../../crates/exports/out");
     let library = folder.join("libexports.a");
     println!("cargo:rerun-if-changed={}", library.display());
     if !library.exists() {
-        eprintln!("target/staticlib/libexports.a is not there: run `rt staticlib exports` first");
+        eprintln!("crates/exports/out/libexports.a is not there: run `rt lib` in crates/exports first");
         process::exit(1);
     }
     println!("cargo:rustc-link-search=native={}", folder.display());

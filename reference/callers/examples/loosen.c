@@ -1,7 +1,7 @@
 /* Prints the sheet of a job file, as the program `show` does. From the root of the repository:
  *
  *     cc -std=c11 -Iinclude -o target/loosen \
- *         reference/callers/examples/loosen.c target/staticlib/libexports.a
+ *         reference/callers/examples/loosen.c crates/exports/out/libexports.a
  *     target/loosen samples/deck-resigned.job
  */
 #include <stdio.h>

@@ -3,7 +3,7 @@
  * (`w`) is no function of the library: such a case is passed over. From the root of the repository:
  *
  *     cc -std=c11 -pthread -Iinclude -o target/stored \
- *         reference/callers/examples/stored.c target/staticlib/libexports.a
+ *         reference/callers/examples/stored.c crates/exports/out/libexports.a
  *     target/stored crates/replay/data/cases | diff - <(grep -v ^w crates/replay/stdout)
  */
 #include <pthread.h>
