@@ -1,10 +1,10 @@
 -- A demand without its bias, with a sign.
 use Prim.{tt}
 use Prim.Native.Nat.{ℕ, ◌-◌, ◌≤◌, ◌<◌, max}
+use mathlib.Core.Bool.{true}
 use mathlib.Core.Path.{◌≡◌, refl, sym, ap, ap₂, subst, ◌∙◌}
 use native.Mathlib.Decide.{dec_lt}
 use native.Mathlib.Omega.{arith}
-use borrow.Author.Rules.{rules}
 use borrow.Author.Tests.{lt-ltb, le-ltb, ltb-true, ltb-false}
 use lib.Dec.{ltb, T}
 use lib.IntN.{pos, negsuc, ◌-ℤ◌, nat_abs}
@@ -14,8 +14,7 @@ use mir.Val.{to_z, of_z, Fits, SFits}
 use mir.Facts.{to_z-of_z, to_z_pos}
 use Rattle.little_endian.specs.Bytes.{sign_bias}
 use Rattle.order_file.specs.Table.{entry_bias}
-use Rattle.windows.proofs.starts.raised_over.Statement.{statement}
-use Rattle.windows.proofs.starts.raised_over.Tie as tie
+use Rattle.windows.proofs.starts.raised_over.Goals as goal
 
 -- for no order it is below 0
 due_low : (d : ℕ) → d < entry_bias → to_z w32 d -ℤ to_z w32 entry_bias ≡ negsuc (entry_bias - 1 - d)
@@ -45,31 +44,37 @@ due_test s d g l =
 due_over : (s d : ℕ) → d < sign_bias → s < d - entry_bias → to_z w32 (of_z w32 (to_z w32 d -ℤ to_z w32 entry_bias)) ≡ pos (d - entry_bias)
 due_over s d l h = to_z-of_z (due_fits d l) ∙ due_high d l (omega arith)
 
-module _ (c : tie.Then1) where
-  over : c.before.args.start < c.before.args.demand - entry_bias
-  over =
-      let p = c.before.requires in
-      ltb-true _ _ (sym (due_test c.before.args.start c.before.args.demand p.0 p.1) ∙ c.if1.true)
+over :
+    (s d : ℕ) → s < sign_bias → d < sign_bias
+    → lt_z (to_z w32 s) (to_z w32 (of_z w32 (to_z w32 d -ℤ to_z w32 entry_bias))) ≡ true
+    → s < d - entry_bias
+over s d g l e = ltb-true _ _ (sym (due_test s d g l) ∙ e)
 
-pub raised_over_spec : {M : Type 1} → statement M
-raised_over_spec =
-    tie.close
-    (tie.spec
-    (λ c. record { sfits = c.requires.1 })
-    (λ c. search rules)
-    (λ c. due_fits _ c.requires.1)
-    (λ c. record { sfits = c.requires.0 })
-    (λ c.
-    let d = c.before.args.demand in
-    let e = due_over _ d c.before.requires.1 (over c) in
-    (subst (λ z. T (non_neg z)) (sym e) tt, subst (λ z. Fits w32 (nat_abs z)) (sym e) record { fits = omega (arith, c.before.requires.1) }))
-    (λ c.
-    let s = c.before.args.start in
-    let d = c.before.args.demand in
-    let m : d - entry_bias ≡ max s (d - entry_bias) = omega (arith, over c) in
-    ap nat_abs (due_over s d c.before.requires.1 (over c)) ∙ m)
-    (λ c.
-    let s = c.before.args.start in
-    let d = c.before.args.demand in
-    let p = c.before.requires in
-    omega (arith, ltb-false s (d - entry_bias) (sym (due_test s d p.0 p.1) ∙ c.if1.false))))
+pub overflow_cast-due : goal.overflow_cast-due
+overflow_cast-due c = record { sfits = c.requires.1 }
+
+pub overflow_sub-due : goal.overflow_sub-due
+overflow_sub-due c = due_fits _ c.requires.1
+
+pub overflow_cast-start : goal.overflow_cast-start
+overflow_cast-start c = record { sfits = c.requires.0 }
+
+pub overflow_cast-result : goal.overflow_cast-result
+overflow_cast-result c =
+    let d = c.args.demand in
+    let e = due_over _ d c.requires.1 (over _ d c.requires.0 c.requires.1 c.if-start-due.true) in
+    (subst (λ z. T (non_neg z)) (sym e) tt, subst (λ z. Fits w32 (nat_abs z)) (sym e) record { fits = omega (arith, c.requires.1) })
+
+pub returns-then-start-due : goal.returns-then-start-due
+returns-then-start-due c =
+    let s = c.args.start in
+    let d = c.args.demand in
+    let m : d - entry_bias ≡ max s (d - entry_bias) = omega (arith, over s d c.requires.0 c.requires.1 c.if-start-due.true) in
+    ap nat_abs (due_over s d c.requires.1 (over _ d c.requires.0 c.requires.1 c.if-start-due.true)) ∙ m
+
+pub returns-else-start-due : goal.returns-else-start-due
+returns-else-start-due c =
+    let s = c.args.start in
+    let d = c.args.demand in
+    let p = c.requires in
+    omega (arith, ltb-false s (d - entry_bias) (sym (due_test s d p.0 p.1) ∙ c.if-start-due.false))
