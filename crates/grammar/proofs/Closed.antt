@@ -12,13 +12,13 @@ use Rattle.spelling.specs.Names.{is_name}
 use Rattle.spelling.specs.Numbers.{is_whole, is_time, ticks}
 use Rattle.spelling.specs.Cursor.{is_bracket, is_such, is_word, is_stop}
 use Rattle.spelling.proofs.Same.{same_eq}
-use Rattle.grammar.specs.Said.{Point, start, end, Place, at_start, overAll, atEnd, Said, number}
+use Rattle.grammar.specs.Said.{Point, start, end, Place, at_start, over_all, at_end, Said, number}
 use Rattle.grammar.specs.Tree.{Literal, plain, negated, sets, increases, decreases, Kind, conditions, effects, goals}
 use Rattle.grammar.specs.Tree.{one, both, none, more, Action, holds, level, Line, nothing, last, blank, then}
 use Rattle.grammar.specs.Allowed.{LiteralOk, ActionOk, LineOk}
-use Rattle.grammar.specs.Reader.{Symbol, bracket, keyword, name, time, amount, finish, text, textBody, inits, initBody}
-use Rattle.grammar.specs.Reader.{item, body, items, conditionPoint, effectPoint, literal, literalBody, change, changeBody}
-use Rattle.grammar.specs.Reader.{lines, lineEnd, Step, goes, fails, bytes, line_symbols, deeper, leaf_step, step}
+use Rattle.grammar.specs.Reader.{Symbol, bracket, keyword, name, time, amount, finish, text, text_body, inits, init_body}
+use Rattle.grammar.specs.Reader.{item, body, items, condition_point, effect_point, literal, literal_body, change, change_body}
+use Rattle.grammar.specs.Reader.{lines, line_end, Step, goes, fails, bytes, line_symbols, deeper, leaf_step, step}
 use Rattle.grammar.proofs.Meaning.{After, AfterOk, ended, followed, ◌▸◌, Val, Vals, print, tell, Made}
 use Rattle.grammar.proofs.Made.{made_literal, made_change, made_item, made_text_lem, made_plain, made_negated, made_sets_plain}
 use Rattle.grammar.proofs.Made.{made_sets_negated, made_increases, made_decreases, made_holds, made_level, made_wants, made_does}
@@ -71,41 +71,41 @@ module _ (d : ℕ) where
   taken : (s : Symbol) (t : Token) (v : Val d s) → t ∷ [] ≡ print d s v → Made d s t [] (tell d s v) tt v
   taken s t v e = record { tokens = e; said = append-nil _ }
 
-  closed_literal : (p : Place) (t : Token) → Closed (literalBody p) t (step d (literalBody p) t)
+  closed_literal : (p : Place) (t : Token) → Closed (literal_body p) t (step d (literal_body p) t)
   unfolding step
   closed_literal p t =
-      take (literalBody p) t (is_word not_word t) _ _ _ (word not_word) (word_is not_word t)
+      take (literal_body p) t (is_word not_word t) _ _ _ (word not_word) (word_is not_word t)
       (λ _ vs. let n = vs.1.0 in ((negated n.0, n.1), made_negated d p n.0 n.1))
-      (take (literalBody p) t (is_such is_name t) _ _ _ (word (bytes t)) (λ e. (such_is is_name t e).0)
+      (take (literal_body p) t (is_such is_name t) _ _ _ (word (bytes t)) (λ e. (such_is is_name t e).0)
       (λ e vs. let n = (such_is is_name t e).1 in ((plain (bytes t), n), made_plain d p (bytes t) n)) tt)
 
-  closed_change : (q : Point) (t : Token) → Closed (changeBody q) t (step d (changeBody q) t)
+  closed_change : (q : Point) (t : Token) → Closed (change_body q) t (step d (change_body q) t)
   unfolding step
   closed_change q t =
-      take (changeBody q) t (is_word increase_word t) _ _ _ (word increase_word) (word_is increase_word t)
+      take (change_body q) t (is_word increase_word t) _ _ _ (word increase_word) (word_is increase_word t)
       (λ _ vs.
       let n = vs.1.0 in
       let w = vs.1.1.1.0 in
       ((increases n.0 w.0, (n.1, w.1)), made_increases d q n.0 w.0 n.1 w.1))
-      (take (changeBody q) t (is_word decrease_word t) _ _ _ (word decrease_word) (word_is decrease_word t)
+      (take (change_body q) t (is_word decrease_word t) _ _ _ (word decrease_word) (word_is decrease_word t)
       (λ _ vs.
       let n = vs.1.0 in
       let w = vs.1.1.1.0 in
       ((decreases n.0 w.0, (n.1, w.1)), made_decreases d q n.0 w.0 n.1 w.1))
-      (take (changeBody q) t (is_word not_word t) _ _ _ (word not_word) (word_is not_word t)
+      (take (change_body q) t (is_word not_word t) _ _ _ (word not_word) (word_is not_word t)
       (λ _ vs. let n = vs.1.0 in ((sets (negated n.0), n.1), made_sets_negated d q n.0 n.1))
-      (take (changeBody q) t (is_such is_name t) _ _ _ (word (bytes t)) (λ e. (such_is is_name t e).0)
+      (take (change_body q) t (is_such is_name t) _ _ _ (word (bytes t)) (λ e. (such_is is_name t e).0)
       (λ e vs. let n = (such_is is_name t e).1 in ((sets (plain (bytes t)), n), made_sets_plain d q (bytes t) n)) tt)))
 
-  closed_init : (t : Token) → Closed initBody t (step d initBody t)
+  closed_init : (t : Token) → Closed init_body t (step d init_body t)
   unfolding step
   closed_init t =
-      take initBody t (is_word equals_word t) _ _ _ (word equals_word) (word_is equals_word t)
+      take init_body t (is_word equals_word t) _ _ _ (word equals_word) (word_is equals_word t)
       (λ _ vs.
       let n = vs.1.0 in
       let w = vs.1.1.1.0 in
       ((level n.0 w.0, (n.1, w.1)), made_level d n.0 w.0 n.1 w.1))
-      (take initBody t (is_such is_name t) _ _ _ (word (bytes t)) (λ e. (such_is is_name t e).0)
+      (take init_body t (is_such is_name t) _ _ _ (word (bytes t)) (λ e. (such_is is_name t e).0)
       (λ e vs. let n = (such_is is_name t e).1 in ((holds (bytes t), n), made_holds d (bytes t) n)) tt)
 
   closed_inits : (t : Token) → Closed inits t (step d inits t)
@@ -124,13 +124,13 @@ module _ (d : ℕ) where
       take (body conditions n) t (is_word at_word t) _ _ _ (word at_word) (word_is at_word t)
       (λ _ vs. closed_at n vs.0.0 vs.0.1 vs.0.2)
       (take (body conditions n) t (is_word over_word t) _ _ _ (word over_word) (word_is over_word t)
-      (λ _ vs. let l = vs.1.0 in ((one (record { when = overAll; what = l.0 }), l.1), made_over_all d n l.0 l.1)) tt)
+      (λ _ vs. let l = vs.1.0 in ((one (record { when = over_all; what = l.0 }), l.1), made_over_all d n l.0 l.1)) tt)
     where
       closed_at :
           (n : ℕ) (q : Point) (l : Literal) (ok : LiteralOk l) →
-          (v : Val d (body conditions n)) × Made d (body conditions n) (word at_word) (conditionPoint ∷ []) [] ((q, l, ok), tt) v
+          (v : Val d (body conditions n)) × Made d (body conditions n) (word at_word) (condition_point ∷ []) [] ((q, l, ok), tt) v
       closed_at n start l ok = ((one (record { when = at_start; what = l }), ok), made_at_start d n l ok)
-      closed_at n end l ok = ((one (record { when = atEnd; what = l }), ok), made_at_end d n l ok)
+      closed_at n end l ok = ((one (record { when = at_end; what = l }), ok), made_at_end d n l ok)
   closed_leaf effects n t =
       take (body effects n) t (is_word at_word t) _ _ _ (word at_word) (word_is at_word t)
       (λ _ vs.
@@ -159,10 +159,10 @@ module _ (d : ℕ) where
       let ts = vs.1.0 in
       ((more a.0 ts.0, (a.1, ts.1)), made_more d k n a.0 a.1 ts.0 ts.1)) tt)
 
-  closed_text : (t : Token) → Closed textBody t (step d textBody t)
+  closed_text : (t : Token) → Closed text_body t (step d text_body t)
   unfolding step
   closed_text t =
-      take textBody t (is_word durative_word t) _ _ _ (word durative_word) (word_is durative_word t)
+      take text_body t (is_word durative_word t) _ _ _ (word durative_word) (word_is durative_word t)
       (λ _ vs.
       let n = vs.0 in
       let timed = vs.1.1.1.1.1 in
@@ -178,7 +178,7 @@ module _ (d : ℕ) where
         ),
         made_action d a ok t.actions rest.1.actions t.init rest.1.init t.goal rest.1.goal,
       ))
-      (take textBody t (is_word init_word t) _ _ _ (word init_word) (word_is init_word t)
+      (take text_body t (is_word init_word t) _ _ _ (word init_word) (word_is init_word t)
       (λ _ vs.
       let is = vs.0 in
       let g = vs.1.1.1.0 in (
@@ -186,20 +186,20 @@ module _ (d : ℕ) where
         made_init d is.0 is.1 g.0 g.1,
       )) tt)
 
-  closed_point : (t : Token) → Closed conditionPoint t (step d conditionPoint t)
+  closed_point : (t : Token) → Closed condition_point t (step d condition_point t)
   unfolding step
   closed_point t =
-      take conditionPoint t (is_word start_word t) _ _ _ (word start_word) (word_is start_word t)
+      take condition_point t (is_word start_word t) _ _ _ (word start_word) (word_is start_word t)
       (λ _ vs. let l = vs.0 in ((start, l.0, l.1), made_wants d start l.0 l.1))
-      (take conditionPoint t (is_word end_word t) _ _ _ (word end_word) (word_is end_word t)
+      (take condition_point t (is_word end_word t) _ _ _ (word end_word) (word_is end_word t)
       (λ _ vs. let l = vs.0 in ((end, l.0, l.1), made_wants d end l.0 l.1)) tt)
 
-  closed_effect : (t : Token) → Closed effectPoint t (step d effectPoint t)
+  closed_effect : (t : Token) → Closed effect_point t (step d effect_point t)
   unfolding step
   closed_effect t =
-      take effectPoint t (is_word start_word t) _ _ _ (word start_word) (word_is start_word t)
+      take effect_point t (is_word start_word t) _ _ _ (word start_word) (word_is start_word t)
       (λ _ vs. let c = vs.0 in ((start, c.0, c.1), made_does d start c.0 c.1))
-      (take effectPoint t (is_word end_word t) _ _ _ (word end_word) (word_is end_word t)
+      (take effect_point t (is_word end_word t) _ _ _ (word end_word) (word_is end_word t)
       (λ _ vs. let c = vs.0 in ((end, c.0, c.1), made_does d end c.0 c.1)) tt)
 
   -- a plan line with what follows it
@@ -225,12 +225,12 @@ module _ (d : ℕ) where
       let ok : LineOk l = record { start = (such_is is_time t e).1; named = n.1; timed = timed.0.1 } in
       with_line l ok after.0 after.1) tt))
 
-  closed_after : (t : Token) → Closed lineEnd t (step d lineEnd t)
+  closed_after : (t : Token) → Closed line_end t (step d line_end t)
   unfolding step
   closed_after t =
-      take lineEnd t (is_bracket 10 t) _ _ _ (mark 10) (bracket_is 10 t)
+      take line_end t (is_bracket 10 t) _ _ _ (mark 10) (bracket_is 10 t)
       (λ _ vs. let p = vs.0 in ((followed p.0, p.1), made_followed d p.0 p.1))
-      (take lineEnd t (is_stop t) _ _ _ stop (stop_is t) (λ _ vs. ((ended, tt), taken lineEnd stop (ended, tt) refl)) tt)
+      (take line_end t (is_stop t) _ _ _ stop (stop_is t) (λ _ vs. ((ended, tt), taken line_end stop (ended, tt) refl)) tt)
 
   pub closed : (s : Symbol) (t : Token) → Closed s t (step d s t)
   unfolding step
@@ -250,20 +250,20 @@ module _ (d : ℕ) where
   closed finish t = take finish t (is_stop t) _ _ _ stop (stop_is t) (λ _ vs. (tt, taken finish stop tt refl)) tt
   closed text t =
       take text t (is_bracket 40 t) _ _ _ (mark 40) (bracket_is 40 t) (λ _ vs. (vs.0, made_text_lem d vs.0.0 vs.0.1)) tt
-  closed textBody t = closed_text t
+  closed text_body t = closed_text t
   closed inits t = closed_inits t
-  closed initBody t = closed_init t
+  closed init_body t = closed_init t
   closed (item k n) t =
       take (item k n) t (is_bracket 40 t) _ _ _ (mark 40) (bracket_is 40 t) (λ _ vs. (vs.0, made_item d k n vs.0.0 vs.0.1)) tt
   closed (body k n) t = closed_body k n t
   closed (items k n) t = closed_items k n t
-  closed conditionPoint t = closed_point t
-  closed effectPoint t = closed_effect t
+  closed condition_point t = closed_point t
+  closed effect_point t = closed_effect t
   closed (literal p) t =
       take (literal p) t (is_bracket 40 t) _ _ _ (mark 40) (bracket_is 40 t) (λ _ vs. (vs.0, made_literal d p vs.0.0 vs.0.1)) tt
-  closed (literalBody p) t = closed_literal p t
+  closed (literal_body p) t = closed_literal p t
   closed (change q) t =
       take (change q) t (is_bracket 40 t) _ _ _ (mark 40) (bracket_is 40 t) (λ _ vs. (vs.0, made_change d q vs.0.0 vs.0.1)) tt
-  closed (changeBody q) t = closed_change q t
+  closed (change_body q) t = closed_change q t
   closed lines t = closed_lines t
-  closed lineEnd t = closed_after t
+  closed line_end t = closed_after t

@@ -12,9 +12,9 @@ use Rattle.spelling.specs.Numbers.{is_whole, is_time}
 use Rattle.spelling.specs.Cursor.{is_bracket, is_such, is_word, is_stop}
 use Rattle.grammar.specs.Said.{Place, set, reached, Said}
 use Rattle.grammar.specs.Tree.{Kind, conditions, effects, goals}
-use Rattle.grammar.specs.Reader.{Symbol, bracket, keyword, name, time, amount, finish, text, textBody, inits, initBody}
-use Rattle.grammar.specs.Reader.{item, body, items, conditionPoint, effectPoint, literal, literalBody, change, changeBody}
-use Rattle.grammar.specs.Reader.{lines, lineEnd, Step, goes, fails, fact_step, deeper, leaf_step, step}
+use Rattle.grammar.specs.Reader.{Symbol, bracket, keyword, name, time, amount, finish, text, text_body, inits, init_body}
+use Rattle.grammar.specs.Reader.{item, body, items, condition_point, effect_point, literal, literal_body, change, change_body}
+use Rattle.grammar.specs.Reader.{lines, line_end, Step, goes, fails, fact_step, deeper, leaf_step, step}
 
 -- so many more
 abbrev pub raise : ℕ → ℕ → ℕ
@@ -36,17 +36,17 @@ lift j time = time
 lift j amount = amount
 lift j finish = finish
 lift j text = text
-lift j textBody = textBody
+lift j text_body = text_body
 lift j inits = inits
-lift j initBody = initBody
-lift j conditionPoint = conditionPoint
-lift j effectPoint = effectPoint
+lift j init_body = init_body
+lift j condition_point = condition_point
+lift j effect_point = effect_point
 lift j (literal p) = literal p
-lift j (literalBody p) = literalBody p
+lift j (literal_body p) = literal_body p
 lift j (change q) = change q
-lift j (changeBody q) = changeBody q
+lift j (change_body q) = change_body q
 lift j lines = lines
-lift j lineEnd = lineEnd
+lift j line_end = line_end
 
 abbrev pub lifts : ℕ → List Symbol → List Symbol
 lifts j [] = []
@@ -94,22 +94,22 @@ lift_step_lem j d time t f = or_else j (is_such is_time t) _ _ _ _ refl
 lift_step_lem j d amount t f = or_else j (is_such is_whole t) _ _ _ _ refl
 lift_step_lem j d finish t f = or_else j (is_stop t) _ _ _ _ refl
 lift_step_lem j d text t f = or_else j (is_bracket 40 t) _ _ _ _ refl
-lift_step_lem j d textBody t f = or_else j (is_word durative_word t) _ _ _ _ (or_else j (is_word init_word t) _ _ _ _ refl)
+lift_step_lem j d text_body t f = or_else j (is_word durative_word t) _ _ _ _ (or_else j (is_word init_word t) _ _ _ _ refl)
 lift_step_lem j d inits t f = or_else j (is_bracket 41 t) _ _ _ _ (or_else j (is_bracket 40 t) _ _ _ _ refl)
-lift_step_lem j d initBody t f = or_else j (is_word equals_word t) _ _ _ _ (or_else j (is_such is_name t) _ _ _ _ refl)
+lift_step_lem j d init_body t f = or_else j (is_word equals_word t) _ _ _ _ (or_else j (is_such is_name t) _ _ _ _ refl)
 lift_step_lem j d (item k n) t f = or_else j (is_bracket 40 t) _ _ _ _ refl
 lift_step_lem j d (body k n) t f = body_lifts j d (raise j d) k n t f (is_word and_word t) refl
 lift_step_lem j d (items k n) t f = or_else j (is_bracket 41 t) _ _ _ _ (or_else j (is_bracket 40 t) _ _ _ _ refl)
-lift_step_lem j d conditionPoint t f = or_else j (is_word start_word t) _ _ _ _ (or_else j (is_word end_word t) _ _ _ _ refl)
-lift_step_lem j d effectPoint t f = or_else j (is_word start_word t) _ _ _ _ (or_else j (is_word end_word t) _ _ _ _ refl)
+lift_step_lem j d condition_point t f = or_else j (is_word start_word t) _ _ _ _ (or_else j (is_word end_word t) _ _ _ _ refl)
+lift_step_lem j d effect_point t f = or_else j (is_word start_word t) _ _ _ _ (or_else j (is_word end_word t) _ _ _ _ refl)
 lift_step_lem j d (literal p) t f = or_else j (is_bracket 40 t) _ _ _ _ refl
-lift_step_lem j d (literalBody p) t f = fact_lifts j p t
+lift_step_lem j d (literal_body p) t f = fact_lifts j p t
 lift_step_lem j d (change q) t f = or_else j (is_bracket 40 t) _ _ _ _ refl
-lift_step_lem j d (changeBody q) t f =
+lift_step_lem j d (change_body q) t f =
     or_else j (is_word increase_word t) _ _ _ _ (or_else j (is_word decrease_word t) _ _ _ _ (fact_lifts j (set q) t))
 lift_step_lem j d lines t f =
     or_else j (is_bracket 10 t) _ _ _ _ (or_else j (is_stop t) _ _ _ _ (or_else j (is_such is_time t) _ _ _ _ refl))
-lift_step_lem j d lineEnd t f = or_else j (is_bracket 10 t) _ _ _ _ (or_else j (is_stop t) _ _ _ _ refl)
+lift_step_lem j d line_end t f = or_else j (is_bracket 10 t) _ _ _ _ (or_else j (is_stop t) _ _ _ _ refl)
 
 -- a token that cannot stand there is 18, or 19 for an (and ..) where none may stand
 abbrev Known : Symbol → Token → Step → Type 0
@@ -146,24 +146,24 @@ known d time t = know time t (is_such is_time t) _ _ _ (inl refl)
 known d amount t = know amount t (is_such is_whole t) _ _ _ (inl refl)
 known d finish t = know finish t (is_stop t) _ _ _ (inl refl)
 known d text t = know text t (is_bracket 40 t) _ _ _ (inl refl)
-known d textBody t = know textBody t (is_word durative_word t) _ _ _ (know textBody t (is_word init_word t) _ _ _ (inl refl))
+known d text_body t = know text_body t (is_word durative_word t) _ _ _ (know text_body t (is_word init_word t) _ _ _ (inl refl))
 known d inits t = know inits t (is_bracket 41 t) _ _ _ (know inits t (is_bracket 40 t) _ _ _ (inl refl))
-known d initBody t = know initBody t (is_word equals_word t) _ _ _ (know initBody t (is_such is_name t) _ _ _ (inl refl))
+known d init_body t = know init_body t (is_word equals_word t) _ _ _ (know init_body t (is_such is_name t) _ _ _ (inl refl))
 known d (item k n) t = know (item k n) t (is_bracket 40 t) _ _ _ (inl refl)
 known d (body k n) t = known_body d k n t (is_word and_word t) refl
 known d (items k n) t = know (items k n) t (is_bracket 41 t) _ _ _ (know (items k n) t (is_bracket 40 t) _ _ _ (inl refl))
-known d conditionPoint t =
-    know conditionPoint t (is_word start_word t) _ _ _ (know conditionPoint t (is_word end_word t) _ _ _ (inl refl))
-known d effectPoint t = know effectPoint t (is_word start_word t) _ _ _ (know effectPoint t (is_word end_word t) _ _ _ (inl refl))
+known d condition_point t =
+    know condition_point t (is_word start_word t) _ _ _ (know condition_point t (is_word end_word t) _ _ _ (inl refl))
+known d effect_point t = know effect_point t (is_word start_word t) _ _ _ (know effect_point t (is_word end_word t) _ _ _ (inl refl))
 known d (literal p) t = know (literal p) t (is_bracket 40 t) _ _ _ (inl refl)
-known d (literalBody p) t = known_fact (literalBody p) p t
+known d (literal_body p) t = known_fact (literal_body p) p t
 known d (change q) t = know (change q) t (is_bracket 40 t) _ _ _ (inl refl)
-known d (changeBody q) t =
-    know (changeBody q) t (is_word increase_word t) _ _ _
-    (know (changeBody q) t (is_word decrease_word t) _ _ _ (known_fact (changeBody q) (set q) t))
+known d (change_body q) t =
+    know (change_body q) t (is_word increase_word t) _ _ _
+    (know (change_body q) t (is_word decrease_word t) _ _ _ (known_fact (change_body q) (set q) t))
 known d lines t =
     know lines t (is_bracket 10 t) _ _ _ (know lines t (is_stop t) _ _ _ (know lines t (is_such is_time t) _ _ _ (inl refl)))
-known d lineEnd t = know lineEnd t (is_bracket 10 t) _ _ _ (know lineEnd t (is_stop t) _ _ _ (inl refl))
+known d line_end t = know line_end t (is_bracket 10 t) _ _ _ (know line_end t (is_stop t) _ _ _ (inl refl))
 
 pub known_failed :
     (d : ℕ) (s : Symbol) (t : Token) (n : ℕ) → step d s t ≡ fails n →

@@ -16,9 +16,9 @@ use Rattle.spelling.specs.Numbers.{are_digits, is_whole, point_at, is_time}
 use Rattle.grammar.specs.Said.{at_start, start, Place, set, reached, Said, Item, on_line}
 use Rattle.grammar.specs.Tree.{Word, plain, sets, Kind, conditions, effects, goals, one, none, holds, nothing}
 use Rattle.grammar.specs.Allowed.{IsName, IsWhole, IsTime}
-use Rattle.grammar.specs.Reader.{Symbol, bracket, keyword, name, time, amount, finish, text, textBody, inits, initBody}
-use Rattle.grammar.specs.Reader.{item, body, items, conditionPoint, effectPoint, literal, literalBody, change, changeBody}
-use Rattle.grammar.specs.Reader.{lines, lineEnd, Step, goes, fails, fact_step, deeper, leaf_step, step, refused, onward, run}
+use Rattle.grammar.specs.Reader.{Symbol, bracket, keyword, name, time, amount, finish, text, text_body, inits, init_body}
+use Rattle.grammar.specs.Reader.{item, body, items, condition_point, effect_point, literal, literal_body, change, change_body}
+use Rattle.grammar.specs.Reader.{lines, line_end, Step, goes, fails, fact_step, deeper, leaf_step, step, refused, onward, run}
 use Rattle.grammar.proofs.Meaning.{ended, Val, Vals, prints}
 use Rattle.grammar.proofs.Closed.{stop_is}
 use Rattle.grammar.proofs.Along.{begun}
@@ -58,20 +58,20 @@ module _ (d : ℕ) where
   any amount = (zero_word, whole_ok)
   any finish = tt
   any text = (record { actions = []; init = []; goal = one (plain a_name) }, record { actions = tt; init = tt; goal = name_ok })
-  any textBody = (record { actions = []; init = []; goal = one (plain a_name) }, record { actions = tt; init = tt; goal = name_ok })
+  any text_body = (record { actions = []; init = []; goal = one (plain a_name) }, record { actions = tt; init = tt; goal = name_ok })
   any inits = ([], tt)
-  any initBody = (holds a_name, name_ok)
+  any init_body = (holds a_name, name_ok)
   any (item k n) = any_tree k n
   any (body k n) = any_tree k n
   any (items k n) = (none, tt)
-  any conditionPoint = (start, plain a_name, name_ok)
-  any effectPoint = (start, sets (plain a_name), name_ok)
+  any condition_point = (start, plain a_name, name_ok)
+  any effect_point = (start, sets (plain a_name), name_ok)
   any (literal p) = (plain a_name, name_ok)
-  any (literalBody p) = (plain a_name, name_ok)
+  any (literal_body p) = (plain a_name, name_ok)
   any (change q) = (sets (plain a_name), name_ok)
-  any (changeBody q) = (sets (plain a_name), name_ok)
+  any (change_body q) = (sets (plain a_name), name_ok)
   any lines = (nothing, tt)
-  any lineEnd = (ended, tt)
+  any line_end = (ended, tt)
 
   anys : (σ : List Symbol) → Vals d σ
   anys [] = tt
@@ -109,25 +109,25 @@ Ends (t ∷ u ∷ ts) = (t ≡ stop → ⊥) × Ends (u ∷ ts)
 abbrev ends : Symbol → Bool
 ends finish = true
 ends text = true
-ends textBody = true
+ends text_body = true
 ends lines = true
-ends lineEnd = true
+ends line_end = true
 ends (bracket b) = false
 ends (keyword w) = false
 ends (name r) = false
 ends time = false
 ends amount = false
 ends inits = false
-ends initBody = false
+ends init_body = false
 ends (item k n) = false
 ends (body k n) = false
 ends (items k n) = false
-ends conditionPoint = false
-ends effectPoint = false
+ends condition_point = false
+ends effect_point = false
 ends (literal p) = false
-ends (literalBody p) = false
+ends (literal_body p) = false
 ends (change q) = false
-ends (changeBody q) = false
+ends (change_body q) = false
 
 -- one of these stands at the bottom, and only there
 abbrev Inner : List Symbol → Type 0
@@ -205,30 +205,30 @@ keeps d time t = inner t (is_such is_time t) _ _ _ (no_such is_time t) tt tt
 keeps d amount t = inner t (is_such is_whole t) _ _ _ (no_such is_whole t) tt tt
 keeps d finish t = keep true t (is_stop t) _ _ (λ e. sym (stop_is t e)) tt
 keeps d text t = keep true t (is_bracket 40 t) _ _ (λ e. (refl, no_bracket 40 t e)) tt
-keeps d textBody t =
+keeps d text_body t =
     keep true t (is_word durative_word t) _ _
     (λ e.
     ((refl, (refl, (refl, (refl, (refl, (refl, (refl, (refl, (refl, (refl, (refl, (refl, refl)))))))))))), no_word durative_word t e))
     (keep true t (is_word init_word t) _ _ (λ e. ((refl, (refl, (refl, (refl, (refl, refl))))), no_word init_word t e)) tt)
 keeps d inits t =
     inner t (is_bracket 41 t) _ _ _ (no_bracket 41 t) tt (inner t (is_bracket 40 t) _ _ _ (no_bracket 40 t) (refl, (refl, tt)) tt)
-keeps d initBody t =
+keeps d init_body t =
     inner t (is_word equals_word t) _ _ _ (no_word equals_word t) (refl, (refl, (refl, (refl, (refl, tt)))))
     (inner t (is_such is_name t) _ _ _ (no_such is_name t) (refl, tt) tt)
 keeps d (item k n) t = inner t (is_bracket 40 t) _ _ _ (no_bracket 40 t) (refl, tt) tt
 keeps d (body k n) t = body_keeps d k n t
 keeps d (items k n) t =
     inner t (is_bracket 41 t) _ _ _ (no_bracket 41 t) tt (inner t (is_bracket 40 t) _ _ _ (no_bracket 40 t) (refl, (refl, tt)) tt)
-keeps d conditionPoint t =
+keeps d condition_point t =
     inner t (is_word start_word t) _ _ _ (no_word start_word t) (refl, (refl, tt))
     (inner t (is_word end_word t) _ _ _ (no_word end_word t) (refl, (refl, tt)) tt)
-keeps d effectPoint t =
+keeps d effect_point t =
     inner t (is_word start_word t) _ _ _ (no_word start_word t) (refl, (refl, tt))
     (inner t (is_word end_word t) _ _ _ (no_word end_word t) (refl, (refl, tt)) tt)
 keeps d (literal p) t = inner t (is_bracket 40 t) _ _ _ (no_bracket 40 t) (refl, tt) tt
-keeps d (literalBody p) t = fact_keeps p t
+keeps d (literal_body p) t = fact_keeps p t
 keeps d (change q) t = inner t (is_bracket 40 t) _ _ _ (no_bracket 40 t) (refl, tt) tt
-keeps d (changeBody q) t =
+keeps d (change_body q) t =
     inner t (is_word increase_word t) _ _ _ (no_word increase_word t) (refl, (refl, (refl, (refl, (refl, tt)))))
     (inner t (is_word decrease_word t) _ _ _ (no_word decrease_word t) (refl, (refl, (refl, (refl, (refl, tt))))) (fact_keeps (set q) t))
 keeps d lines t =
@@ -236,7 +236,7 @@ keeps d lines t =
     (keep true t (is_stop t) _ _ (λ e. sym (stop_is t e))
     (keep true t (is_such is_time t) _ _
     (λ e. ((refl, (refl, (refl, (refl, (refl, (refl, (refl, refl))))))), no_such is_time t e)) tt))
-keeps d lineEnd t =
+keeps d line_end t =
     keep true t (is_bracket 10 t) _ _ (λ e. (refl, no_bracket 10 t e)) (keep true t (is_stop t) _ _ (λ e. sym (stop_is t e)) tt)
 
 -- the shape behind a token that is not the text's end

@@ -7,7 +7,7 @@ use Rattle.spelling.specs.Tokens.{Token, mark, word, stop}
 use Rattle.spelling.specs.Keywords.{at_word, over_word, and_word, not_word, increase_word, decrease_word, all_word}
 use Rattle.spelling.specs.Keywords.{durative_word, duration_word, equals_word, asked_word, condition_word, effect_word, init_word, goal_word}
 use Rattle.spelling.specs.Numbers.{ticks}
-use Rattle.grammar.specs.Said.{Point, start, end, Place, wanted, set, reached, given, at_start, overAll, atEnd, when_of}
+use Rattle.grammar.specs.Said.{Point, start, end, Place, wanted, set, reached, given, at_start, over_all, at_end, when_of}
 use Rattle.grammar.specs.Said.{action, fact, rise, fall, stock, Said, number}
 use Rattle.grammar.specs.Said as say
 use Rattle.grammar.specs.Tree.{Word, Literal, plain, negated, Change, sets, increases, decreases, Kind, conditions, effects, goals}
@@ -19,9 +19,9 @@ use Rattle.grammar.specs.Saying.{literal_says, change_says, leaf_says, tree_says
 use Rattle.grammar.specs.Saying.{text_says, line_says, plan_says}
 use Rattle.grammar.specs.Allowed.{IsName, IsWhole, LiteralOk, ChangeOk, TreeOk, TreesOk, ActionOk, ActionsOk}
 use Rattle.grammar.specs.Allowed.{InitOk, InitsOk, TextOk, LineOk, PlanOk}
-use Rattle.grammar.specs.Reader.{keyword, name, text, textBody, inits, initBody}
-use Rattle.grammar.specs.Reader.{item, body, items, conditionPoint, effectPoint, literal, literalBody, change, changeBody}
-use Rattle.grammar.specs.Reader.{lines, lineEnd, opening, closing, level_symbols, action_symbols, init_symbols, line_symbols}
+use Rattle.grammar.specs.Reader.{keyword, name, text, text_body, inits, init_body}
+use Rattle.grammar.specs.Reader.{item, body, items, condition_point, effect_point, literal, literal_body, change, change_body}
+use Rattle.grammar.specs.Reader.{lines, line_end, opening, closing, level_symbols, action_symbols, init_symbols, line_symbols}
 use Rattle.grammar.proofs.Meaning.{tail, ended, followed, ◌▸◌, Made}
 
 -- all but a plan's end begin with a bracket
@@ -88,105 +88,105 @@ row_opens t u us e =
 module _ (d : ℕ) where
   -- a part from its opening bracket on
   pub made_literal :
-      (p : Place) (l : Literal) (ok : LiteralOk l) → Made d (literal p) (mark 40) (literalBody p ∷ []) [] ((l, ok), tt) (l, ok)
+      (p : Place) (l : Literal) (ok : LiteralOk l) → Made d (literal p) (mark 40) (literal_body p ∷ []) [] ((l, ok), tt) (l, ok)
   made_literal p l ok = record { tokens = ap (λ ts. mark 40 ∷ ts) (append-nil _) ∙ sym (literal_opens l); said = append-nil _ }
 
-  pub made_change : (q : Point) (c : Change) (ok : ChangeOk c) → Made d (change q) (mark 40) (changeBody q ∷ []) [] ((c, ok), tt) (c, ok)
+  pub made_change : (q : Point) (c : Change) (ok : ChangeOk c) → Made d (change q) (mark 40) (change_body q ∷ []) [] ((c, ok), tt) (c, ok)
   made_change q c ok = record { tokens = ap (λ ts. mark 40 ∷ ts) (append-nil _) ∙ sym (change_opens c); said = append-nil _ }
 
   pub made_item :
       (k : Kind) (n : ℕ) (t : Tree k) (ok : TreeOk n k t) → Made d (item k n) (mark 40) (body k n ∷ []) [] ((t, ok), tt) (t, ok)
   made_item k n t ok = record { tokens = ap (λ ts. mark 40 ∷ ts) (append-nil _) ∙ sym (tree_opens k t); said = append-nil _ }
 
-  pub made_text_lem : (t : Text) (ok : TextOk d t) → Made d text (mark 40) (textBody ∷ []) [] ((t, ok), tt) (t, ok)
+  pub made_text_lem : (t : Text) (ok : TextOk d t) → Made d text (mark 40) (text_body ∷ []) [] ((t, ok), tt) (t, ok)
   made_text_lem t ok = record { tokens = ap (λ ts. mark 40 ∷ ts) (append-nil _) ∙ sym (text_opens t); said = append-nil _ }
 
   -- a fact, (not ..), a level
   pub made_plain :
       (p : Place) (n : Word) (ok : IsName n) →
-      Made d (literalBody p) (word n) (closing ∷ []) (say.name (fact p true) n ∷ []) (tt, tt) (plain n, ok)
+      Made d (literal_body p) (word n) (closing ∷ []) (say.name (fact p true) n ∷ []) (tt, tt) (plain n, ok)
   unfolding literal_tokens literal_says
   made_plain p n ok = record { tokens = refl; said = refl }
 
   pub made_negated :
       (p : Place) (n : Word) (ok : IsName n) →
-      Made d (literalBody p) (word not_word) (opening ∷ name (fact p false) ∷ closing ∷ closing ∷ []) []
+      Made d (literal_body p) (word not_word) (opening ∷ name (fact p false) ∷ closing ∷ closing ∷ []) []
       (tt, ((n, ok), (tt, (tt, tt)))) (negated n, ok)
   unfolding literal_tokens literal_says
   made_negated p n ok = record { tokens = refl; said = refl }
 
   pub made_sets_plain :
       (q : Point) (n : Word) (ok : IsName n) →
-      Made d (changeBody q) (word n) (closing ∷ []) (say.name (fact (set q) true) n ∷ []) (tt, tt) (sets (plain n), ok)
+      Made d (change_body q) (word n) (closing ∷ []) (say.name (fact (set q) true) n ∷ []) (tt, tt) (sets (plain n), ok)
   unfolding change_tokens change_says literal_tokens literal_says
   made_sets_plain q n ok = record { tokens = refl; said = refl }
 
   pub made_sets_negated :
       (q : Point) (n : Word) (ok : IsName n) →
-      Made d (changeBody q) (word not_word) (opening ∷ name (fact (set q) false) ∷ closing ∷ closing ∷ []) []
+      Made d (change_body q) (word not_word) (opening ∷ name (fact (set q) false) ∷ closing ∷ closing ∷ []) []
       (tt, ((n, ok), (tt, (tt, tt)))) (sets (negated n), ok)
   unfolding change_tokens change_says literal_tokens literal_says
   made_sets_negated q n ok = record { tokens = refl; said = refl }
 
   pub made_increases :
       (q : Point) (n w : Word) (ok : IsName n) (ok' : IsWhole w) →
-      Made d (changeBody q) (word increase_word) (level_symbols (rise q)) []
+      Made d (change_body q) (word increase_word) (level_symbols (rise q)) []
       (tt, ((n, ok), (tt, ((w, ok'), (tt, tt))))) (increases n w, (ok, ok'))
   unfolding change_tokens change_says
   made_increases q n w ok ok' = record { tokens = refl; said = refl }
 
   pub made_decreases :
       (q : Point) (n w : Word) (ok : IsName n) (ok' : IsWhole w) →
-      Made d (changeBody q) (word decrease_word) (level_symbols (fall q)) []
+      Made d (change_body q) (word decrease_word) (level_symbols (fall q)) []
       (tt, ((n, ok), (tt, ((w, ok'), (tt, tt))))) (decreases n w, (ok, ok'))
   unfolding change_tokens change_says
   made_decreases q n w ok ok' = record { tokens = refl; said = refl }
 
   pub made_holds :
       (n : Word) (ok : IsName n) →
-      Made d initBody (word n) (closing ∷ []) (say.name (fact given true) n ∷ []) (tt, tt) (holds n, ok)
+      Made d init_body (word n) (closing ∷ []) (say.name (fact given true) n ∷ []) (tt, tt) (holds n, ok)
   unfolding init_tokens init_says
   made_holds n ok = record { tokens = refl; said = refl }
 
   pub made_level :
       (n w : Word) (ok : IsName n) (ok' : IsWhole w) →
-      Made d initBody (word equals_word) (level_symbols stock) [] (tt, ((n, ok), (tt, ((w, ok'), (tt, tt))))) (level n w, (ok, ok'))
+      Made d init_body (word equals_word) (level_symbols stock) [] (tt, ((n, ok), (tt, ((w, ok'), (tt, tt))))) (level n w, (ok, ok'))
   unfolding init_tokens init_says
   made_level n w ok ok' = record { tokens = refl; said = refl }
 
   -- behind "at", and an item behind its bracket
   pub made_wants :
       (q : Point) (l : Literal) (ok : LiteralOk l) →
-      Made d conditionPoint (point_word q) (literal (wanted (when_of q)) ∷ closing ∷ []) [] ((l, ok), (tt, tt)) (q, l, ok)
+      Made d condition_point (point_word q) (literal (wanted (when_of q)) ∷ closing ∷ []) [] ((l, ok), (tt, tt)) (q, l, ok)
   made_wants q l ok = record { tokens = refl; said = append-nil _ }
 
   pub made_does :
       (q : Point) (c : Change) (ok : ChangeOk c) →
-      Made d effectPoint (point_word q) (change q ∷ closing ∷ []) [] ((c, ok), (tt, tt)) (q, c, ok)
+      Made d effect_point (point_word q) (change q ∷ closing ∷ []) [] ((c, ok), (tt, tt)) (q, c, ok)
   made_does q c ok = record { tokens = refl; said = append-nil _ }
 
   pub made_at_start :
       (n : ℕ) (l : Literal) (ok : LiteralOk l) →
-      Made d (body conditions n) (word at_word) (conditionPoint ∷ []) [] ((start, l, ok), tt) (one (record { when = at_start; what = l }), ok)
+      Made d (body conditions n) (word at_word) (condition_point ∷ []) [] ((start, l, ok), tt) (one (record { when = at_start; what = l }), ok)
   unfolding tree_tokens tree_says leaf_tokens leaf_says
   made_at_start n l ok = record { tokens = append-nil _; said = append-nil _ }
 
   pub made_at_end :
       (n : ℕ) (l : Literal) (ok : LiteralOk l) →
-      Made d (body conditions n) (word at_word) (conditionPoint ∷ []) [] ((end, l, ok), tt) (one (record { when = atEnd; what = l }), ok)
+      Made d (body conditions n) (word at_word) (condition_point ∷ []) [] ((end, l, ok), tt) (one (record { when = at_end; what = l }), ok)
   unfolding tree_tokens tree_says leaf_tokens leaf_says
   made_at_end n l ok = record { tokens = append-nil _; said = append-nil _ }
 
   pub made_over_all :
       (n : ℕ) (l : Literal) (ok : LiteralOk l) →
-      Made d (body conditions n) (word over_word) (keyword all_word ∷ literal (wanted overAll) ∷ closing ∷ []) [] (tt, ((l, ok), (tt, tt)))
-      (one (record { when = overAll; what = l }), ok)
+      Made d (body conditions n) (word over_word) (keyword all_word ∷ literal (wanted over_all) ∷ closing ∷ []) [] (tt, ((l, ok), (tt, tt)))
+      (one (record { when = over_all; what = l }), ok)
   unfolding tree_tokens tree_says leaf_tokens leaf_says
   made_over_all n l ok = record { tokens = refl; said = append-nil _ }
 
   pub made_effect :
       (n : ℕ) (q : Point) (c : Change) (ok : ChangeOk c) →
-      Made d (body effects n) (word at_word) (effectPoint ∷ []) [] ((q, c, ok), tt) (one (record { at = q; what = c }), ok)
+      Made d (body effects n) (word at_word) (effect_point ∷ []) [] ((q, c, ok), tt) (one (record { at = q; what = c }), ok)
   unfolding tree_tokens tree_says leaf_tokens leaf_says
   made_effect n q c ok = record { tokens = append-nil _; said = append-nil _ }
 
@@ -230,7 +230,7 @@ module _ (d : ℕ) where
 
   pub made_inits :
       (i : Init) (ok : InitOk i) (is : List Init) (ok' : InitsOk is) →
-      Made d inits (mark 40) (initBody ∷ inits ∷ []) [] ((i, ok), ((is, ok'), tt)) (i ∷ is, (ok, ok'))
+      Made d inits (mark 40) (init_body ∷ inits ∷ []) [] ((i, ok), ((is, ok'), tt)) (i ∷ is, (ok, ok'))
   unfolding inits_tokens inits_say
   made_inits i ok is ok' =
       record {
@@ -242,7 +242,7 @@ module _ (d : ℕ) where
   pub made_action :
       (a : Action) (ok : ActionOk d a) (bs : List Action) (oks : ActionsOk d bs) (is : List Init) (i : InitsOk is) (g : Tree goals)
       (j : TreeOk d goals g) →
-      Made d textBody (word durative_word) (action_symbols d) []
+      Made d text_body (word durative_word) (action_symbols d) []
       ((a.name, ok.named) ▸ tt ▸ tt ▸ tt ▸ tt ▸ (a.duration, ok.timed) ▸ tt ▸ tt ▸ (a.condition, ok.condition) ▸ tt
       ▸ (a.effect, ok.effect) ▸ tt
       ▸ (record { actions = bs; init = is; goal = g }, record { actions = oks; init = i; goal = j }) ▸ tt)
@@ -273,7 +273,7 @@ module _ (d : ℕ) where
 
   pub made_init :
       (is : List Init) (i : InitsOk is) (g : Tree goals) (j : TreeOk d goals g) →
-      Made d textBody (word init_word) (init_symbols d) [] ((is, i), (tt, (tt, ((g, j), (tt, (tt, tt))))))
+      Made d text_body (word init_word) (init_symbols d) [] ((is, i), (tt, (tt, ((g, j), (tt, (tt, tt))))))
       (record { actions = []; init = is; goal = g }, record { actions = tt; init = i; goal = j })
   unfolding text_tokens text_says actions_tokens actions_say
   made_init is i g j =
@@ -310,5 +310,5 @@ module _ (d : ℕ) where
   unfolding plan_tokens plan_says line_tokens line_says
   made_then l ok p ok' = record { tokens = simp append-nil; said = simp append-nil }
 
-  pub made_followed : (p : Plan) (ok : PlanOk p) → Made d lineEnd (mark 10) (lines ∷ []) [] ((p, ok), tt) (followed p, ok)
+  pub made_followed : (p : Plan) (ok : PlanOk p) → Made d line_end (mark 10) (lines ∷ []) [] ((p, ok), tt) (followed p, ok)
   made_followed p ok = record { tokens = ap (λ us. mark 10 ∷ us) (append-nil _); said = append-nil _ }

@@ -11,9 +11,9 @@ use Rattle.grammar.specs.Written.{point_word, literal_tokens, change_tokens, tre
 use Rattle.grammar.specs.Written.{text_tokens, plan_tokens}
 use Rattle.grammar.specs.Saying.{literal_says, change_says, tree_says, trees_say, init_says, inits_say, text_says, plan_says}
 use Rattle.grammar.specs.Allowed.{IsName, IsWhole, IsTime, LiteralOk, ChangeOk, TreeOk, TreesOk, InitOk, InitsOk, TextOk, PlanOk}
-use Rattle.grammar.specs.Reader.{Symbol, bracket, keyword, name, time, amount, finish, text, textBody, inits, initBody}
-use Rattle.grammar.specs.Reader.{item, body, items, conditionPoint, effectPoint, literal, literalBody, change, changeBody}
-use Rattle.grammar.specs.Reader.{lines, lineEnd}
+use Rattle.grammar.specs.Reader.{Symbol, bracket, keyword, name, time, amount, finish, text, text_body, inits, init_body}
+use Rattle.grammar.specs.Reader.{item, body, items, condition_point, effect_point, literal, literal_body, change, change_body}
+use Rattle.grammar.specs.Reader.{lines, line_end}
 
 -- behind the opening bracket
 abbrev pub tail : List Token → List Token
@@ -51,20 +51,20 @@ module _ (d : ℕ) where
   Val amount = (w : Word) × IsWhole w
   Val finish = Unit
   Val text = (t : Text) × TextOk d t
-  Val textBody = (t : Text) × TextOk d t
+  Val text_body = (t : Text) × TextOk d t
   Val inits = (is : List Init) × InitsOk is
-  Val initBody = (i : Init) × InitOk i
+  Val init_body = (i : Init) × InitOk i
   Val (item k n) = (t : Tree k) × TreeOk n k t
   Val (body k n) = (t : Tree k) × TreeOk n k t
   Val (items k n) = (ts : Trees k) × TreesOk n k ts
-  Val conditionPoint = (q : Point) × (l : Literal) × LiteralOk l
-  Val effectPoint = (q : Point) × (c : Change) × ChangeOk c
+  Val condition_point = (q : Point) × (l : Literal) × LiteralOk l
+  Val effect_point = (q : Point) × (c : Change) × ChangeOk c
   Val (literal p) = (l : Literal) × LiteralOk l
-  Val (literalBody p) = (l : Literal) × LiteralOk l
+  Val (literal_body p) = (l : Literal) × LiteralOk l
   Val (change q) = (c : Change) × ChangeOk c
-  Val (changeBody q) = (c : Change) × ChangeOk c
+  Val (change_body q) = (c : Change) × ChangeOk c
   Val lines = (p : Plan) × PlanOk p
-  Val lineEnd = (a : After) × AfterOk a
+  Val line_end = (a : After) × AfterOk a
 
   abbrev pub print : (s : Symbol) → Val s → List Token
   print (bracket b) v = mark b ∷ []
@@ -74,20 +74,20 @@ module _ (d : ℕ) where
   print amount v = word v.0 ∷ []
   print finish v = stop ∷ []
   print text v = text_tokens v.0
-  print textBody v = tail (text_tokens v.0)
+  print text_body v = tail (text_tokens v.0)
   print inits v = inits_tokens v.0 ++ (mark 41 ∷ [])
-  print initBody v = tail (init_tokens v.0)
+  print init_body v = tail (init_tokens v.0)
   print (item k n) v = tree_tokens k v.0
   print (body k n) v = tail (tree_tokens k v.0)
   print (items k n) v = trees_tokens k v.0 ++ (mark 41 ∷ [])
-  print conditionPoint v = point_word v.0 ∷ literal_tokens v.1 ++ (mark 41 ∷ [])
-  print effectPoint v = point_word v.0 ∷ change_tokens v.1 ++ (mark 41 ∷ [])
+  print condition_point v = point_word v.0 ∷ literal_tokens v.1 ++ (mark 41 ∷ [])
+  print effect_point v = point_word v.0 ∷ change_tokens v.1 ++ (mark 41 ∷ [])
   print (literal p) v = literal_tokens v.0
-  print (literalBody p) v = tail (literal_tokens v.0)
+  print (literal_body p) v = tail (literal_tokens v.0)
   print (change q) v = change_tokens v.0
-  print (changeBody q) v = tail (change_tokens v.0)
+  print (change_body q) v = tail (change_tokens v.0)
   print lines v = plan_tokens v.0
-  print lineEnd v = after_tokens v.0
+  print line_end v = after_tokens v.0
 
   abbrev pub tell : (s : Symbol) → Val s → List Said
   tell (bracket b) v = []
@@ -97,20 +97,20 @@ module _ (d : ℕ) where
   tell amount v = number (spelled v.0) ∷ []
   tell finish v = []
   tell text v = text_says v.0
-  tell textBody v = text_says v.0
+  tell text_body v = text_says v.0
   tell inits v = inits_say v.0
-  tell initBody v = init_says v.0
+  tell init_body v = init_says v.0
   tell (item k n) v = tree_says k v.0
   tell (body k n) v = tree_says k v.0
   tell (items k n) v = trees_say k v.0
-  tell conditionPoint v = literal_says (wanted (when_of v.0)) v.1
-  tell effectPoint v = change_says v.0 v.1
+  tell condition_point v = literal_says (wanted (when_of v.0)) v.1
+  tell effect_point v = change_says v.0 v.1
   tell (literal p) v = literal_says p v.0
-  tell (literalBody p) v = literal_says p v.0
+  tell (literal_body p) v = literal_says p v.0
   tell (change q) v = change_says q v.0
-  tell (changeBody q) v = change_says q v.0
+  tell (change_body q) v = change_says q v.0
   tell lines v = plan_says v.0
-  tell lineEnd v = after_says v.0
+  tell line_end v = after_says v.0
 
   -- the same for symbols in a row
   abbrev pub Vals : List Symbol → Type 0

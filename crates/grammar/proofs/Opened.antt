@@ -12,16 +12,16 @@ use Rattle.spelling.specs.Keywords.{equals_word}
 use Rattle.spelling.specs.Names.{is_letter, is_digit, is_name_byte, is_reserved, is_name}
 use Rattle.spelling.specs.Cursor.{is_bracket, is_such, is_stop}
 use Rattle.spelling.proofs.Same.{same_eq, same_refl}
-use Rattle.grammar.specs.Said.{When, Point, start, end, Place, at_start, overAll, atEnd}
+use Rattle.grammar.specs.Said.{When, Point, start, end, Place, at_start, over_all, at_end}
 use Rattle.grammar.specs.Said.{Said}
 use Rattle.grammar.specs.Said as say
 use Rattle.grammar.specs.Tree.{Word, Literal, plain, negated, Change, sets, increases, decreases, Kind, conditions, effects, goals}
 use Rattle.grammar.specs.Tree.{Leaf, Tree, one, both, Trees, none, more, Action, Init, holds, level}
 use Rattle.grammar.specs.Tree.{Plan, nothing, last, blank, then}
 use Rattle.grammar.specs.Allowed.{IsName, LiteralOk, ChangeOk, LeafOk, TreeOk, TreesOk, ActionsOk, InitOk, InitsOk, PlanOk}
-use Rattle.grammar.specs.Reader.{Symbol, bracket, keyword, name, time, amount, finish, text, textBody, inits, initBody}
-use Rattle.grammar.specs.Reader.{item, body, items, conditionPoint, effectPoint, literal, literalBody, change, changeBody}
-use Rattle.grammar.specs.Reader.{lines, lineEnd, goes, bytes, deeper, leaf_step, step}
+use Rattle.grammar.specs.Reader.{Symbol, bracket, keyword, name, time, amount, finish, text, text_body, inits, init_body}
+use Rattle.grammar.specs.Reader.{item, body, items, condition_point, effect_point, literal, literal_body, change, change_body}
+use Rattle.grammar.specs.Reader.{lines, line_end, goes, bytes, deeper, leaf_step, step}
 use Rattle.grammar.proofs.Meaning.{After, AfterOk, ended, followed, Val, Vals, print, tell, Made}
 use Rattle.grammar.proofs.Made.{made_literal, made_change, made_item, made_text_lem, made_plain, made_negated, made_sets_plain}
 use Rattle.grammar.proofs.Made.{made_sets_negated, made_increases, made_decreases, made_holds, made_level, made_wants, made_does}
@@ -79,12 +79,12 @@ module _ (d : ℕ) where
       let made : Made d s t [] (tell d s v) tt v = record { tokens = f; said = append-nil _ } in
       record { token = t; next = []; new = tell d s v; parts = tt; steps = e; made = made }
 
-  opened_literal : (p : Place) (l : Literal) (ok : LiteralOk l) → Opened (literalBody p) (l, ok)
+  opened_literal : (p : Place) (l : Literal) (ok : LiteralOk l) → Opened (literal_body p) (l, ok)
   unfolding step is_such same bytes
   opened_literal p (plain n) ok = opens (rw (not_not n ok, ok)) (made_plain d p n ok)
   opened_literal p (negated n) ok = opens refl (made_negated d p n ok)
 
-  opened_change : (q : Point) (c : Change) (ok : ChangeOk c) → Opened (changeBody q) (c, ok)
+  opened_change : (q : Point) (c : Change) (ok : ChangeOk c) → Opened (change_body q) (c, ok)
   unfolding step is_such same bytes
   opened_change q (sets (plain n)) ok =
       opens (rw (not_increase n ok, not_decrease n ok, not_not n ok, ok)) (made_sets_plain d q n ok)
@@ -92,7 +92,7 @@ module _ (d : ℕ) where
   opened_change q (increases n w) ok = opens refl (made_increases d q n w ok.0 ok.1)
   opened_change q (decreases n w) ok = opens refl (made_decreases d q n w ok.0 ok.1)
 
-  opened_init : (i : Init) (ok : InitOk i) → Opened initBody (i, ok)
+  opened_init : (i : Init) (ok : InitOk i) → Opened init_body (i, ok)
   unfolding step is_such same bytes
   opened_init (holds n) ok = opens (rw (not_equals n ok, ok)) (made_holds d n ok)
   opened_init (level n w) ok = opens refl (made_level d n w ok.0 ok.1)
@@ -105,8 +105,8 @@ module _ (d : ℕ) where
   opened_wants : (n : ℕ) (q : When) (l : Literal) (ok : LiteralOk l) → Opened (body conditions n) (one (record { when = q; what = l }), ok)
   unfolding step leaf_step is_such same
   opened_wants n at_start l ok = opens refl (made_at_start d n l ok)
-  opened_wants n overAll l ok = opens refl (made_over_all d n l ok)
-  opened_wants n atEnd l ok = opens refl (made_at_end d n l ok)
+  opened_wants n over_all l ok = opens refl (made_over_all d n l ok)
+  opened_wants n at_end l ok = opens refl (made_at_end d n l ok)
 
   opened_goal : (k : ℕ) (l : Literal) (ok : LiteralOk l) → Opened (body goals k) (one l, ok)
   unfolding step leaf_step is_such same bytes
@@ -132,7 +132,7 @@ module _ (d : ℕ) where
 
   opened_text :
       (bs : List Action) (oks : ActionsOk d bs) (is : List Init) (i : InitsOk is) (g : Tree goals) (j : TreeOk d goals g) →
-      Opened textBody (record { actions = bs; init = is; goal = g }, record { actions = oks; init = i; goal = j })
+      Opened text_body (record { actions = bs; init = is; goal = g }, record { actions = oks; init = i; goal = j })
   unfolding step is_such same
   opened_text [] oks is i g j = opens refl (made_init d is i g j)
   opened_text (a ∷ bs) oks is i g j = opens refl (made_action d a oks.0 bs oks.1 is i g j)
@@ -144,17 +144,17 @@ module _ (d : ℕ) where
   opened_plan (blank p) ok = opens refl (made_blank d p ok)
   opened_plan (then l p) ok = opens (rw ok.0.start) (made_then d l ok.0 p ok.1)
 
-  opened_after : (a : After) (ok : AfterOk a) → Opened lineEnd (a, ok)
+  opened_after : (a : After) (ok : AfterOk a) → Opened line_end (a, ok)
   unfolding step is_bracket is_stop
-  opened_after ended ok = lone lineEnd (ended, ok) stop refl refl
+  opened_after ended ok = lone line_end (ended, ok) stop refl refl
   opened_after (followed p) ok = opens refl (made_followed d p ok)
 
-  opened_at : (q : Point) (l : Literal) (ok : LiteralOk l) → Opened conditionPoint (q, l, ok)
+  opened_at : (q : Point) (l : Literal) (ok : LiteralOk l) → Opened condition_point (q, l, ok)
   unfolding step is_such same
   opened_at start l ok = opens refl (made_wants d start l ok)
   opened_at end l ok = opens refl (made_wants d end l ok)
 
-  opened_does : (q : Point) (c : Change) (ok : ChangeOk c) → Opened effectPoint (q, c, ok)
+  opened_does : (q : Point) (c : Change) (ok : ChangeOk c) → Opened effect_point (q, c, ok)
   unfolding step is_such same
   opened_does start c ok = opens refl (made_does d start c ok)
   opened_does end c ok = opens refl (made_does d end c ok)
@@ -168,18 +168,18 @@ module _ (d : ℕ) where
   opened amount v = lone amount v (word v.0) (rw v.1) refl
   opened finish v = lone finish v stop refl refl
   opened text v = opens refl (made_text_lem d v.0 v.1)
-  opened textBody v =
+  opened text_body v =
       opened_text v.0.actions v.1.actions v.0.init v.1.init v.0.goal v.1.goal
   opened inits v = opened_inits v.0 v.1
-  opened initBody v = opened_init v.0 v.1
+  opened init_body v = opened_init v.0 v.1
   opened (item k n) v = opens refl (made_item d k n v.0 v.1)
   opened (body k n) v = opened_body k n v.0 v.1
   opened (items k n) v = opened_items k n v.0 v.1
-  opened conditionPoint v = opened_at v.0 v.1 v.2
-  opened effectPoint v = opened_does v.0 v.1 v.2
+  opened condition_point v = opened_at v.0 v.1 v.2
+  opened effect_point v = opened_does v.0 v.1 v.2
   opened (literal p) v = opens refl (made_literal d p v.0 v.1)
-  opened (literalBody p) v = opened_literal p v.0 v.1
+  opened (literal_body p) v = opened_literal p v.0 v.1
   opened (change q) v = opens refl (made_change d q v.0 v.1)
-  opened (changeBody q) v = opened_change q v.0 v.1
+  opened (change_body q) v = opened_change q v.0 v.1
   opened lines v = opened_plan v.0 v.1
-  opened lineEnd v = opened_after v.0 v.1
+  opened line_end v = opened_after v.0 v.1

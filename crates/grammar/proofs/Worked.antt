@@ -10,7 +10,7 @@ use Rattle.spelling.specs.Keywords.{same, codes}
 use Rattle.spelling.specs.Names.{is_letter, is_digit, is_name_byte, is_reserved, is_name}
 use Rattle.spelling.specs.Numbers.{are_digits, spelled_from, is_whole, point_at, is_time, ticks}
 use Rattle.spelling.specs.Cursor.{is_bracket, is_such, is_stop}
-use Rattle.grammar.specs.Said.{at_start, overAll, end, wanted, reached, given, action, fact, rise, stock, planned}
+use Rattle.grammar.specs.Said.{at_start, over_all, end, wanted, reached, given, action, fact, rise, stock, planned}
 use Rattle.grammar.specs.Said.{Said, name, number, Item, on_line}
 use Rattle.grammar.specs.Reader.{Outcome, read, refused, onward, bytes, deeper, leaf_step, step, run}
 use Rattle.grammar.specs.Reading.{action_reading, plan_reading}
@@ -43,7 +43,7 @@ one_action :
     action_reading (written ("(:durative-action raise" ∷ ":duration (= ?duration 0.5)" ∷ ":condition (and (at start (free))"
     ∷ "(over all (not (shut))))" ∷ ":effect (at end (increase (cars) 3)))" ∷ "(:init (free) (= (cars) 7)) (:goal (free))" ∷ []))
     ≡ read (on 0 (name action (codes "raise")) ∷ on 1 (number 500)
-    ∷ on 2 (name (fact (wanted at_start) true) (codes "free")) ∷ on 3 (name (fact (wanted overAll) false) (codes "shut"))
+    ∷ on 2 (name (fact (wanted at_start) true) (codes "free")) ∷ on 3 (name (fact (wanted over_all) false) (codes "shut"))
     ∷ on 4 (name (rise end) (codes "cars")) ∷ on 4 (number 3) ∷ on 5 (name (fact given true) (codes "free"))
     ∷ on 5 (name stock (codes "cars")) ∷ on 5 (number 7) ∷ on 5 (name (fact reached true) (codes "free")) ∷ [])
 unfolding action_reading is_blank is_mark in_word line_after joins grown with_byte tokens same is_letter is_digit is_name_byte is_reserved

@@ -6,7 +6,7 @@ use Rattle.spelling.specs.Keywords.{durative_word, duration_word, equals_word, a
 use Rattle.spelling.specs.Names.{is_name}
 use Rattle.spelling.specs.Numbers.{spelled, ticks, is_whole, is_time}
 use Rattle.spelling.specs.Cursor.{is_bracket, is_such, is_word, is_stop}
-use Rattle.grammar.specs.Said.{at_start, overAll, atEnd, Point, start, end, Place, wanted, set, reached, given}
+use Rattle.grammar.specs.Said.{at_start, over_all, at_end, Point, start, end, Place, wanted, set, reached, given}
 use Rattle.grammar.specs.Said.{Role, action, fact, rise, fall, stock, planned, Said, number, Item, on_line}
 use Rattle.grammar.specs.Said as say
 use Rattle.grammar.specs.Tree.{Kind, conditions, effects, goals}
@@ -20,19 +20,19 @@ pub data Symbol : Type 0 where
   amount : Symbol
   finish : Symbol
   -- the first text, and behind its first bracket
-  text textBody : Symbol
+  text text_body : Symbol
   -- what init gives, up to its bracket; one item behind its bracket
-  inits initBody : Symbol
+  inits init_body : Symbol
   -- an item, in which so many (and ..) may stand inside one another; behind its bracket; items up to the bracket of their (and ..)
   item body items : Kind → ℕ → Symbol
   -- behind "at" of a condition and of an effect
-  conditionPoint effectPoint : Symbol
+  condition_point effect_point : Symbol
   -- a fact or (not ..); behind its bracket
-  literal literalBody : Place → Symbol
+  literal literal_body : Place → Symbol
   -- a fact, (not ..), (increase ..) or (decrease ..); behind its bracket
-  change changeBody : Point → Symbol
+  change change_body : Point → Symbol
   -- the plan; the end of one of its lines
-  lines lineEnd : Symbol
+  lines line_end : Symbol
 
 -- what a token does where a symbol is expected: it leaves others to come and may say something, or it cannot stand there
 pub data Step : Type 0 where
@@ -83,9 +83,9 @@ deeper k (suc n) = goes (items k n ∷ []) []
 -- an item behind its bracket that is no (and ..)
 unfoldable pub leaf_step : Kind → Token → Step
 leaf_step conditions t =
-    either (is_word at_word t) (conditionPoint ∷ [])
-    (only (is_word over_word t) (keyword all_word ∷ literal (wanted overAll) ∷ closing ∷ []))
-leaf_step effects t = only (is_word at_word t) (effectPoint ∷ [])
+    either (is_word at_word t) (condition_point ∷ [])
+    (only (is_word over_word t) (keyword all_word ∷ literal (wanted over_all) ∷ closing ∷ []))
+leaf_step effects t = only (is_word at_word t) (effect_point ∷ [])
 leaf_step goals t = fact_step reached t
 
 -- an action behind its first word, then the rest of the text; init behind its first word, then the goal
@@ -99,7 +99,7 @@ init_symbols depth = inits ∷ opening ∷ keyword goal_word ∷ item goals dept
 
 -- a plan line behind its start
 abbrev pub line_symbols : List Symbol
-line_symbols = bracket 58 ∷ opening ∷ name planned ∷ closing ∷ bracket 91 ∷ time ∷ bracket 93 ∷ lineEnd ∷ []
+line_symbols = bracket 58 ∷ opening ∷ name planned ∷ closing ∷ bracket 91 ∷ time ∷ bracket 93 ∷ line_end ∷ []
 
 -- a text is read with what it says, or refused on a line with what it said before
 pub data Outcome : Type 0 where
@@ -118,26 +118,26 @@ module _ (depth : ℕ) where
   step time t = timing t []
   step amount t = cond (is_such is_whole t) (goes [] (number (spelled (bytes t)) ∷ [])) (fails 18)
   step finish t = only (is_stop t) []
-  step text t = only (is_bracket 40 t) (textBody ∷ [])
-  step textBody t = either (is_word durative_word t) (action_symbols depth) (only (is_word init_word t) (init_symbols depth))
-  step inits t = either (is_bracket 41 t) [] (only (is_bracket 40 t) (initBody ∷ inits ∷ []))
-  step initBody t = either (is_word equals_word t) (level_symbols stock) (naming (fact given true) t (closing ∷ []))
+  step text t = only (is_bracket 40 t) (text_body ∷ [])
+  step text_body t = either (is_word durative_word t) (action_symbols depth) (only (is_word init_word t) (init_symbols depth))
+  step inits t = either (is_bracket 41 t) [] (only (is_bracket 40 t) (init_body ∷ inits ∷ []))
+  step init_body t = either (is_word equals_word t) (level_symbols stock) (naming (fact given true) t (closing ∷ []))
   step (item k n) t = only (is_bracket 40 t) (body k n ∷ [])
   step (items k n) t = either (is_bracket 41 t) [] (only (is_bracket 40 t) (body k n ∷ items k n ∷ []))
   step (body k n) t = cond (is_word and_word t) (deeper k n) (leaf_step k t)
-  step conditionPoint t =
+  step condition_point t =
       either (is_word start_word t) (literal (wanted at_start) ∷ closing ∷ [])
-      (only (is_word end_word t) (literal (wanted atEnd) ∷ closing ∷ []))
-  step effectPoint t =
+      (only (is_word end_word t) (literal (wanted at_end) ∷ closing ∷ []))
+  step effect_point t =
       either (is_word start_word t) (change start ∷ closing ∷ []) (only (is_word end_word t) (change end ∷ closing ∷ []))
-  step (literal p) t = only (is_bracket 40 t) (literalBody p ∷ [])
-  step (literalBody p) t = fact_step p t
-  step (change q) t = only (is_bracket 40 t) (changeBody q ∷ [])
-  step (changeBody q) t =
+  step (literal p) t = only (is_bracket 40 t) (literal_body p ∷ [])
+  step (literal_body p) t = fact_step p t
+  step (change q) t = only (is_bracket 40 t) (change_body q ∷ [])
+  step (change_body q) t =
       either (is_word increase_word t) (level_symbols (rise q))
       (either (is_word decrease_word t) (level_symbols (fall q)) (fact_step (set q) t))
   step lines t = either (is_bracket 10 t) (lines ∷ []) (either (is_stop t) [] (timing t line_symbols))
-  step lineEnd t = either (is_bracket 10 t) (lines ∷ []) (only (is_stop t) [])
+  step line_end t = either (is_bracket 10 t) (lines ∷ []) (only (is_stop t) [])
 
   -- the outcome where these symbols are expected, these items have been said and these tokens follow
   unfoldable pub run : List Symbol → List Item → List Placed → Outcome

@@ -3,14 +3,14 @@ use Rattle.std.specs.Prelude.{ℕ, Bool, List, [], ◌∷◌}
 
 -- "at start", "over all" or "at end"; effects know the first and the last
 pub data When : Type 0 where
-  at_start overAll atEnd : When
+  at_start over_all at_end : When
 
 pub data Point : Type 0 where
   start end : Point
 
 abbrev pub when_of : Point → When
 when_of start = at_start
-when_of end = atEnd
+when_of end = at_end
 
 -- where a fact stands: in a condition, an effect, the goal or init
 pub data Place : Type 0 where

@@ -3,7 +3,7 @@ use Rattle.std.specs.Prelude.{List, [], ◌∷◌, ◌++◌}
 use Rattle.spelling.specs.Tokens.{Token, mark, word, stop}
 use Rattle.spelling.specs.Keywords.{at_word, over_word, and_word, not_word, increase_word, decrease_word, start_word, end_word, all_word}
 use Rattle.spelling.specs.Keywords.{durative_word, duration_word, equals_word, asked_word, condition_word, effect_word, init_word, goal_word}
-use Rattle.grammar.specs.Said.{When, at_start, overAll, atEnd, Point, start, end}
+use Rattle.grammar.specs.Said.{When, at_start, over_all, at_end, Point, start, end}
 use Rattle.grammar.specs.Tree.{Word, Literal, plain, negated, Change, sets, increases, decreases, Kind, conditions, effects, goals}
 use Rattle.grammar.specs.Tree.{Leaf, Tree, one, both, Trees, none, more, Action, Init, holds, level, Text}
 use Rattle.grammar.specs.Tree.{Line, Plan, nothing, last, blank, then}
@@ -30,8 +30,8 @@ point_word end = word end_word
 
 abbrev pub when_tokens : When → List Token
 when_tokens at_start = word at_word ∷ word start_word ∷ []
-when_tokens overAll = word over_word ∷ word all_word ∷ []
-when_tokens atEnd = word at_word ∷ word end_word ∷ []
+when_tokens over_all = word over_word ∷ word all_word ∷ []
+when_tokens at_end = word at_word ∷ word end_word ∷ []
 
 unfoldable pub leaf_tokens : (k : Kind) → Leaf k → List Token
 leaf_tokens conditions c = in_brackets (when_tokens c.when ++ literal_tokens c.what)

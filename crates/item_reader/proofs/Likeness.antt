@@ -7,11 +7,11 @@ use Rattle.spelling.specs.Tokens.{Token}
 use Rattle.spelling.specs.Keywords.{at_word, over_word, and_word, not_word, increase_word, decrease_word, start_word, end_word, all_word}
 use Rattle.spelling.specs.Names.{is_name}
 use Rattle.spelling.specs.Cursor.{is_bracket, is_such, is_word}
-use Rattle.grammar.specs.Said.{at_start, overAll, atEnd, Point, start, end, Place, wanted, set, reached, fact, rise, fall, Item}
+use Rattle.grammar.specs.Said.{at_start, over_all, at_end, Point, start, end, Place, wanted, set, reached, fact, rise, fall, Item}
 use Rattle.grammar.specs.Tree.{Kind, conditions, effects, goals}
 use Rattle.grammar.specs.Allowed.{depth_most}
 use Rattle.grammar.specs.Reader.{Symbol, bracket, keyword, name, item, body, items, Outcome}
-use Rattle.grammar.specs.Reader.{conditionPoint, effectPoint, literal, literalBody, change, changeBody, closing, opening}
+use Rattle.grammar.specs.Reader.{condition_point, effect_point, literal, literal_body, change, change_body, closing, opening}
 use Rattle.grammar.specs.Reader.{goes, fails, step, onward, deeper, leaf_step, level_symbols}
 use Rattle.token_reader.proofs.Compose.{Alike, kept}
 
@@ -25,11 +25,11 @@ kept_item true q n σ is l k = refl
 kept_item false q n σ is l k = refl
 
 module _ (t : Token) where
-  pub literal_alike : (p : Place) → Alike t (literal p) (bracket 40) (literalBody p ∷ [])
+  pub literal_alike : (p : Place) → Alike t (literal p) (bracket 40) (literal_body p ∷ [])
   unfolding step
   literal_alike p σ is l k = kept (is_bracket 40 t) _ _ σ is l k
 
-  pub change_alike : (q : Point) → Alike t (change q) (bracket 40) (changeBody q ∷ [])
+  pub change_alike : (q : Point) → Alike t (change q) (bracket 40) (change_body q ∷ [])
   unfolding step
   change_alike q σ is l k = kept (is_bracket 40 t) _ _ σ is l k
 
@@ -38,62 +38,62 @@ module _ (t : Token) where
   item_alike q n σ is l k = kept (is_bracket 40 t) _ _ σ is l k
 
   module _ {y : Bool} (e : y ≡ is_word not_word t) where
-    pub not_alike : (p : Place) → y ≡ true → Alike t (literalBody p) (keyword not_word) (opening ∷ name (fact p false) ∷ closing ∷ closing ∷ [])
+    pub not_alike : (p : Place) → y ≡ true → Alike t (literal_body p) (keyword not_word) (opening ∷ name (fact p false) ∷ closing ∷ closing ∷ [])
     unfolding step onward
     not_alike p f σ is l k = rw (sym e ∙ f) refl
 
-    pub plain_alike : (p : Place) → y ≡ false → Alike t (literalBody p) (name (fact p true)) (closing ∷ [])
+    pub plain_alike : (p : Place) → y ≡ false → Alike t (literal_body p) (name (fact p true)) (closing ∷ [])
     unfolding step
     plain_alike p f σ is l k = rw (sym e ∙ f) (kept (is_such is_name t) _ _ σ is l k)
 
   module _ (q : Point) {y : Bool} (e : y ≡ is_word increase_word t) where
-    pub increase_alike : y ≡ true → Alike t (changeBody q) (keyword increase_word) (level_symbols (rise q))
+    pub increase_alike : y ≡ true → Alike t (change_body q) (keyword increase_word) (level_symbols (rise q))
     unfolding step onward
     increase_alike f σ is l k = rw (sym e ∙ f) refl
 
     pub decrease_alike :
-        y ≡ false → {z : Bool} → z ≡ is_word decrease_word t → z ≡ true → Alike t (changeBody q) (keyword decrease_word) (level_symbols (fall q))
+        y ≡ false → {z : Bool} → z ≡ is_word decrease_word t → z ≡ true → Alike t (change_body q) (keyword decrease_word) (level_symbols (fall q))
     unfolding step onward
     decrease_alike f g h σ is l k = rw (sym e ∙ f, sym g ∙ h) refl
 
-    pub set_alike : y ≡ false → {z : Bool} → z ≡ is_word decrease_word t → z ≡ false → Alike t (changeBody q) (literalBody (set q)) []
+    pub set_alike : y ≡ false → {z : Bool} → z ≡ is_word decrease_word t → z ≡ false → Alike t (change_body q) (literal_body (set q)) []
     unfolding step
     set_alike f g h σ is l k = rw (sym e ∙ f, sym g ∙ h) refl
 
   module _ {y : Bool} (e : y ≡ is_word start_word t) where
-    pub wanted_start : y ≡ true → Alike t conditionPoint (keyword start_word) (literal (wanted at_start) ∷ closing ∷ [])
+    pub wanted_start : y ≡ true → Alike t condition_point (keyword start_word) (literal (wanted at_start) ∷ closing ∷ [])
     unfolding step onward
     wanted_start f σ is l k = rw (sym e ∙ f) refl
 
-    pub wanted_end : y ≡ false → Alike t conditionPoint (keyword end_word) (literal (wanted atEnd) ∷ closing ∷ [])
+    pub wanted_end : y ≡ false → Alike t condition_point (keyword end_word) (literal (wanted at_end) ∷ closing ∷ [])
     unfolding step
     wanted_end f σ is l k = rw (sym e ∙ f) (kept (is_word end_word t) _ _ σ is l k)
 
-    pub change_start : y ≡ true → Alike t effectPoint (keyword start_word) (change start ∷ closing ∷ [])
+    pub change_start : y ≡ true → Alike t effect_point (keyword start_word) (change start ∷ closing ∷ [])
     unfolding step onward
     change_start f σ is l k = rw (sym e ∙ f) refl
 
-    pub change_end : y ≡ false → Alike t effectPoint (keyword end_word) (change end ∷ closing ∷ [])
+    pub change_end : y ≡ false → Alike t effect_point (keyword end_word) (change end ∷ closing ∷ [])
     unfolding step
     change_end f σ is l k = rw (sym e ∙ f) (kept (is_word end_word t) _ _ σ is l k)
 
   -- an item that is no (and ..)
   module _ (n : ℕ) (e : is_word and_word t ≡ false) where
-    pub at_alike : {y : Bool} → y ≡ is_word at_word t → y ≡ true → Alike t (body conditions n) (keyword at_word) (conditionPoint ∷ [])
+    pub at_alike : {y : Bool} → y ≡ is_word at_word t → y ≡ true → Alike t (body conditions n) (keyword at_word) (condition_point ∷ [])
     unfolding step leaf_step onward
     at_alike g h σ is l k = rw (e, sym g ∙ h) refl
 
     pub over_alike :
         {y : Bool} → y ≡ is_word at_word t → y ≡ false
-        → Alike t (body conditions n) (keyword over_word) (keyword all_word ∷ literal (wanted overAll) ∷ closing ∷ [])
+        → Alike t (body conditions n) (keyword over_word) (keyword all_word ∷ literal (wanted over_all) ∷ closing ∷ [])
     unfolding step leaf_step
     over_alike g h σ is l k = rw (e, sym g ∙ h) (kept (is_word over_word t) _ _ σ is l k)
 
-    pub effect_alike : Alike t (body effects n) (keyword at_word) (effectPoint ∷ [])
+    pub effect_alike : Alike t (body effects n) (keyword at_word) (effect_point ∷ [])
     unfolding step leaf_step
     effect_alike σ is l k = rw e (kept (is_word at_word t) _ _ σ is l k)
 
-    pub goal_alike : Alike t (body goals n) (literalBody reached) []
+    pub goal_alike : Alike t (body goals n) (literal_body reached) []
     unfolding step leaf_step
     goal_alike σ is l k = rw e refl
 

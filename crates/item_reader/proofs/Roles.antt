@@ -9,7 +9,7 @@ use Rattle.spelling.specs.Keywords.{and_word}
 use Rattle.spelling.specs.Cursor.{here, is_word}
 use Rattle.grammar.specs.Said.{fact, action, rise, fall, stock, planned}
 use Rattle.grammar.specs.Tree.{Kind}
-use Rattle.grammar.specs.Reader.{name, literalBody, body, level_symbols}
+use Rattle.grammar.specs.Reader.{name, literal_body, body, level_symbols}
 use Rattle.grammar.specs.Said as say
 use Rattle.notes.specs.declared.Place as noted
 use Rattle.notes.specs.declared.Place.TheVariants.{WantedAtStart, WantedOverAll, WantedAtEnd, SetAtStart, SetAtEnd, Reached, Given}
@@ -75,13 +75,13 @@ module _ (last : Bool) {text list list' : List ℕ} {r a : Reader} where
   as_fall e q = rw (← fall_role_lem last, ← e) q
 
   pub as_set :
-      {place : noted.Place} → place ≡ set_place last → Reads false text list r (literalBody (place_of place)) list' a
-      → Reads false text list r (literalBody (say.set (point_of last))) list' a
+      {place : noted.Place} → place ≡ set_place last → Reads false text list r (literal_body (place_of place)) list' a
+      → Reads false text list r (literal_body (say.set (point_of last))) list' a
   as_set e q = placed last (rw e at q)
     where
       placed :
-          (last : Bool) → Reads false text list r (literalBody (place_of (set_place last))) list' a
-          → Reads false text list r (literalBody (say.set (point_of last))) list' a
+          (last : Bool) → Reads false text list r (literal_body (place_of (set_place last))) list' a
+          → Reads false text list r (literal_body (say.set (point_of last))) list' a
       placed true p = p
       placed false p = p
 

@@ -1,6 +1,6 @@
 // Facts, (not ..) and changes of a level, each read as one symbol of the grammar.
 ghost use Rattle.std.specs.Prelude.{◌≡◌, false, ◌+◌, ◌≤◌, ◌<◌};
-ghost use Rattle.grammar.specs.Reader.{literal, literalBody, change, changeBody, level_symbols};
+ghost use Rattle.grammar.specs.Reader.{literal, literal_body, change, change_body, level_symbols};
 ghost use Rattle.notes.specs.Notes.{roles, fall_role, role_of, place_of};
 ghost use Rattle.token_reader.specs.Reading.{Ready, Reads, Leads};
 ghost use Rattle.item_reader.specs.Kinds.{point_of, set_place, later};
@@ -11,7 +11,7 @@ use token_reader::{Reader, sees_word, take_amount, take_bracket, take_name, take
 // A fact or (not ..) behind its bracket.
 pub fn read_fact(text: &[u8], said: &mut [u64], r: Reader, place: Place) -> Reader
     requires { Ready false text.now said.old r }
-    ensures { Reads false text.now said.old r (literalBody (place_of place)) said.new result }
+    ensures { Reads false text.now said.old r (literal_body (place_of place)) said.new result }
 {
     if sees_word(false, text, r, b"not") {
         let inner = take_word(false, text, r, b"not");
@@ -69,7 +69,7 @@ fn set_place(end: bool) -> Place
 // An effect's fact, (not ..), (increase ..) or (decrease ..) behind its bracket.
 fn read_change_body(text: &[u8], said: &mut [u64], r: Reader, end: bool) -> Reader
     requires { Ready false text.now said.old r }
-    ensures { Reads false text.now said.old r (changeBody (point_of end)) said.new result }
+    ensures { Reads false text.now said.old r (change_body (point_of end)) said.new result }
 {
     if sees_word(false, text, r, b"increase") {
         let inner = take_word(false, text, r, b"increase");

@@ -3,7 +3,7 @@ ghost use Rattle.std.specs.Prelude.{◌≡◌, true, false, not, ◌&&◌, ℕ, 
 ghost use Rattle.spelling.specs.Keywords.{and_word};
 ghost use Rattle.spelling.specs.Cursor.{here, is_bracket, is_word};
 ghost use Rattle.grammar.specs.Tree.{Kind, conditions, effects};
-ghost use Rattle.grammar.specs.Reader.{conditionPoint, effectPoint, item, body, items};
+ghost use Rattle.grammar.specs.Reader.{condition_point, effect_point, item, body, items};
 ghost use Rattle.token_reader.specs.Reading.{cursor_of, Stands, Ready, Takes, Reads};
 ghost use Rattle.item_reader.specs.Kinds.{kind_of};
 
@@ -22,7 +22,7 @@ pub enum Items {
 // A condition behind "at".
 fn read_condition_point(text: &[u8], said: &mut [u64], r: Reader) -> Reader
     requires { Ready false text.now said.old r }
-    ensures { Reads false text.now said.old r conditionPoint said.new result }
+    ensures { Reads false text.now said.old r condition_point said.new result }
 {
     if sees_word(false, text, r, b"start") {
         let inner = take_word(false, text, r, b"start");
@@ -37,7 +37,7 @@ fn read_condition_point(text: &[u8], said: &mut [u64], r: Reader) -> Reader
 // An effect behind "at".
 fn read_effect_point(text: &[u8], said: &mut [u64], r: Reader) -> Reader
     requires { Ready false text.now said.old r }
-    ensures { Reads false text.now said.old r effectPoint said.new result }
+    ensures { Reads false text.now said.old r effect_point said.new result }
 {
     if sees_word(false, text, r, b"start") {
         let inner = take_word(false, text, r, b"start");

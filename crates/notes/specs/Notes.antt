@@ -1,7 +1,7 @@
 -- Between crates: what a note holds, and when a list notes what a text says.
 use Rattle.std.specs.Prelude.{ℕ, ◌+◌, ◌-◌, ◌*◌, ◌/◌, ◌%◌, ◌≤◌, ◌<◌, ◌≡◌, Bool, true, false, cond, List, [], ◌∷◌, map, eqb, length, get_or}
 use Rattle.std.proofs.Math.Seq.{slice}
-use Rattle.grammar.specs.Said.{at_start, overAll, atEnd, start, end, Place, wanted, set, reached, given}
+use Rattle.grammar.specs.Said.{at_start, over_all, at_end, start, end, Place, wanted, set, reached, given}
 use Rattle.grammar.specs.Said.{Role, action, fact, rise, fall, stock, planned, Said, name, number, Item}
 use Rattle.notes.specs.declared.Place as noted
 use Rattle.notes.specs.declared.Place.TheVariants.{WantedAtStart, WantedOverAll, WantedAtEnd, SetAtStart, SetAtEnd, Reached, Given}
@@ -75,8 +75,8 @@ abbrev pub role_list : List Role
 role_list =
     planned ∷ action ∷ planned ∷ stock ∷ rise start ∷ rise end ∷ fall start ∷ fall end
     ∷ fact (wanted at_start) false ∷ fact (wanted at_start) true
-    ∷ fact (wanted overAll) false ∷ fact (wanted overAll) true
-    ∷ fact (wanted atEnd) false ∷ fact (wanted atEnd) true
+    ∷ fact (wanted over_all) false ∷ fact (wanted over_all) true
+    ∷ fact (wanted at_end) false ∷ fact (wanted at_end) true
     ∷ fact (set start) false ∷ fact (set start) true
     ∷ fact (set end) false ∷ fact (set end) true
     ∷ fact reached false ∷ fact reached true
@@ -89,8 +89,8 @@ role_of c = get_or role_list c planned
 -- where a fact stands, and the number of its role
 abbrev pub place_of : noted.Place → Place
 place_of WantedAtStart = wanted at_start
-place_of WantedOverAll = wanted overAll
-place_of WantedAtEnd = wanted atEnd
+place_of WantedOverAll = wanted over_all
+place_of WantedAtEnd = wanted at_end
 place_of SetAtStart = set start
 place_of SetAtEnd = set end
 place_of Reached = reached

@@ -8,7 +8,7 @@ use native.Mathlib.Omega.{arith}
 use lib.ListN.{length}
 use Rattle.laws.proofs.Search.{either}
 use Rattle.little_endian.specs.Bytes.{u16_values, u32_values}
-use Rattle.grammar.specs.Said.{When, at_start, overAll, atEnd, Point, start, end, wanted, set, reached, given}
+use Rattle.grammar.specs.Said.{When, at_start, over_all, at_end, Point, start, end, wanted, set, reached, given}
 use Rattle.grammar.specs.Said.{action, fact, rise, fall, stock, planned, Said, name, number, Item}
 use Rattle.grammar.specs.Tree.{Word}
 use Rattle.job.specs.declared.records.Level.{Level}
@@ -109,12 +109,12 @@ module _ (words : List Word) (few : length words < u16_values) (step length : �
   condition_at_fits : (q : When) (v : Bool) (w : Word) → Every ConditionFits (condition_at words step length q v w)
   unfolding condition_at
   condition_at_fits at_start v w = (wanted_fits 0 0 v w (omega arith) (omega arith), tt)
-  condition_at_fits overAll v w =
+  condition_at_fits over_all v w =
       ⊎_elim
       (λ (t : nothing_inside length ≡ true). rw t tt)
       (λ (f : nothing_inside length ≡ false). rw f (wanted_fits 1 (length - 1) v w (omega arith) (omega arith), tt))
       (either (nothing_inside length))
-  condition_at_fits atEnd v w = (wanted_fits length length v w (omega arith) (omega arith), tt)
+  condition_at_fits at_end v w = (wanted_fits length length v w (omega arith) (omega arith), tt)
 
   condition_fits : (s : Said) → Every ConditionFits (condition_in words step length s)
   unfolding condition_in

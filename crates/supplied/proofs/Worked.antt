@@ -6,7 +6,7 @@ use mathlib.Core.Bool.{true, false}
 use mathlib.Core.List.{List, [], ◌∷◌, map}
 use Rattle.little_endian.specs.Bytes.{sign_bias}
 use Rattle.spelling.specs.Keywords.{same, codes}
-use Rattle.grammar.specs.Said.{at_start, overAll, atEnd, start, end, wanted, set, reached, given}
+use Rattle.grammar.specs.Said.{at_start, over_all, at_end, start, end, wanted, set, reached, given}
 use Rattle.grammar.specs.Said.{Role, action, fact, rise, fall, stock, planned, name, number, Item}
 use Rattle.grammar.specs.Reader.{Outcome, read, refused}
 use Rattle.job.specs.Model.{highest_level, no_deadline}
@@ -81,9 +81,9 @@ first_appearance = refl
 -- an action of two ticks, one of a single tick, what init gives, the goal
 abbrev two_actions : List Item
 two_actions =
-    says 0 action "lift" ∷ tells 0 2 ∷ says 0 (fact (wanted at_start) true) "free" ∷ says 0 (fact (wanted overAll) false) "shut"
+    says 0 action "lift" ∷ tells 0 2 ∷ says 0 (fact (wanted at_start) true) "free" ∷ says 0 (fact (wanted over_all) false) "shut"
     ∷ says 0 (fall start) "cars" ∷ tells 0 3 ∷ says 0 (fact (set end) false) "free"
-    ∷ says 1 action "wait" ∷ tells 1 1 ∷ says 1 (fact (wanted overAll) true) "shut" ∷ says 1 (fact (wanted atEnd) true) "free"
+    ∷ says 1 action "wait" ∷ tells 1 1 ∷ says 1 (fact (wanted over_all) true) "shut" ∷ says 1 (fact (wanted at_end) true) "free"
     ∷ says 1 (rise end) "cars" ∷ tells 1 4 ∷ says 1 (fact (set start) true) "dark"
     ∷ says 2 (fact given true) "free" ∷ says 2 stock "cars" ∷ tells 2 7
     ∷ says 3 (fact reached false) "free" ∷ says 3 (fact reached true) "dark" ∷ []

@@ -1,7 +1,7 @@
 -- The records that a step of a plan brings: "conditions, effects and uses go by step, then as in the action".
 use Rattle.std.specs.Prelude.{ℕ, suc, ◌+◌, ◌-◌, Bool, true, false, cond, List, [], ◌∷◌, ◌++◌, ltb}
 use Rattle.little_endian.specs.Bytes.{sign_bias}
-use Rattle.grammar.specs.Said.{When, at_start, overAll, atEnd, Point, start, end, wanted, set, reached, given}
+use Rattle.grammar.specs.Said.{When, at_start, over_all, at_end, Point, start, end, wanted, set, reached, given}
 use Rattle.grammar.specs.Said.{action, fact, rise, fall, stock, planned, Said, name, number, Item}
 use Rattle.grammar.specs.Tree.{Word}
 use Rattle.job.specs.declared.records.Goal.{Goal}
@@ -49,8 +49,8 @@ module _ (words : List Word) (step length : ℕ) where
 
   unfoldable pub condition_at : When → Bool → Word → List Condition
   condition_at at_start v w = wanted_from 0 0 v w
-  condition_at overAll v w = cond (nothing_inside length) [] (wanted_from 1 (length - 1) v w)
-  condition_at atEnd v w = wanted_from length length v w
+  condition_at over_all v w = cond (nothing_inside length) [] (wanted_from 1 (length - 1) v w)
+  condition_at at_end v w = wanted_from length length v w
 
   unfoldable pub condition_in : Said → List Condition
   condition_in (name (fact (wanted q) v) w) = condition_at q v w

@@ -10,7 +10,7 @@ use borrow.Author.Tests.{not-true, not-false}
 use Rattle.spelling.specs.Keywords.{durative_word, init_word}
 use Rattle.spelling.specs.Cursor.{here, is_bracket, is_word, is_stop}
 use Rattle.grammar.specs.Allowed.{depth_most}
-use Rattle.grammar.specs.Reader.{bracket, keyword, time, text, textBody, inits, initBody, lines, lineEnd}
+use Rattle.grammar.specs.Reader.{bracket, keyword, time, text, text_body, inits, init_body, lines, line_end}
 use Rattle.grammar.specs.Reader.{action_symbols, init_symbols}
 use Rattle.token_reader.specs.Reading.{cursor_of, Ready, Takes, Reads, Leads, Turns, Ends}
 use Rattle.token_reader.specs.declared.Reader.{Reader}
@@ -27,10 +27,10 @@ module _ {t list₀ list : List ℕ} {r₀ r : Reader} {y : Bool} where
   module _ (w : Turns false t list₀ r₀ inits list r inits)
       (e : y ≡ (eqb r.fault 0 && not (is_bracket 41 (here false t (cursor_of r))))) where
     pub inits_again :
-        {list' : List ℕ} {b a : Reader} → y ≡ true → Takes false t r (bracket 40) b → Reads false t list b initBody list' a
+        {list' : List ℕ} {b a : Reader} → y ≡ true → Takes false t r (bracket 40) b → Reads false t list b init_body list' a
         → Turns false t list₀ r₀ inits list' a inits
     inits_again f k p =
-        turned t (initBody ∷ []) w (λ _. inits_more _ (not-true _ (on_yes r.fault _ e f).1)) (λ σ. refl)
+        turned t (init_body ∷ []) w (λ _. inits_more _ (not-true _ (on_yes r.fault _ e f).1)) (λ σ. refl)
         (then (k.reads list w.ready) (lead p))
 
     pub inits_done : {a : Reader} → y ≡ false → Takes false t r (bracket 41) a → Reads false t list₀ r₀ inits list a
@@ -39,15 +39,15 @@ module _ {t list₀ list : List ℕ} {r₀ r : Reader} {y : Bool} where
         (stands w.ready.stands (λ z. inits_close _ (not-false _ (on_no r.fault _ e f z))) (lead (k.reads list w.ready)))
 
   -- actions
-  module _ (w : Turns false t list₀ r₀ textBody list r textBody)
+  module _ (w : Turns false t list₀ r₀ text_body list r text_body)
       (e : y ≡ (eqb r.fault 0 && is_word durative_word (here false t (cursor_of r)))) where
     pub actions_again :
         {list' : List ℕ} {b a : Reader} → y ≡ true → Leads false t list r action_row list' b → Takes false t b (bracket 40) a
-        → Turns false t list₀ r₀ textBody list' a textBody
+        → Turns false t list₀ r₀ text_body list' a text_body
     actions_again {list'} {b} f p k =
         let first = action_alike (here false t (cursor_of r)) (on_yes r.fault _ e f).1 in
-        let rest = alike false t list r textBody (keyword durative_word) (action_symbols depth_most) w.ready.stands (λ _. first) in
-        let mid : Turns false t list₀ r₀ textBody list' b text = turn_more action_row w rest p in
+        let rest = alike false t list r text_body (keyword durative_word) (action_symbols depth_most) w.ready.stands (λ _. first) in
+        let mid : Turns false t list₀ r₀ text_body list' b text = turn_more action_row w rest p in
         turned t [] mid (λ _. text_alike _) (λ σ. refl) (lead (k.reads list' mid.ready))
 
     pub text_done :
@@ -55,7 +55,7 @@ module _ {t list₀ list : List ℕ} {r₀ r : Reader} {y : Bool} where
         → Takes false t r (keyword init_word) b → Reads false t list b inits list' g → Ends false t list' g goal_row list'' a
         → Ends false t list₀ s (text ∷ []) list'' a
     text_done p k f i h z =
-        ends_alike (textBody ∷ []) [] p.stands (λ _. text_alike _)
+        ends_alike (text_body ∷ []) [] p.stands (λ _. text_alike _)
         (ends_then (k.reads list₀ p)
         (ends_turn [] w
         (ends_alike (init_symbols depth_most) [] w.ready.stands (λ v. init_alike _ (on_no r.fault _ e f v))
@@ -77,26 +77,26 @@ module _ {t list₀ list : List ℕ} {r₀ r : Reader} {y : Bool} where
 
 -- the end of a line
 module _ {t list : List ℕ} {r : Reader} (p : Ready true t list r) where
-  pub end_passes : (r.fault ≡ 0 → ⊥) → Turns true t list r lineEnd list r lines
+  pub end_passes : (r.fault ≡ 0 → ⊥) → Turns true t list r line_end list r lines
   end_passes f = record {
     ready = p;
     size = refl;
     onward = omega arith;
-    same = λ σ. outcome_fault true t list r (lineEnd ∷ σ) f ∙ sym (outcome_fault true t list r (lines ∷ σ) f);
+    same = λ σ. outcome_fault true t list r (line_end ∷ σ) f ∙ sym (outcome_fault true t list r (lines ∷ σ) f);
   }
 
-  pub end_stops : is_stop (here true t (cursor_of r)) ≡ true → Turns true t list r lineEnd list r lines
+  pub end_stops : is_stop (here true t (cursor_of r)) ≡ true → Turns true t list r line_end list r lines
   end_stops e = record {
     ready = p;
     size = refl;
     onward = omega arith;
-    same = alike true t list r lineEnd lines [] p.stands (λ _. stop_alike _ e);
+    same = alike true t list r line_end lines [] p.stands (λ _. stop_alike _ e);
   }
 
   pub end_goes :
       {y : Bool} {a : Reader} → y ≡ is_stop (here true t (cursor_of r)) → y ≡ false → Takes true t r (bracket 10) a
-      → Turns true t list r lineEnd list a lines
-  end_goes e f k = turned t [] (turn_start lineEnd p) (λ _. end_alike _ e f) (λ σ. refl) (lead (k.reads list p))
+      → Turns true t list r line_end list a lines
+  end_goes e f k = turned t [] (turn_start line_end p) (λ _. end_alike _ e f) (λ σ. refl) (lead (k.reads list p))
 
   -- an empty line, and one that is not
   module _ {y : Bool} (e : y ≡ is_bracket 10 (here true t (cursor_of r))) where
@@ -105,7 +105,7 @@ module _ {t list : List ℕ} {r : Reader} (p : Ready true t list r) where
 
     pub line_full :
         {list' : List ℕ} {b a : Reader} → y ≡ false → is_stop (here true t (cursor_of r)) ≡ false
-        → Leads true t list r (time ∷ line_row) list' b → Turns true t list' b lineEnd list' a lines → Turns true t list r lines list' a lines
+        → Leads true t list r (time ∷ line_row) list' b → Turns true t list' b line_end list' a lines → Turns true t list r lines list' a lines
     line_full {list'} {b} f g q z =
-        let mid : Turns true t list r lines list' b lineEnd = turned t line_row (turn_start lines p) (λ _. line_alike _ e f g) (λ σ. refl) q in
+        let mid : Turns true t list r lines list' b line_end = turned t line_row (turn_start lines p) (λ _. line_alike _ e f g) (λ σ. refl) q in
         turn_turn mid z

@@ -1,7 +1,7 @@
 // The plan, line by line.
 ghost use Rattle.std.specs.Prelude.{◌≡◌, true, false, not, ◌&&◌, List, [], ◌∷◌, ℕ, ◌<◌, eqb};
 ghost use Rattle.spelling.specs.Cursor.{here, is_stop};
-ghost use Rattle.grammar.specs.Reader.{lines, lineEnd};
+ghost use Rattle.grammar.specs.Reader.{lines, line_end};
 ghost use Rattle.token_reader.specs.Reading.{cursor_of, Stands, Ready, Turns, Ends};
 
 use token_reader::{Reader, sees_bracket, sees_end, take_bracket, take_name, take_time};
@@ -13,7 +13,7 @@ const LINE_END: u8 = 10;
 fn end_line(text: &[u8], r: Reader) -> Reader
     requires { Stands true text.now r }
     ensures fault_value { result.fault ≡ 0 → r.fault ≡ 0 }
-    ensures by_index { (list : List ℕ) → Ready true text.now list r → Turns true text.now list r lineEnd list result lines }
+    ensures by_index { (list : List ℕ) → Ready true text.now list r → Turns true text.now list r line_end list result lines }
 {
     if r.fault != 0 {
         return r;

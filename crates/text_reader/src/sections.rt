@@ -2,7 +2,7 @@
 ghost use Rattle.std.specs.Prelude.{◌≡◌, false, ◌&&◌, List, [], ◌∷◌, ℕ, eqb};
 ghost use Rattle.spelling.specs.Keywords.{durative_word};
 ghost use Rattle.spelling.specs.Cursor.{here, is_word};
-ghost use Rattle.grammar.specs.Reader.{Symbol, text, inits, initBody, finish};
+ghost use Rattle.grammar.specs.Reader.{Symbol, text, inits, init_body, finish};
 ghost use Rattle.token_reader.specs.Reading.{cursor_of, Stands, Ready, Reads, Leads, Ends};
 ghost use Rattle.text_reader.specs.Rows.{action_row, goal_row};
 
@@ -39,7 +39,7 @@ fn read_action(text: &[u8], said: &mut [u64], r: Reader) -> Reader
 // What init gives, one item behind its bracket.
 fn read_init_item(text: &[u8], said: &mut [u64], r: Reader) -> Reader
     requires { Ready false text.now said.old r }
-    ensures { Reads false text.now said.old r initBody said.new result }
+    ensures { Reads false text.now said.old r init_body said.new result }
 {
     if sees_word(false, text, r, b"=") {
         let inner = take_word(false, text, r, b"=");
