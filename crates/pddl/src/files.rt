@@ -1,48 +1,22 @@
 // The files that the arguments name.
-ghost use Rattle.io.specs.Counts.{IsPrefixLen};
+ghost use Rattle.std.specs.Io.{ReadsAtMost};
 
-// A file that was read: how much of the buffer it fills, or that it could not be.
-#[derive(Clone, Copy)]
-pub struct Text {
-    pub whole: bool,
-    pub len: usize,
-}
+use std::io::Read;
+use std::rt::Files;
+use std::{fs, io};
 
-// Reads the file of an argument into the front of a buffer, as much as it takes.
-pub fn read_file(i: usize, buf: &mut [u8]) -> Text
-    ensures { IsPrefixLen result.len buf.new }
+// Reads a file into the front of a buffer, as much as it takes, and answers how much of the buffer that is.
+pub fn read_file(rt: &impl Files, path: &str, buffer: &mut [u8]) -> io::Result<usize>
+    ensures { ReadsAtMost result buffer.new }
 {
-    let mut path = io::buffer();
-    let length = os::arg(i, &mut path);
-    let fd = os::open_read(&path[..length]);
-    if fd < 0 {
-        os::fail(&path[..length]);
-        return Text {
-            whole: false,
-            len: 0,
-        };
+    let mut file = fs::open(rt, path)?;
+    let mut filled = 0;
+    while filled < buffer.len() {
+        let n = file.read(&mut buffer[filled..])?;
+        if n == 0 {
+            break;
+        }
+        filled += n;
     }
-    let n = io::read_full(fd, buf);
-    libc::close(fd);
-    Text {
-        whole: true,
-        len: n,
-    }
-}
-
-// Writes the file of an argument, and answers whether it is whole.
-pub fn write_file(i: usize, bytes: &[u8]) -> bool {
-    let mut path = io::buffer();
-    let length = os::arg(i, &mut path);
-    let fd = os::open_overwrite(&path[..length]);
-    if fd < 0 {
-        os::fail(&path[..length]);
-        return false;
-    }
-    let is_written = io::write_all(fd, bytes);
-    if !is_written {
-        os::fail(&path[..length]);
-    }
-    libc::close(fd);
-    is_written
+    Ok(filled)
 }

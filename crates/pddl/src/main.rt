@@ -5,50 +5,59 @@ mod files;
 
 use from_pddl::job_from_texts;
 use job_from_notes::file::LONGEST_JOB;
-use libc::STDOUT_FILENO;
+use std::io::Write;
+use std::rt::Files;
+use std::{env, fs, io};
 use telling::LONGEST_LINE;
 use texts_answer::TextsAnswer;
 
+// A text may have a byte less, so a longer one is told from those that are not too long.
+const MOST_READ: usize = 65536;
+
 // Prints what the texts are answered.
-fn say(answer: TextsAnswer) {
+fn say(rt: &impl Print, answer: TextsAnswer) -> io::Result<()> {
     let mut line = [0u8; LONGEST_LINE];
     let n = telling::tell(answer, &mut line);
-    io::write_all(STDOUT_FILENO, &line[..n]);
+    io::writer(rt).write_all(&line[..n])
 }
 
 // Writes the job that was made and says so, or says why none was.
-fn finish(answer: TextsAnswer, job: &[u8]) {
+fn finish(
+    rt: &(impl Files + Print),
+    path: &str,
+    answer: TextsAnswer,
+    job: &[u8],
+) -> io::Result<()> {
     if texts_answer::number(answer) != 0 {
-        say(answer);
-        return;
+        return say(rt, answer);
     }
     let n = texts_answer::length(answer) as usize;
     if n <= job.len() {
-        if files::write_file(3, &job[..n]) {
-            say(answer);
-        }
+        fs::write(rt, path, &job[..n])?;
+        say(rt, answer)?;
     }
+    Ok(())
 }
 
-fn make() {
-    let mut actions = io::large_buffer();
-    let first = files::read_file(1, &mut actions);
-    let mut plan = io::large_buffer();
-    let second = files::read_file(2, &mut plan);
-    if !(first.whole & second.whole) {
-        return;
-    }
-    let m = first.len;
-    let n = second.len;
+fn make(
+    rt: &(impl Files + Print),
+    actions_path: &str,
+    plan_path: &str,
+    job_path: &str,
+) -> io::Result<()> {
+    let mut actions = [0u8; MOST_READ];
+    let m = files::read_file(rt, actions_path, &mut actions)?;
+    let mut plan = [0u8; MOST_READ];
+    let n = files::read_file(rt, plan_path, &mut plan)?;
     let mut job = [0u8; LONGEST_JOB];
     let answer = job_from_texts(&actions[..m], &plan[..n], &mut job);
-    finish(answer, &job);
+    finish(rt, job_path, answer, &job)
 }
 
-fn main() {
-    if os::arg_count() == 4 {
-        make();
-    } else {
-        io::write_all(STDOUT_FILENO, b"usage: pddl ACTIONS PLAN JOB\n");
+fn main(rt: HostRuntime) -> io::Result<()> {
+    let words: Vec<String> = env::args(&rt)?.collect(rt.alloc())?;
+    match words.as_slice() {
+        [_, actions, plan, job] => make(&rt, actions.as_str(), plan.as_str(), job.as_str()),
+        _ => println!(rt; "usage: pddl ACTIONS PLAN JOB"),
     }
 }

@@ -2,7 +2,8 @@
 ghost use Rattle.std.specs.Prelude.{◌≤◌, length};
 
 use crate::lines;
-use libc::STDOUT_FILENO;
+use std::io;
+use std::io::Write;
 
 // The longest buffer.
 pub const LONGEST_BUFFER: u32 = 65536;
@@ -11,22 +12,20 @@ pub const LONGEST_BUFFER: u32 = 65536;
 pub const FILL: u8 = 165;
 
 // A zero is a point: most bytes of a file are zeros, and a program may not print more than a megabyte.
-fn print_byte(b: u8) {
+fn print_byte(output: &mut impl Write, b: u8) -> io::Result<()> {
     if b == 0 {
-        io::write_all(STDOUT_FILENO, b".");
-        return;
+        return output.write_all(b".");
     }
-    io::print_hex(STDOUT_FILENO, b as u64, 2);
+    write!(output, "{b:02x}")
 }
 
-fn print_hex(bytes: &[u8], end: usize)
+fn print_hex(output: &mut impl Write, bytes: &[u8], end: usize) -> io::Result<()>
     requires { end ≤ length bytes.now }
 {
-    let mut i = 0;
-    while i < end {
-        print_byte(bytes[i]);
-        i += 1;
+    for b in &bytes[..end] {
+        print_byte(output, *b)?;
     }
+    Ok(())
 }
 
 // Where the last byte unlike the filling ends.
@@ -41,12 +40,12 @@ fn front(bytes: &[u8]) -> usize
 }
 
 // Prints a buffer up to its last byte unlike the filling, and how many follow.
-pub fn print_buffer(bytes: &[u8]) {
+pub fn print_buffer(output: &mut impl Write, bytes: &[u8]) -> io::Result<()> {
     let end = front(bytes);
-    io::write_all(STDOUT_FILENO, b" ");
+    output.write_all(b" ")?;
     if end == 0 {
-        io::write_all(STDOUT_FILENO, b"-");
+        output.write_all(b"-")?;
     }
-    print_hex(bytes, end);
-    lines::print_number((bytes.len() - end) as u64);
+    print_hex(output, bytes, end)?;
+    lines::print_number(output, (bytes.len() - end) as u64)
 }

@@ -1,32 +1,34 @@
 // Cases about loosening.
 use crate::buffers::{FILL, LONGEST_BUFFER};
-use crate::fields::{read_field, read_number};
+use crate::fields::{LONGEST_FIELD, read_field, read_number};
 use crate::{buffers, lines};
 use partialize::answer;
+use std::io;
+use std::io::{Read, Write};
 
 // Loosens a job into a whole buffer, and prints the line.
-fn print_loosened(file: &[u8], out: &mut [u8]) -> bool {
+fn print_loosened(output: &mut impl Write, file: &[u8], out: &mut [u8]) -> io::Result<bool> {
     let a = partialize::partialize(file, out);
-    lines::begin(b"l", answer::number(a), answer::place(a));
-    lines::print_number(answer::length(a) as u64);
-    buffers::print_buffer(out);
-    lines::end()
+    lines::begin(output, b"l", answer::number(a), answer::place(a))?;
+    lines::print_number(output, answer::length(a) as u64)?;
+    buffers::print_buffer(output, out)?;
+    lines::end(output)
 }
 
 // `l`: loosening into a buffer of a given length.
-pub fn serve_loosen(fd: i32) -> bool {
-    let mut file = io::large_buffer();
-    let field = read_field(fd, &mut file);
-    let room = read_number(fd);
+pub fn serve_loosen(cases: &mut impl Read, output: &mut impl Write) -> io::Result<bool> {
+    let mut file = [0u8; LONGEST_FIELD];
+    let field = read_field(cases, &mut file)?;
+    let room = read_number(cases)?;
     if !(field.whole & room.whole) {
-        return lines::bad_cases();
+        return lines::bad_cases(output);
     }
     if LONGEST_BUFFER < room.value {
-        return lines::bad_cases();
+        return lines::bad_cases(output);
     }
     let mut out = [FILL; LONGEST_BUFFER as usize];
     let n = field.len;
     let from = 0;
     let k = room.value as usize;
-    print_loosened(&file[..n], &mut out[from..k])
+    print_loosened(output, &file[..n], &mut out[from..k])
 }

@@ -11,42 +11,44 @@ mod texts;
 mod timing;
 mod well_formed;
 
+use std::fs::File;
+use std::io;
+use std::io::{BufReader, BufWriter, Read, Write};
+
 // Serves the next case, and answers whether to go on.
-fn serve(fd: i32) -> bool {
+fn serve(cases: &mut impl Read, output: &mut impl Write) -> io::Result<bool> {
     let mut command = [0u8; 1];
-    if io::read_full(fd, &mut command) == 0 {
-        return false;
+    if fields::fill(cases, &mut command)? == 0 {
+        return Ok(false);
     }
     let letter = command[0];
     match letter {
-        b'w' => well_formed::serve_form(fd),
-        b'c' => timing::serve_job(fd),
-        b't' => timing::serve_schedule(fd),
-        b'l' => loosen::serve_loosen(fd),
-        b'p' => pairs::serve_pairs(fd),
-        b'f' => texts::serve_texts(fd),
-        b'h' => order_files::serve_header(fd),
-        b'r' => order_files::serve_record(fd),
-        b'a' => order_files::serve_alike(fd),
-        _ => lines::bad_cases(),
+        b'w' => well_formed::serve_form(cases, output),
+        b'c' => timing::serve_job(cases, output),
+        b't' => timing::serve_schedule(cases, output),
+        b'l' => loosen::serve_loosen(cases, output),
+        b'p' => pairs::serve_pairs(cases, output),
+        b'f' => texts::serve_texts(cases, output),
+        b'h' => order_files::serve_header(cases, output),
+        b'r' => order_files::serve_record(cases, output),
+        b'a' => order_files::serve_alike(cases, output),
+        _ => lines::bad_cases(output),
     }
 }
 
-// A proved loop has to end, and nothing says that a file does: the turns are counted down.
-fn serve_all(fd: i32) {
-    let mut turns = u64::MAX;
-    while turns > 0 && serve(fd) {
-        turns -= 1;
+// A proved loop has to end, and nothing says that a file does: the turns are counted.
+fn serve_all(cases: &mut impl Read, output: &mut impl Write) -> io::Result<()> {
+    for _ in 0..u64::MAX {
+        if !serve(cases, output)? {
+            break;
+        }
     }
+    Ok(())
 }
 
-fn main() {
-    let path = b"cases";
-    let fd = os::open_read(path);
-    if fd < 0 {
-        os::fail(path);
-        return;
-    }
-    serve_all(fd);
-    libc::close(fd);
+fn main(rt: HostRuntime) -> io::Result<()> {
+    let mut cases = BufReader::new(rt.alloc(), File::open(&rt, "cases")?)?;
+    let mut output = BufWriter::new(rt.alloc(), rt.stdout())?;
+    serve_all(&mut cases, &mut output)?;
+    output.flush()
 }

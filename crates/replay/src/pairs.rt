@@ -1,18 +1,20 @@
 // Cases about the search by pairs.
-use crate::fields::read_field;
+use crate::fields::{LONGEST_FIELD, read_field};
 use crate::lines;
 use pair_search::answer;
+use std::io;
+use std::io::{Read, Write};
 
 // `p`: the search by pairs.
-pub fn serve_pairs(fd: i32) -> bool {
-    let mut file = io::large_buffer();
-    let field = read_field(fd, &mut file);
+pub fn serve_pairs(cases: &mut impl Read, output: &mut impl Write) -> io::Result<bool> {
+    let mut file = [0u8; LONGEST_FIELD];
+    let field = read_field(cases, &mut file)?;
     if !field.whole {
-        return lines::bad_cases();
+        return lines::bad_cases(output);
     }
     let n = field.len;
     let a = pair_search::compare_pairs(&file[..n]);
-    lines::begin(b"p", answer::number(a), answer::place(a));
-    lines::print_number(answer::compared(a) as u64);
-    lines::end()
+    lines::begin(output, b"p", answer::number(a), answer::place(a))?;
+    lines::print_number(output, u64::from(answer::compared(a)))?;
+    lines::end(output)
 }

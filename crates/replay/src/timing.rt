@@ -1,8 +1,10 @@
 // Cases about the timing of a job.
 ghost use Rattle.std.specs.Prelude.{◌≤◌, length, ◌≡◌};
 
-use crate::fields::{read_field, read_number};
+use crate::fields::{LONGEST_FIELD, read_field, read_number};
 use crate::lines;
+use std::io;
+use std::io::{Read, Write};
 
 // The most starts that a field holds.
 const MOST_STARTS: usize = 16384;
@@ -14,16 +16,16 @@ const MOST_FURTHER: u32 = 65536;
 const LONGEST_LIST: usize = 81920;
 
 // `c`: the job check.
-pub fn serve_job(fd: i32) -> bool {
-    let mut file = io::large_buffer();
-    let field = read_field(fd, &mut file);
+pub fn serve_job(cases: &mut impl Read, output: &mut impl Write) -> io::Result<bool> {
+    let mut file = [0u8; LONGEST_FIELD];
+    let field = read_field(cases, &mut file)?;
     if !field.whole {
-        return lines::bad_cases();
+        return lines::bad_cases(output);
     }
     let n = field.len;
     let v = schedule::check_job(&file[..n]);
-    lines::begin(b"c", verdict::number(v), verdict::place(v));
-    lines::end()
+    lines::begin(output, b"c", verdict::number(v), verdict::place(v))?;
+    lines::end(output)
 }
 
 // The first n of a field's u32 numbers, followed by zeros.
@@ -49,26 +51,26 @@ fn check_decoded(file: &[u8], bytes: &[u8], n: usize, all: usize) -> verdict::Ve
 }
 
 // `t`: the timing check of the starts in a field and so many further starts of 0.
-pub fn serve_schedule(fd: i32) -> bool {
-    let mut file = io::large_buffer();
-    let mut list = io::large_buffer();
-    let field = read_field(fd, &mut file);
-    let starts = read_field(fd, &mut list);
-    let further = read_number(fd);
+pub fn serve_schedule(cases: &mut impl Read, output: &mut impl Write) -> io::Result<bool> {
+    let mut file = [0u8; LONGEST_FIELD];
+    let mut list = [0u8; LONGEST_FIELD];
+    let field = read_field(cases, &mut file)?;
+    let starts = read_field(cases, &mut list)?;
+    let further = read_number(cases)?;
     let len = starts.len;
     let n = len / 4;
     if !(field.whole & starts.whole & further.whole & (len % 4 == 0)) {
-        return lines::bad_cases();
+        return lines::bad_cases(output);
     }
     if MOST_STARTS < n {
-        return lines::bad_cases();
+        return lines::bad_cases(output);
     }
     if MOST_FURTHER < further.value {
-        return lines::bad_cases();
+        return lines::bad_cases(output);
     }
     let m = field.len;
     let all = n + further.value as usize;
     let v = check_decoded(&file[..m], &list[..len], n, all);
-    lines::begin(b"t", verdict::number(v), verdict::place(v));
-    lines::end()
+    lines::begin(output, b"t", verdict::number(v), verdict::place(v))?;
+    lines::end(output)
 }

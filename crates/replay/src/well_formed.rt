@@ -1,16 +1,18 @@
 // Cases about the form of a job.
-use crate::fields::read_field;
+use crate::fields::{LONGEST_FIELD, read_field};
 use crate::lines;
+use std::io;
+use std::io::{Read, Write};
 
 // `w`: the well-formedness check.
-pub fn serve_form(fd: i32) -> bool {
-    let mut file = io::large_buffer();
-    let field = read_field(fd, &mut file);
+pub fn serve_form(cases: &mut impl Read, output: &mut impl Write) -> io::Result<bool> {
+    let mut file = [0u8; LONGEST_FIELD];
+    let field = read_field(cases, &mut file)?;
     if !field.whole {
-        return lines::bad_cases();
+        return lines::bad_cases(output);
     }
     let n = field.len;
     let v = form::check_form(&file[..n]);
-    lines::begin(b"w", verdict::number(v), verdict::place(v));
-    lines::end()
+    lines::begin(output, b"w", verdict::number(v), verdict::place(v))?;
+    lines::end(output)
 }

@@ -1,13 +1,31 @@
 // Prints the sheet of the job on standard input, or its refusal.
 #![tactic(auto)]
 
-use libc::{STDIN_FILENO, STDOUT_FILENO};
-use printout::{INPUT, MOST_TEXT, show_input};
+ghost use Rattle.std.specs.Io.{ReadsAtMost};
 
-fn main() {
+use printout::{INPUT, MOST_TEXT, show_input};
+use std::io;
+use std::io::{Read, Write};
+
+// Reads until the buffer is full or the input ends, and answers how much of the buffer it filled.
+fn fill(input: &mut impl Read, buffer: &mut [u8]) -> io::Result<usize>
+    ensures { ReadsAtMost result buffer.new }
+{
+    let mut filled = 0;
+    while filled < buffer.len() {
+        let n = input.read(&mut buffer[filled..])?;
+        if n == 0 {
+            break;
+        }
+        filled += n;
+    }
+    Ok(filled)
+}
+
+fn main(rt: HostRuntime) -> io::Result<()> {
     let mut buffer = [0u8; INPUT];
-    let n = io::read_full(STDIN_FILENO, &mut buffer);
+    let n = fill(&mut rt.stdin(), &mut buffer)?;
     let mut text = [0u8; MOST_TEXT];
     let length = show_input(&buffer, n, &mut text);
-    io::write_all(STDOUT_FILENO, &text[..length]);
+    rt.stdout().write_all(&text[..length])
 }
