@@ -18,8 +18,7 @@ use Rattle.orders.proofs.Within.{nth_known}
 use Rattle.links.specs.Numbered.{Numbered}
 use Rattle.partialize.specs.Found.{Timed}
 use borrow.Author.Rules.{rules}
-use Rattle.partialize.proofs.file_points.Statement.{statement}
-use Rattle.partialize.proofs.file_points.Tie as tie
+use Rattle.partialize.proofs.file_points.Goals as goal
 
 -- an empty table reads as no order everywhere
 zeros : (p : ℕ) → get_or {A = ℕ} (replicate table_size 0) p 0 ≡ 0
@@ -35,14 +34,9 @@ file_numbers :
     → get_or after k 0 ≡ link_number m (nth_link (clocked m) (schedule_of starts) k)
 file_numbers m starts links after p n k h = n.each k h ∙ ap (link_number m) (p.linked.each k h)
 
-pub file_points_spec : {M : Type 1} → statement M
-file_points_spec =
-    tie.close
-    (tie.spec
-    (λ c. search rules)
-    (λ c κs.
-    let start = c.before.before.before.before.before.before.before.before in
-    let p = start.requires.0 in
+pub fill_gaps-requires : goal.fill_gaps-requires
+fill_gaps-requires c =
+    let p = c.requires.0 in
     let v = p.timed.valid in
     let w = v.form in (
       record {
@@ -54,68 +48,59 @@ file_points_spec =
         size = refl;
         empty = zeros;
       },
-      start.requires.1,
+      c.requires.1,
       v.written,
-    ))
-    (λ c. search rules)
-    (λ c κs.
-    let start = c.before.before.before.before.before.before.before.before.before.before.before.before in
-    let p = start.requires.0 in
+    )
+
+pub find_limits-requires : goal.find_limits-requires
+find_limits-requires c =
+    let p = c.requires.0 in
     let v = p.timed.valid in
     let w = v.form in (
       record { form = w; known = p.known; valid = v.valid; clock = v.clock },
       record { linked = p.timed.linked; room = omega (arith, p.timed.size, w.condition_count, w.goal_count) },
-      start.requires.1,
+      c.requires.1,
       all_are 0,
-    ))
-    (λ c. search rules)
-    (λ c κs.
-    let start = c.before.before.before.before.before.before.before.before.before.before.before.before.before.before.before.before in
-    let p = start.requires.0 in
+    )
+
+pub find_latest-requires : goal.find_latest-requires
+find_latest-requires c =
+    let p = c.requires.0 in
     let v = p.timed.valid in
     let w = v.form in (
       record { form = w; known = p.known; valid = v.valid; clock = v.clock },
       record { linked = p.timed.linked; room = omega (arith, p.timed.size, w.condition_count, w.goal_count) },
-      start.requires.1,
+      c.requires.1,
       all_are no_latest,
-    ))
-    (λ c κs.
-    let found = c.before.before.before.before.before.before.before.before.before.before in
-    let start = found.before.before.before.before.before.before.before.before.before in
-    let p = start.requires.0.timed in
+    )
+
+pub number_links-requires : goal.number_links-requires
+number_links-requires c =
+    let p = c.requires.0.timed in
     let w = p.valid.form in
     record {
       few = (w.effect_count, w.timed_count);
       room = omega (arith, p.size, w.condition_count, w.goal_count);
       each = λ k h. rw (p.linked.each k h) (nth_known _ _ (clocked_form _ w) p.valid.valid k h);
-    })
-    (λ c. search rules)
-    (λ c κs.
-    let numbered = c.before.before.before.before.before.before.before in
-    let late = numbered.before.before.before in
-    let limited = late.before.before.before.before in
-    let filled = limited.before.before.before.before in
-    let p = filled.before.before.before.before.before.before.before.before.before.requires.0.timed in
+    }
+
+pub file_found-requires : goal.file_found-requires
+file_found-requires c =
+    let p = c.requires.0.timed in
     let w = p.valid.form in
     record {
       step_count = w.step_count;
       link_count = omega (arith, w.condition_count, w.goal_count);
-      bounded = limited.find-limits.ensures.bounded;
-      late = late.find-latest.ensures.size;
-      linked = (numbered.number-links.ensures []).size ∙ p.size;
-      table = filled.fill-gaps.ensures.whole;
-      rows = filled.fill-gaps.ensures.rest;
-    })
-    (λ c. search rules)
-    (λ c. search rules)
-    (λ c.
-    let filed = c.before.before in
-    let numbered = filed.before.before.before.before.before.before.before.before in
-    let late = numbered.before.before.before in
-    let limited = late.before.before.before.before in
-    let filled = limited.before.before.before.before in
-    let start = filled.before.before.before.before.before.before.before.before.before in
-    let s = start.args.s.now in
-    filed.file-found.ensures s _ limited.find-limits.ensures late.find-latest.ensures
-    (file_numbers (view start.args.job s) start.args.starts.now _ _ start.requires.0.timed (numbered.number-links.ensures s))
-    filled.fill-gaps.ensures))
+      bounded = c.find_limits.ensures.bounded;
+      late = c.find_latest.ensures.size;
+      linked = (c.number_links.ensures []).size ∙ p.size;
+      table = c.fill_gaps.ensures.whole;
+      rows = c.fill_gaps.ensures.rest;
+    }
+
+pub returns : goal.returns
+returns c =
+    let s = c.args.s.now in
+    c.file_found.ensures s _ c.find_limits.ensures c.find_latest.ensures
+    (file_numbers (view c.args.job s) c.args.starts.now _ _ c.requires.0.timed (c.number_links.ensures s))
+    c.fill_gaps.ensures
