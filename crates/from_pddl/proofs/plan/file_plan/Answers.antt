@@ -1,0 +1,58 @@
+-- The plan's fault, the first line that differs, too many lines, or what the job of the notes is answered.
+use Prim.Native.Nat.{ℕ}
+use mathlib.Core.Path.{refl, sym}
+use mathlib.Core.List.{[]}
+use native.Mathlib.Omega.{arith}
+use borrow.Author.Rules.{rules}
+use lib.ListN.{length-replicate}
+use Rattle.notes.specs.Notes.{notes_most}
+use Rattle.from_pddl.proofs.Blank.{no_notes}
+use Rattle.from_pddl.proofs.Planned.{lines_length, lines_readable, plan_outside, line_refused, too_many_lines, notes_walked, rest_answered}
+use Rattle.from_pddl.proofs.plan.file_plan.Goals as goal
+
+pub read_plan-r-requires : goal.read_plan-r-requires
+read_plan-r-requires c = (length-replicate {A = ℕ} notes_most 0, no_notes)
+
+pub returns-then-r-ne0 : goal.returns-then-r-ne0
+returns-then-r-ne0 c = plan_outside _ _ _ c.read_plan-r.ensures _ _ _ (λ z. omega (arith, z)) refl
+
+pub slice_bounds-check_lines-end : goal.slice_bounds-check_lines-end
+slice_bounds-check_lines-end c = sym (lines_length _ _ _ c.read_plan-r.ensures)
+
+pub check_lines-first-requires : goal.check_lines-first-requires
+check_lines-first-requires c =
+    let p = c.requires in
+    let h = c.read_plan-r.ensures in
+    (p.0, p.1.indexed, lines_readable _ _ _ h, length-replicate {A = ℕ} 64 0)
+
+pub returns-then-first-n : goal.returns-then-first-n
+returns-then-first-n c =
+    let h = c.read_plan-r.ensures in
+    let l = c.check_lines-first.ensures in
+    line_refused _ _ _ h _ _ _ _ _ l (omega arith) _ (omega arith) c.line.ensures.0
+
+pub returns-then-n : goal.returns-then-n
+returns-then-n c =
+    let h = c.read_plan-r.ensures in
+    let l = c.check_lines-first.ensures in
+    too_many_lines _ _ _ h _ _ _ _ _ l (omega arith) (omega arith) (omega arith)
+
+pub slice_bounds-file_notes-end : goal.slice_bounds-file_notes-end
+slice_bounds-file_notes-end c =
+    let h = c.read_plan-r.ensures in
+    sym (lines_length _ _ _ h)
+
+pub file_notes-requires : goal.file_notes-requires
+file_notes-requires c =
+    let p = c.requires in
+    let h = c.read_plan-r.ensures in
+    let l = c.check_lines-first.ensures in
+    let size = p.1.numbered.size in
+    (notes_walked _ _ _ h _ _ _ [] _ l (omega arith) (omega arith) p.0 (omega arith), omega (arith, size, p.0.few))
+
+pub returns : goal.returns
+returns c =
+    let p = c.requires in
+    let h = c.read_plan-r.ensures in
+    rest_answered _ _ _ h _ _ _ _ _ c.check_lines-first.ensures (omega arith) (omega arith) _ _ _ _ _ p.0 p.1 (omega arith)
+    c.file_notes.ensures
