@@ -14,7 +14,6 @@ use Rattle.spelling.specs.Cursor.{is_bracket, is_such, is_stop}
 use Rattle.spelling.proofs.Same.{same_eq, same_refl}
 use Rattle.grammar.specs.Said.{When, Point, start, end, Place, at_start, over_all, at_end}
 use Rattle.grammar.specs.Said.{Said}
-use Rattle.grammar.specs.Said as say
 use Rattle.grammar.specs.Tree.{Word, Literal, plain, negated, Change, sets, increases, decreases, Kind, conditions, effects, goals}
 use Rattle.grammar.specs.Tree.{Leaf, Tree, one, both, Trees, none, more, Action, Init, holds, level}
 use Rattle.grammar.specs.Tree.{Plan, nothing, last, blank, then}

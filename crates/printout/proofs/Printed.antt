@@ -9,7 +9,6 @@ use native.Mathlib.Omega.{arith}
 use borrow.Author.Tests.{le-leb, eqb-true, eqb-false}
 use lib.ListN.{length, take, length-append}
 use Rattle.laws.proofs.Search.{either}
-use Rattle.verdict.specs.Verdict as verdict
 use Rattle.job.specs.Model.{model_of}
 use Rattle.validity.specs.Checks.{job_check}
 use Rattle.validity.proofs.Accepted.{job_promise}

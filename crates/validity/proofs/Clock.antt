@@ -1,6 +1,6 @@
 -- A conflict of effects names a step's effect: two timed facts are of one step, so one of the two that conflict is a step's, and has the
 -- lower number.
-use Prim.Native.Nat.{ℕ, ◌-◌, ◌≤◌, ◌<◌}
+use Prim.Native.Nat.{ℕ, ◌≤◌, ◌<◌}
 use mathlib.Core.Path.{◌≡◌, sym, ◌∙◌}
 use native.Mathlib.Decide.{dec_lt}
 use native.Mathlib.Omega.{arith}

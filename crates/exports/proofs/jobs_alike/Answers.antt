@@ -1,4 +1,3 @@
-use borrow.Author.Rules.{rules}
 use Rattle.order_answers.specs.Answers.{AlikePromise}
 use Rattle.packing.specs.Packed.{packed_alike}
 use Rattle.exports.proofs.Carried.{carried}

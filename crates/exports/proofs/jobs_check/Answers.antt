@@ -1,4 +1,3 @@
-use borrow.Author.Rules.{rules}
 use Rattle.validity.specs.Promise.{JobPromise}
 use Rattle.packing.specs.Packed.{packed_verdict}
 use Rattle.exports.proofs.Carried.{carried}

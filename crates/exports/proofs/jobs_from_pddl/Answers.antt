@@ -1,4 +1,3 @@
-use borrow.Author.Rules.{rules}
 use Rattle.texts_answer.specs.Promise.{TextsPromise}
 use Rattle.packing.specs.Packed.{packed_texts}
 use Rattle.exports.proofs.Carried.{carried}

@@ -1,5 +1,4 @@
 use mathlib.Core.Path.{ap, ◌∙◌}
-use borrow.Author.Rules.{rules}
 use Rattle.order_answers.specs.Answers.{HeaderPromise}
 use Rattle.packing.specs.Packed.{packed_header}
 use Rattle.listing.specs.Listed.{filled, header_list}

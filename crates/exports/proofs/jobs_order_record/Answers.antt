@@ -1,5 +1,4 @@
 use mathlib.Core.Path.{ap, ◌∙◌}
-use borrow.Author.Rules.{rules}
 use Rattle.order_answers.specs.Answers.{RecordPromise}
 use Rattle.packing.specs.Packed.{packed_record}
 use Rattle.listing.specs.Listed.{filled, record_list}

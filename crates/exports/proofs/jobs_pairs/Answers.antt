@@ -1,4 +1,3 @@
-use borrow.Author.Rules.{rules}
 use Rattle.pair_search.specs.Answer.{PairsPromise}
 use Rattle.packing.specs.Packed.{packed_pairs}
 use Rattle.exports.proofs.Carried.{carried}

@@ -1,4 +1,3 @@
-use borrow.Author.Rules.{rules}
 use Rattle.partialize.specs.Demands.{Promise}
 use Rattle.packing.specs.Packed.{packed_answer}
 use Rattle.exports.proofs.Carried.{carried}

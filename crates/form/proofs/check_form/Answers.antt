@@ -1,5 +1,4 @@
 -- The verdict of the form that was read, and what it says.
-use borrow.Author.Rules.{rules}
 use Rattle.form.proofs.Refused.{form_refusal}
 use Rattle.form.proofs.check_form.Goals as goal
 

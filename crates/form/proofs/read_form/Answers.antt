@@ -11,7 +11,6 @@ use Rattle.record_check.proofs.Laid.{read_laid}
 use Rattle.form.specs.Refusals.{form_check, FormPromise}
 use Rattle.form.proofs.WellFormed.{well_formed_lem}
 use Rattle.form.proofs.Decides.{read_refused, read_passed}
-use borrow.Author.Rules.{rules}
 use Rattle.form.proofs.read_form.Goals as goal
 
 -- what is well formed follows from the verdict

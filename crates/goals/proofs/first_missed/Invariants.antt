@@ -1,10 +1,7 @@
 use Prim.Native.Nat.{◌-◌}
-use native.Mathlib.Omega.{arith}
-use Rattle.laws.proofs.Search.{lowest_start, lowest_more, lowest_found, lowest_end}
 use Rattle.job.specs.Clocked.{clocked}
 use Rattle.job.specs.Model.{view}
 use Rattle.goals.proofs.GoalRuns.{GoalsTried}
-use borrow.Author.Rules.{rules}
 use Rattle.goals.proofs.first_missed.Given as goal
 
 abbrev pub invariant-loop-g : goal.invariant-loop-g

@@ -2,7 +2,6 @@
 use mathlib.Core.Path.{sym, ap, ◌∙◌}
 use native.Mathlib.Omega.{arith}
 use Rattle.goals.proofs.GoalRuns.{goal_read, goal_group_ends, goal_unset, goal_unseen, goal_by_run}
-use borrow.Author.Rules.{rules}
 use Rattle.goals.proofs.goal_fails.Goals as goal
 
 pub begin_at-low-requires : goal.begin_at-low-requires

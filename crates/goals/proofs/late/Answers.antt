@@ -3,7 +3,6 @@ use mathlib.Core.Path.{refl, ap}
 use mathlib.Core.Bool.{not, ◌&&◌}
 use native.Mathlib.Omega.{arith}
 use lib.Dec.{ltb, eqb}
-use borrow.Author.Rules.{rules}
 use Rattle.goals.proofs.late.Goals as goal
 
 pub returns-then-deadline-eq-NO_DEADLINE : goal.returns-then-deadline-eq-NO_DEADLINE

@@ -1,7 +1,6 @@
 -- Too many records, or the job's bytes checked.
 use Prim.Native.Nat.{ℕ}
 use native.Mathlib.Omega.{arith}
-use borrow.Author.Rules.{rules}
 use lib.ListN.{length-replicate}
 use Rattle.job_filing.proofs.Counted.{low_fits, each_low, filed_high, writable, front_long, front_within, front_short, filed_checked}
 use Rattle.job_filing.proofs.file_notes.Goals as goal

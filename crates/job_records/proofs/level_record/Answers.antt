@@ -1,5 +1,4 @@
 -- The three numbers are the record's.
-use borrow.Author.Rules.{rules}
 use Rattle.job_records.proofs.level_record.Goals as goal
 
 pub returns : goal.returns

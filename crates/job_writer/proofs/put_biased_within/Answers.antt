@@ -1,5 +1,4 @@
 -- Whole multiples of what four bytes hold are left out before the bias is added.
-use borrow.Author.Rules.{rules}
 use Rattle.job_writer.proofs.PutRecord.{put_biased}
 use Rattle.job_writer.proofs.put_biased_within.Goals as goal
 

@@ -1,5 +1,4 @@
 -- Each field is put behind the one before it.
-use borrow.Author.Rules.{rules}
 use Rattle.job_writer.proofs.PutRecord.{put_condition}
 use Rattle.job_writer.proofs.write_condition.Goals as goal
 

@@ -1,5 +1,4 @@
 -- Each number is put behind the one before it.
-use borrow.Author.Rules.{rules}
 use Rattle.job_writer.proofs.PutHeader.{put_header}
 use Rattle.job_writer.proofs.write_header.Goals as goal
 

@@ -1,6 +1,5 @@
 -- Each number is put behind the one before it.
 use mathlib.Core.Path.{refl}
-use borrow.Author.Rules.{rules}
 use Rattle.job_writer.proofs.PutHeader.{put_offsets}
 use Rattle.job_writer.proofs.write_offsets.Goals as goal
 

@@ -1,6 +1,5 @@
 -- The fields are the record's, which lies within the bytes.
 use native.Mathlib.Omega.{arith}
-use borrow.Author.Rules.{rules}
 use Rattle.laid_records.proofs.effect_within.Goals as goal
 
 pub u16_within-requires : goal.u16_within-requires

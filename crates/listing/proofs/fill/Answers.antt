@@ -1,10 +1,7 @@
 -- The first k numbers stand.
-use Prim.Native.Nat.{◌-◌, ◌≤◌}
-use mathlib.Core.Path.{◌≡◌, refl, sym, ◌∙◌}
-use lib.ListN.{length, take}
-use Rattle.listing.specs.Listed.{filled}
+use Prim.Native.Nat.{◌-◌}
+use mathlib.Core.Path.{refl, sym, ◌∙◌}
 use Rattle.listing.proofs.Filling.{filled_none, fill_more, fill_end}
-use borrow.Author.Rules.{rules}
 use native.Mathlib.Omega.{arith}
 use Rattle.listing.proofs.fill.Goals as goal
 

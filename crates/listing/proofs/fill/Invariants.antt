@@ -1,10 +1,7 @@
 use Prim.Native.Nat.{◌-◌, ◌≤◌}
-use mathlib.Core.Path.{◌≡◌, refl, sym, ◌∙◌}
+use mathlib.Core.Path.{◌≡◌}
 use lib.ListN.{length, take}
 use Rattle.listing.specs.Listed.{filled}
-use Rattle.listing.proofs.Filling.{filled_none, fill_more, fill_end}
-use borrow.Author.Rules.{rules}
-use native.Mathlib.Omega.{arith}
 use Rattle.listing.proofs.fill.Given as goal
 
 abbrev pub invariant-loop-k : goal.invariant-loop-k

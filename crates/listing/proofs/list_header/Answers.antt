@@ -1,5 +1,4 @@
 use mathlib.Core.Path.{sym, ap, ◌∙◌}
-use borrow.Author.Rules.{rules}
 use Rattle.listing.specs.Listed.{filled, header_list}
 use Rattle.listing.proofs.Filling.{filled_none}
 use Rattle.listing.proofs.list_header.Goals as goal

@@ -5,7 +5,6 @@ use mir.Syntax.{w32}
 use mir.Facts.{to_z-of_z}
 use mir.Val.{SFits, to_z, of_z}
 use lib.IntN.{ℤ}
-use native.Mathlib.Omega.{arith}
 use borrow.Author.Rules.{rules}
 use Rattle.listing.specs.Listed.{filled, bits, record_list}
 use Rattle.listing.proofs.Filling.{filled_none}

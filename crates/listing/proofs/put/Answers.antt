@@ -1,6 +1,5 @@
 use mathlib.Core.Path.{sym}
 use lib.Seq.{set_out}
-use borrow.Author.Rules.{rules}
 use Rattle.listing.proofs.put.Goals as goal
 
 pub returns-else-at-list : goal.returns-else-at-list

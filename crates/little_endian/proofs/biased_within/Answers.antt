@@ -1,5 +1,4 @@
 use Rattle.little_endian.proofs.Bytes.{biased}
-use borrow.Author.Rules.{rules}
 use Rattle.little_endian.proofs.biased_within.Goals as goal
 
 pub returns : goal.returns

@@ -1,6 +1,5 @@
 use mathlib.Core.Path.{sym}
 use Rattle.little_endian.proofs.Bytes.{byte_out}
-use borrow.Author.Rules.{rules}
 use native.Mathlib.Omega.{arith}
 use Rattle.little_endian.proofs.byte_at.Goals as goal
 

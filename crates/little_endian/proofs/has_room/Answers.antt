@@ -6,7 +6,6 @@ use native.Mathlib.Omega.{arith}
 use lib.Dec.{leb}
 use lib.ListN.{length}
 use borrow.Author.Tests.{lt-leb, le-leb}
-use borrow.Author.Rules.{rules}
 use Rattle.little_endian.proofs.has_room.Goals as goal
 
 none : (at n end : ℕ) → end < n → false ≡ leb (at + n) end

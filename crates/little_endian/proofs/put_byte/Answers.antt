@@ -1,6 +1,5 @@
 use mathlib.Core.Path.{sym}
 use lib.Seq.{set_out}
-use borrow.Author.Rules.{rules}
 use Rattle.little_endian.proofs.put_byte.Goals as goal
 
 pub returns-else-at-s : goal.returns-else-at-s

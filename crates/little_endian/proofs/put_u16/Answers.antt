@@ -1,6 +1,5 @@
 use mathlib.Core.Path.{◌∙◌}
 use Rattle.little_endian.proofs.Bytes.{room, no_room, sets_cut}
-use borrow.Author.Rules.{rules}
 use Rattle.little_endian.proofs.put_u16.Goals as goal
 
 pub put_u16_within-requires : goal.put_u16_within-requires

@@ -2,7 +2,6 @@ use mathlib.Core.Path.{sym}
 use Rattle.little_endian.specs.Bytes.{u32_bytes}
 use Rattle.little_endian.proofs.Sets.{sets_out}
 use Rattle.little_endian.proofs.Bytes.{room, put_halves}
-use borrow.Author.Rules.{rules}
 use Rattle.little_endian.proofs.put_u32.Goals as goal
 
 pub put_u32_within-requires : goal.put_u32_within-requires

@@ -1,5 +1,4 @@
 use Rattle.little_endian.proofs.Bytes.{put_halves}
-use borrow.Author.Rules.{rules}
 use Rattle.little_endian.proofs.put_u32_within.Goals as goal
 
 pub returns : goal.returns

@@ -1,6 +1,5 @@
 -- The condition is the one that the word names.
 use native.Mathlib.Omega.{arith}
-use borrow.Author.Rules.{rules}
 use Rattle.moves.proofs.Near.{condition_near}
 use Rattle.moves.proofs.lower_condition.Goals as goal
 

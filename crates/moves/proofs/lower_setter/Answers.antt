@@ -1,7 +1,6 @@
 -- What the code reads of the point is what it holds.
 use mathlib.Core.Path.{ap}
 use native.Mathlib.Omega.{arith}
-use borrow.Author.Rules.{rules}
 use Rattle.validity.specs.Ticks.{schedule_of}
 use Rattle.moves.proofs.lower_setter.Goals as goal
 

@@ -1,6 +1,5 @@
 -- The latest start is the lower of two.
 use native.Mathlib.Omega.{arith}
-use borrow.Author.Rules.{rules}
 use Rattle.moves.specs.Moved.{Down}
 use Rattle.moves.proofs.Moved.{down_same, down_on, moved_none, moved_kept, moved_put, before_one}
 use Rattle.moves.proofs.lower_start.Goals as goal

@@ -1,6 +1,5 @@
 -- The limit is the larger of two.
 use native.Mathlib.Omega.{arith}
-use borrow.Author.Rules.{rules}
 use Rattle.moves.specs.Moved.{Up}
 use Rattle.moves.proofs.Moved.{up_same, up_on, moved_kept, moved_put}
 use Rattle.moves.proofs.raise_limit.Goals as goal

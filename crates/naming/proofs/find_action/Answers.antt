@@ -1,7 +1,6 @@
 -- The first appearance of a name is an action, or no item of that name is.
 use native.Mathlib.Omega.{arith}
 use mathlib.Core.Path.{sym, ◌∙◌}
-use borrow.Author.Rules.{rules}
 use Rattle.naming.proofs.Acting.{action_found, action_other, action_none}
 use Rattle.naming.proofs.Looking.{looked_part}
 use Rattle.naming.proofs.find_action.Goals as goal

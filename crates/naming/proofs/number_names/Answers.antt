@@ -1,12 +1,8 @@
 -- Items are passed one by one, up to the first that may not stand where it does.
-use Prim.Native.Nat.{◌≤◌, ◌-◌}
+use Prim.Native.Nat.{◌-◌}
 use mathlib.Core.Path.{sym, ◌∙◌, ap}
-use lib.ListN.{length}
 use native.Mathlib.Omega.{arith}
 use borrow.Author.Tests.{not-true, not-false}
-use borrow.Author.Rules.{rules}
-use Rattle.notes.specs.Notes.{items_in}
-use Rattle.naming.specs.Passed.{Passed}
 use Rattle.naming.proofs.Onward.{passed_start}
 use Rattle.naming.proofs.Finding.{found_clash, found_all}
 use mathlib.Core.Bool.{not}

@@ -1,13 +1,7 @@
 use Prim.Native.Nat.{◌≤◌, ◌-◌}
-use mathlib.Core.Path.{sym, ◌∙◌}
 use lib.ListN.{length}
-use native.Mathlib.Omega.{arith}
-use borrow.Author.Tests.{not-true, not-false}
-use borrow.Author.Rules.{rules}
 use Rattle.notes.specs.Notes.{items_in}
 use Rattle.naming.specs.Passed.{Passed}
-use Rattle.naming.proofs.Onward.{passed_start}
-use Rattle.naming.proofs.Finding.{found_clash, found_all}
 use Rattle.naming.proofs.number_names.Given as goal
 
 abbrev pub invariant-loop-k : goal.invariant-loop-k

@@ -1,7 +1,6 @@
 -- What the amount is below 0, if it counts.
 use mathlib.Core.Path.{refl, ap}
 use native.Mathlib.Omega.{arith}
-use borrow.Author.Rules.{rules}
 use borrow.Author.Tests.{not-true, not-false}
 use mathlib.Core.Bool.{not}
 use Rattle.needs.proofs.fall_of.Goals as goal

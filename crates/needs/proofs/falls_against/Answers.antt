@@ -2,10 +2,7 @@
 use Prim.Native.Nat.{◌-◌}
 use mathlib.Core.Path.{refl}
 use native.Mathlib.Omega.{arith}
-use borrow.Author.Rules.{rules}
-use Rattle.job.specs.Clocked.{clocked}
-use Rattle.job.specs.Model.{view}
-use Rattle.needs.proofs.LevelNeeds.{Counting, counting_start, counting_more, counting_low, counting_ends}
+use Rattle.needs.proofs.LevelNeeds.{counting_start, counting_more, counting_low, counting_ends}
 use Rattle.needs.proofs.falls_against.Goals as goal
 
 pub loop-q-init : goal.loop-q-init

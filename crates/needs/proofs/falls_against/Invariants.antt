@@ -1,10 +1,7 @@
 use Prim.Native.Nat.{◌-◌}
-use mathlib.Core.Path.{refl}
-use native.Mathlib.Omega.{arith}
-use borrow.Author.Rules.{rules}
 use Rattle.job.specs.Clocked.{clocked}
 use Rattle.job.specs.Model.{view}
-use Rattle.needs.proofs.LevelNeeds.{Counting, counting_start, counting_more, counting_low, counting_ends}
+use Rattle.needs.proofs.LevelNeeds.{Counting}
 use Rattle.needs.proofs.falls_against.Given as goal
 
 abbrev pub invariant-loop-q : goal.invariant-loop-q

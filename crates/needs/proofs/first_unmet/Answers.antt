@@ -1,11 +1,6 @@
 -- Level by level: every need is of one of them.
-use Prim.Native.Nat.{ℕ, ◌-◌}
+use Prim.Native.Nat.{◌-◌}
 use native.Mathlib.Omega.{arith}
-use borrow.Author.Rules.{rules}
-use Rattle.job.specs.Clocked.{clocked}
-use Rattle.job.specs.Model.{view}
-use Rattle.points.specs.Points.{PointsKnown}
-use Rattle.needs.specs.LevelNeeds.{NeedsOfLevels}
 use Rattle.laws.proofs.Noted.{noted_start, noted_lowest}
 use Rattle.needs.proofs.first_unmet.Goals as goal
 

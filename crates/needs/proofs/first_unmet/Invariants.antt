@@ -1,11 +1,8 @@
 use Prim.Native.Nat.{ℕ, ◌-◌}
-use native.Mathlib.Omega.{arith}
-use borrow.Author.Rules.{rules}
 use Rattle.job.specs.Clocked.{clocked}
 use Rattle.job.specs.Model.{view}
 use Rattle.points.specs.Points.{PointsKnown}
 use Rattle.needs.specs.LevelNeeds.{NeedsOfLevels}
-use Rattle.laws.proofs.Noted.{noted_start, noted_lowest}
 use Rattle.needs.proofs.first_unmet.Given as goal
 
 abbrev pub invariant-loop-l : goal.invariant-loop-l

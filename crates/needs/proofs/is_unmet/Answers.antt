@@ -1,6 +1,5 @@
 -- What the level has risen to, against the need's least and the falls.
 use native.Mathlib.Omega.{arith}
-use borrow.Author.Rules.{rules}
 use Rattle.levels.proofs.LevelSweeps.{summed_low}
 use Rattle.needs.proofs.LevelNeeds.{need_low, unmet_there}
 use Rattle.needs.proofs.is_unmet.Goals as goal

@@ -1,12 +1,8 @@
 use Prim.Native.Nat.{ℕ, ◌-◌}
-use native.Mathlib.Omega.{arith}
-use borrow.Author.Rules.{rules}
 use Rattle.job.specs.Clocked.{clocked}
 use Rattle.job.specs.Model.{view}
 use Rattle.timeline.specs.Words.{word_tick}
 use Rattle.needs.specs.LevelNeeds.{Behind}
-use Rattle.levels.proofs.LevelSweeps.{summed_low}
-use Rattle.needs.proofs.LevelNeeds.{behind_more, behind_ends}
 use Rattle.needs.proofs.sums_before.Given as goal
 
 abbrev pub invariant-loop-sums : goal.invariant-loop-sums

@@ -1,10 +1,9 @@
 -- Need by need, beside the uses.
 use Prim.Native.Nat.{◌-◌}
 use native.Mathlib.Omega.{arith}
-use borrow.Author.Rules.{rules}
 use Rattle.job.specs.Clocked.{clocked}
 use Rattle.job.specs.Model.{view}
-use Rattle.needs.proofs.LevelNeeds.{Visited, visited_start, visited_listed, visited_behind, visited_one, visited_more, visited_end}
+use Rattle.needs.proofs.LevelNeeds.{visited_start, visited_listed, visited_behind, visited_one, visited_more, visited_end}
 use Rattle.needs.proofs.with_level.Goals as goal
 
 pub begin_at-high-requires : goal.begin_at-high-requires

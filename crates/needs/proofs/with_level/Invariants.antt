@@ -1,9 +1,7 @@
 use Prim.Native.Nat.{◌-◌}
-use native.Mathlib.Omega.{arith}
-use borrow.Author.Rules.{rules}
 use Rattle.job.specs.Clocked.{clocked}
 use Rattle.job.specs.Model.{view}
-use Rattle.needs.proofs.LevelNeeds.{Visited, visited_start, visited_listed, visited_behind, visited_one, visited_more, visited_end}
+use Rattle.needs.proofs.LevelNeeds.{Visited}
 use Rattle.needs.proofs.with_level.Given as goal
 
 abbrev pub invariant-loop-q : goal.invariant-loop-q

@@ -1,5 +1,4 @@
 use native.Mathlib.Omega.{arith}
-use borrow.Author.Rules.{rules}
 use Rattle.notes.proofs.fact_role.Goals as goal
 
 pub returns-then-value : goal.returns-then-value

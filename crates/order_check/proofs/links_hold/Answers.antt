@@ -1,8 +1,6 @@
 use Prim.Native.Nat.{◌-◌}
-use Rattle.order_file.specs.Layout.{contents_of}
 use Rattle.order_check.specs.WellFormed.{link_holds}
-use Rattle.order_check.proofs.Passed.{Passed, passed_start, passed_more, passed_found, passed_end}
-use borrow.Author.Rules.{rules}
+use Rattle.order_check.proofs.Passed.{passed_start, passed_more, passed_found, passed_end}
 use native.Mathlib.Omega.{arith}
 use mathlib.Core.Path.{ap}
 use mathlib.Core.Bool.{not}

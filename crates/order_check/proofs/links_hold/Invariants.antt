@@ -1,9 +1,7 @@
 use Prim.Native.Nat.{◌-◌}
 use Rattle.order_file.specs.Layout.{contents_of}
 use Rattle.order_check.specs.WellFormed.{link_holds}
-use Rattle.order_check.proofs.Passed.{Passed, passed_start, passed_more, passed_found, passed_end}
-use borrow.Author.Rules.{rules}
-use native.Mathlib.Omega.{arith}
+use Rattle.order_check.proofs.Passed.{Passed}
 use Rattle.order_check.proofs.links_hold.Given as goal
 
 abbrev pub invariant-loop-k : goal.invariant-loop-k

@@ -1,7 +1,6 @@
 use mathlib.Core.Bool.{true, false, not}
 use mathlib.Core.Path.{ap}
 use Rattle.order_answers.proofs.Answers.{first_broken, second_broken, both_compared}
-use borrow.Author.Rules.{rules}
 use Rattle.order_reader.proofs.alike.Goals as goal
 
 pub returns-then-not-well_formed : goal.returns-then-not-well_formed

@@ -1,7 +1,6 @@
 -- Part by part.
 use mathlib.Core.Path.{ap, ◌∙◌}
 use native.Mathlib.Omega.{arith}
-use borrow.Author.Rules.{rules}
 use Rattle.job.specs.Model.{view}
 use Rattle.origins.proofs.last_origin.Goals as goal
 

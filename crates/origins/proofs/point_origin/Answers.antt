@@ -1,6 +1,5 @@
 -- Part by part.
 use native.Mathlib.Omega.{arith}
-use borrow.Author.Rules.{rules}
 use Rattle.origins.proofs.point_origin.Goals as goal
 
 pub offset_of-requires : goal.offset_of-requires

@@ -1,7 +1,6 @@
 -- The larger of two.
 use Prim.Native.Nat.{◌+◌, ◌*◌}
 use native.Mathlib.Omega.{arith}
-use borrow.Author.Rules.{rules}
 use Rattle.order_file.specs.Table.{row_width}
 use Rattle.origins.proofs.Raised.{raised_put}
 use Rattle.origins.proofs.raise.Goals as goal

@@ -1,7 +1,6 @@
 use mathlib.Core.Path.{◌≡◌, refl, ap, ◌∙◌}
 use mathlib.Core.Bool.{Bool, true, false, cond}
 use mir.Val.{bool_byte}
-use borrow.Author.Rules.{rules}
 use Rattle.packing.proofs.Repacked.{repacked}
 use Rattle.packing.proofs.packed_alike.Goals as goal
 

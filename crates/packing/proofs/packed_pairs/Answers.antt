@@ -1,4 +1,3 @@
-use borrow.Author.Rules.{rules}
 use Rattle.packing.proofs.Repacked.{repacked}
 use Rattle.packing.proofs.packed_pairs.Goals as goal
 

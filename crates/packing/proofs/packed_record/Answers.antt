@@ -1,5 +1,4 @@
 use mathlib.Core.Path.{refl}
-use borrow.Author.Rules.{rules}
 use Rattle.packing.proofs.Repacked.{repacked}
 use Rattle.packing.proofs.packed_record.Goals as goal
 

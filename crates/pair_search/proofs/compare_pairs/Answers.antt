@@ -6,7 +6,6 @@ use Rattle.job.specs.Model.{view}
 use Rattle.record_check.proofs.Ranged.{read_ranged}
 use Rattle.record_check.proofs.Laid.{read_laid}
 use Rattle.against.specs.Pairs.{pair_search}
-use borrow.Author.Rules.{rules}
 use Rattle.pair_search.specs.Answer.{found_in}
 use Rattle.pair_search.proofs.Promised.{searched, refused}
 use Rattle.pair_search.proofs.compare_pairs.Goals as goal

@@ -1,12 +1,9 @@
 -- The steps up to this one are passed, and no pair of theirs is found.
 use Prim.Native.Nat.{◌-◌}
-use mathlib.Core.Path.{◌≡◌, refl, sym}
+use mathlib.Core.Path.{refl, sym}
 use native.Mathlib.Omega.{arith}
-use lib.ListN.{length}
 use Rattle.timeline.proofs.Indexing.{growing_start}
-use Rattle.job.specs.Layout.{most_effects}
-use Rattle.job.specs.Model.{view}
-use Rattle.pair_search.proofs.Stepping.{PassedSteps, steps_start, steps_more, steps_found, steps_end}
+use Rattle.pair_search.proofs.Stepping.{steps_start, steps_more, steps_found, steps_end}
 use Rattle.pair_search.proofs.search_pairs.Goals as goal
 
 pub link_effects-requires : goal.link_effects-requires

@@ -5,7 +5,6 @@ use mathlib.Core.List.{List}
 use native.Mathlib.Omega.{arith}
 use lib.ListN.{length, take, drop, length-drop}
 use lib.Seq.{take_all}
-use borrow.Author.Rules.{rules}
 use Rattle.against.specs.Onward.{through_pairs}
 use Rattle.pair_search.specs.Keys.{opposed}
 use Rattle.pair_search.proofs.KeySearch.{step_keys}

@@ -15,7 +15,6 @@ use Rattle.gaps.specs.Table.{TableOf}
 use Rattle.partialize.specs.Found.{LimitsFound, LatestFound}
 use Rattle.partialize.specs.Holds.{Holds}
 use Rattle.partialize.proofs.Found.{found_holds, found_length, written_short, written_file}
-use borrow.Author.Rules.{rules}
 use Rattle.partialize.proofs.file_found.Goals as goal
 use Rattle.partialize.proofs.file_found.Goals.{After-link_at-length}
 

@@ -17,7 +17,6 @@ use Rattle.orders.specs.File.{link_number}
 use Rattle.orders.proofs.Within.{nth_known}
 use Rattle.links.specs.Numbered.{Numbered}
 use Rattle.partialize.specs.Found.{Timed}
-use borrow.Author.Rules.{rules}
 use Rattle.partialize.proofs.file_points.Goals as goal
 
 -- an empty table reads as no order everywhere

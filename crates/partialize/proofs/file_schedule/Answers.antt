@@ -8,7 +8,6 @@ use Rattle.job.proofs.Clocked.{clocked_form}
 use Rattle.validity.specs.Ticks.{schedule_of}
 use Rattle.points.proofs.Own.{own_known}
 use Rattle.order_file.specs.Contents.{link_limit}
-use borrow.Author.Rules.{rules}
 use Rattle.partialize.proofs.file_schedule.Goals as goal
 
 pub find_links-requires : goal.find_links-requires

@@ -1,7 +1,6 @@
 -- The points of the steps in order, then the file.
 use native.Mathlib.Omega.{arith}
 use Rattle.job.proofs.Ranged.{well_formed_ranged}
-use borrow.Author.Rules.{rules}
 use Rattle.partialize.proofs.file_timed.Goals as goal
 
 pub list_own_points-requires : goal.list_own_points-requires

@@ -1,6 +1,5 @@
 -- The points in order, then the check and the file.
 use native.Mathlib.Omega.{arith}
-use borrow.Author.Rules.{rules}
 use Rattle.partialize.proofs.loosen.Goals as goal
 
 pub loosen_small-requires : goal.loosen_small-requires

@@ -6,7 +6,6 @@ use Rattle.job.specs.Model.{view}
 use Rattle.job.specs.WellFormed.{Ranged}
 use Rattle.verdict.specs.Verdict.{number}
 use Rattle.partialize.proofs.Promised.{refused_promise}
-use borrow.Author.Rules.{rules}
 use Rattle.partialize.proofs.partialize.Goals as goal
 use Rattle.partialize.proofs.partialize.Goals.{Else-number-ne0}
 

@@ -1,11 +1,9 @@
 -- No line passed differs, and each action stands where it is kept.
-use Prim.Native.Nat.{◌/◌, ◌-◌}
+use Prim.Native.Nat.{◌-◌}
 use mathlib.Core.Path.{sym, ◌∙◌}
 use native.Mathlib.Omega.{arith}
-use lib.ListN.{length, length-map}
-use borrow.Author.Rules.{rules}
+use lib.ListN.{length-map}
 use Rattle.notes.specs.Notes.{item_in}
-use Rattle.plan_check.specs.LineAction.{Upto}
 use Rattle.plan_check.proofs.Lines.{upto_start, upto_more, checked_other, checked_all}
 use Rattle.plan_check.proofs.check_lines.Goals as goal
 

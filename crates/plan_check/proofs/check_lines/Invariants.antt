@@ -1,11 +1,6 @@
 use Prim.Native.Nat.{◌/◌, ◌-◌}
-use mathlib.Core.Path.{sym, ◌∙◌}
-use native.Mathlib.Omega.{arith}
-use lib.ListN.{length, length-map}
-use borrow.Author.Rules.{rules}
-use Rattle.notes.specs.Notes.{item_in}
+use lib.ListN.{length}
 use Rattle.plan_check.specs.LineAction.{Upto}
-use Rattle.plan_check.proofs.Lines.{upto_start, upto_more, checked_other, checked_all}
 use Rattle.plan_check.proofs.check_lines.Given as goal
 
 abbrev pub invariant-loop-s : goal.invariant-loop-s

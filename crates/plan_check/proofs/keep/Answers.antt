@@ -1,7 +1,6 @@
 -- A store past the end changes nothing.
 use mathlib.Core.Path.{sym}
 use lib.Seq.{set_out}
-use borrow.Author.Rules.{rules}
 use Rattle.plan_check.proofs.keep.Goals as goal
 
 pub returns-else-s-acts : goal.returns-else-s-acts

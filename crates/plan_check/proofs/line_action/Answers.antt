@@ -2,7 +2,6 @@
 use Prim.Native.Nat.{◌+◌, ◌*◌}
 use mathlib.Core.Path.{sym, ◌∙◌}
 use native.Mathlib.Omega.{arith}
-use borrow.Author.Rules.{rules}
 use Rattle.plan_check.proofs.Lines.{line_unnamed, line_none, line_other, line_found}
 use Rattle.plan_check.proofs.line_action.Goals as goal
 

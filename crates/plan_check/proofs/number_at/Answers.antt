@@ -1,5 +1,4 @@
 -- What item k says is what comes first from it on.
-use borrow.Author.Rules.{rules}
 use Rattle.plan_check.proofs.Lines.{leading_at, leading_none}
 use Rattle.plan_check.proofs.number_at.Goals as goal
 

@@ -1,6 +1,5 @@
 -- A number says itself, a name 0.
 use mathlib.Core.Path.{sym, ◌∙◌}
-use borrow.Author.Rules.{rules}
 use Rattle.plan_check.proofs.Lines.{number_says, name_says}
 use Rattle.plan_check.proofs.number_of.Goals as goal
 

@@ -1,7 +1,6 @@
 -- The parts of a condition's word are within their spans.
 use mathlib.Core.Path.{◌∙◌}
 use native.Mathlib.Omega.{arith}
-use borrow.Author.Rules.{rules}
 use Rattle.point_words.proofs.Parts.{condition_parts}
 use Rattle.point_words.proofs.condition_word.Goals as goal
 

@@ -1,7 +1,6 @@
 -- The parts of an effect's word are within their spans.
 use mathlib.Core.Path.{◌∙◌}
 use native.Mathlib.Omega.{arith}
-use borrow.Author.Rules.{rules}
 use Rattle.point_words.proofs.Parts.{effect_parts}
 use Rattle.point_words.proofs.effect_word.Goals as goal
 

@@ -1,7 +1,6 @@
 -- The parts of a need's word are within their spans.
 use mathlib.Core.Path.{◌∙◌}
 use native.Mathlib.Omega.{arith}
-use borrow.Author.Rules.{rules}
 use Rattle.point_words.proofs.Parts.{need_parts}
 use Rattle.point_words.proofs.need_word.Goals as goal
 

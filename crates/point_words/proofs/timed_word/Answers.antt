@@ -1,7 +1,6 @@
 -- The parts of a timed fact's word are within their spans.
 use mathlib.Core.Path.{◌∙◌}
 use native.Mathlib.Omega.{arith}
-use borrow.Author.Rules.{rules}
 use Rattle.job.specs.Model.{view}
 use Rattle.validity.specs.Ticks.{schedule_of}
 use Rattle.point_words.proofs.Parts.{timed_parts, clock_word}

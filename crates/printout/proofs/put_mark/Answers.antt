@@ -1,7 +1,6 @@
 -- With the mark the line is put, without it nothing.
 use mathlib.Core.Path.{refl, sym, ◌∙◌}
 use native.Mathlib.Omega.{arith}
-use borrow.Author.Rules.{rules}
 use Rattle.printout.proofs.Mark.{marked_line, unmarked_line}
 use Rattle.printout.proofs.put_mark.Goals as goal
 

@@ -1,7 +1,6 @@
 -- What was read decides.
 use mathlib.Core.Path.{sym}
 use lib.Seq.{length-take-le}
-use borrow.Author.Rules.{rules}
 use Rattle.printout.proofs.Beginning.{input_shown}
 use Rattle.printout.proofs.show_input.Goals as goal
 

@@ -1,6 +1,5 @@
 -- The table picks the count.
 use mathlib.Core.Path.{refl}
-use borrow.Author.Rules.{rules}
 use Rattle.ranges.proofs.count_in.Goals as goal
 
 pub returns-in-Facts : goal.returns-in-Facts

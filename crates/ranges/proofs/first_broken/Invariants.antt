@@ -1,12 +1,8 @@
 use Prim.Native.Nat.{◌≤◌, ◌-◌}
-use mathlib.Core.Path.{◌≡◌, ap}
-use mathlib.Core.Bool.{not}
-use native.Mathlib.Omega.{arith}
+use mathlib.Core.Path.{◌≡◌}
 use Rattle.laws.specs.Search.{lowest}
-use Rattle.laws.proofs.Search.{lowest_start, lowest_more, lowest_found, lowest_end}
 use Rattle.job.specs.Model.{view}
 use Rattle.ranges.specs.Ranges.{record_broken}
-use borrow.Author.Rules.{rules}
 use Rattle.ranges.proofs.first_broken.Given as goal
 
 abbrev pub invariant-loop-k : goal.invariant-loop-k

@@ -1,5 +1,4 @@
 -- The table picks the test.
-use borrow.Author.Rules.{rules}
 use Rattle.ranges.proofs.record_ok.Goals as goal
 
 pub condition_ok-requires : goal.condition_ok-requires

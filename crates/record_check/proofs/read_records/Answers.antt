@@ -13,7 +13,6 @@ use Rattle.verdict.specs.Verdict.{number, ◌then◌}
 use Rattle.verdict.proofs.Chain.{stands, decides}
 use Rattle.record_check.proofs.Ranged.{ranged}
 use Rattle.record_check.proofs.Laid.{header_laid}
-use borrow.Author.Rules.{rules}
 use Rattle.record_check.proofs.read_records.Goals as goal
 
 -- the ranges follow from the verdict

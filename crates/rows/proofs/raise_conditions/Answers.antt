@@ -1,6 +1,5 @@
 -- Pairs or rows.
 use native.Mathlib.Omega.{arith}
-use borrow.Author.Rules.{rules}
 use Rattle.origins.proofs.Reached.{reached_either}
 use Rattle.rows.proofs.raise_conditions.Goals as goal
 

@@ -1,6 +1,5 @@
 -- Refusal 7, then 17.
 use Rattle.verdict.proofs.Chain.{stands, decides}
-use borrow.Author.Rules.{rules}
 use Rattle.schedule.proofs.check_against.Goals as goal
 
 pub returns-then-number-ne0 : goal.returns-then-number-ne0

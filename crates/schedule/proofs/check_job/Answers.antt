@@ -10,9 +10,7 @@ use Rattle.validity.specs.Ticks.{planned}
 use Rattle.validity.specs.Checks.{starts_check, timing_check, job_check}
 use Rattle.validity.proofs.Accepted.{job_promise}
 use Rattle.validity.proofs.Planned.{planned_check}
-use Rattle.schedule.specs.Opened.{Read}
 use Rattle.schedule.proofs.Reading.{read_in_range, read_form}
-use borrow.Author.Rules.{rules}
 use Rattle.schedule.proofs.check_job.Goals as goal
 
 pub returns-then-number-ne0 : goal.returns-then-number-ne0

@@ -3,7 +3,6 @@ use mathlib.Core.Path.{sym, ap, ◌∙◌}
 use Rattle.verdict.specs.Verdict.{number}
 use Rattle.verdict.proofs.Chain.{stands, decides}
 use Rattle.schedule.proofs.Reading.{read_in_range, read_lies, read_formed}
-use borrow.Author.Rules.{rules}
 use Rattle.schedule.proofs.check_named.Goals as goal
 
 pub check_against-v-requires : goal.check_against-v-requires

@@ -10,7 +10,6 @@ use Rattle.validity.specs.Checks.{starts_check, schedule_check}
 use Rattle.validity.proofs.Accepted.{schedule_promise}
 use Rattle.schedule.specs.Opened.{Read}
 use Rattle.schedule.proofs.Reading.{read_form}
-use borrow.Author.Rules.{rules}
 use Rattle.schedule.proofs.check_schedule.Goals as goal
 use Rattle.schedule.proofs.check_schedule.Goals.{Else-number-ne0}
 

@@ -1,7 +1,6 @@
 -- The points in the order of their ticks, then the refusals.
 use native.Mathlib.Omega.{arith}
 use Rattle.schedule.proofs.Reading.{read_in_range, read_lies}
-use borrow.Author.Rules.{rules}
 use Rattle.schedule.proofs.check_small.Goals as goal
 
 pub list_points-requires : goal.list_points-requires

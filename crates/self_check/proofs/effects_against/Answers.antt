@@ -1,13 +1,11 @@
 -- The lowest step found so far is kept; one more effect lowers it or not.
-use Prim.Native.Nat.{◌≤◌, ◌-◌}
-use mathlib.Core.Path.{◌≡◌, sym, ap}
+use Prim.Native.Nat.{◌-◌}
+use mathlib.Core.Path.{sym, ap}
 use native.Mathlib.Omega.{arith}
-use Rattle.laws.specs.Search.{lowest_owner}
 use Rattle.laws.proofs.Search.{owner_start, owner_more, owner_end}
 use Rattle.timeline.proofs.Indexing.{growing_start}
 use Rattle.job.specs.declared.records.Effect.{Effect}
-use Rattle.job.specs.Model.{view}
-use Rattle.against.specs.Against.{opposes_any, opposes_own_step}
+use Rattle.against.specs.Against.{opposes_own_step}
 use borrow.Author.Rules.{rules}
 use Rattle.self_check.proofs.effects_against.Goals as goal
 

@@ -1,13 +1,8 @@
 use Prim.Native.Nat.{◌≤◌, ◌-◌}
-use mathlib.Core.Path.{◌≡◌, sym, ap}
-use native.Mathlib.Omega.{arith}
+use mathlib.Core.Path.{◌≡◌}
 use Rattle.laws.specs.Search.{lowest_owner}
-use Rattle.laws.proofs.Search.{owner_start, owner_more, owner_end}
-use Rattle.timeline.proofs.Indexing.{growing_start}
-use Rattle.job.specs.declared.records.Effect.{Effect}
 use Rattle.job.specs.Model.{view}
-use Rattle.against.specs.Against.{opposes_any, opposes_own_step}
-use borrow.Author.Rules.{rules}
+use Rattle.against.specs.Against.{opposes_any}
 use Rattle.self_check.proofs.effects_against.Given as goal
 
 abbrev pub invariant-loop-k : goal.invariant-loop-k

@@ -1,10 +1,8 @@
 -- Each condition becomes the last of its key.
-use Prim.Native.Nat.{◌≤◌, ◌-◌}
+use Prim.Native.Nat.{◌-◌}
 use mathlib.Core.Path.{ap₂, ◌∙◌}
 use native.Mathlib.Omega.{arith}
-use Rattle.job.specs.Model.{view}
-use Rattle.self_check.specs.Keys.{step_key, condition_key}
-use Rattle.timeline.specs.Indexed.{Growing}
+use Rattle.self_check.specs.Keys.{step_key}
 use Rattle.timeline.proofs.Indexing.{growing_more, growing_end}
 use borrow.Author.Rules.{rules}
 use Rattle.self_check.proofs.link_conditions.Goals as goal

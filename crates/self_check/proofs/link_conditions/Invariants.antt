@@ -1,11 +1,7 @@
 use Prim.Native.Nat.{◌≤◌, ◌-◌}
-use mathlib.Core.Path.{ap₂, ◌∙◌}
-use native.Mathlib.Omega.{arith}
 use Rattle.job.specs.Model.{view}
-use Rattle.self_check.specs.Keys.{step_key, condition_key}
+use Rattle.self_check.specs.Keys.{condition_key}
 use Rattle.timeline.specs.Indexed.{Growing}
-use Rattle.timeline.proofs.Indexing.{growing_more, growing_end}
-use borrow.Author.Rules.{rules}
 use Rattle.self_check.proofs.link_conditions.Given as goal
 
 abbrev pub invariant-loop-c : goal.invariant-loop-c

@@ -1,12 +1,10 @@
 -- A search back along the conditions of one key.
-use Prim.Native.Nat.{ℕ}
-use mathlib.Core.Path.{◌≡◌, ap, ◌∙◌}
+use mathlib.Core.Path.{ap, ◌∙◌}
 use native.Mathlib.Omega.{arith}
 use Rattle.laws.proofs.Search.{any_found}
-use Rattle.laws.proofs.Linked.{WalkBack, ahead, back_start, back_more, back_less, back_end}
+use Rattle.laws.proofs.Linked.{back_start, back_more, back_less, back_end}
 use Rattle.job.specs.declared.records.Effect.{Effect}
-use Rattle.job.specs.Model.{view, effect_of}
-use Rattle.self_check.specs.Keys.{step_key, effect_key, condition_key}
+use Rattle.self_check.specs.Keys.{step_key}
 use Rattle.against.specs.Against.{opposes_own, opposes_any}
 use Rattle.self_check.proofs.Steps.{own_opposes}
 use borrow.Author.Rules.{rules}

@@ -2,7 +2,6 @@
 use mathlib.Core.Path.{ap}
 use Rattle.job.specs.declared.records.Effect.{Effect}
 use Rattle.self_check.proofs.Steps.{opposes_else, opposes_not, opposes_rest}
-use borrow.Author.Rules.{rules}
 use Rattle.self_check.proofs.opposes_own.Goals as goal
 
 pub returns-then-e-condition_fact : goal.returns-then-e-condition_fact

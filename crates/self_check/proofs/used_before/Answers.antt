@@ -1,9 +1,7 @@
 -- A search back along the uses of one key.
 use native.Mathlib.Omega.{arith}
 use Rattle.laws.proofs.Search.{any_found}
-use Rattle.laws.proofs.Linked.{WalkBack, ahead, back_start, back_more, back_less, back_end}
-use Rattle.job.specs.Model.{view}
-use Rattle.self_check.specs.Keys.{use_key}
+use Rattle.laws.proofs.Linked.{back_start, back_more, back_less, back_end}
 use Rattle.against.specs.Against.{uses_twice, used_before}
 use Rattle.self_check.proofs.Steps.{own_uses_twice}
 use borrow.Author.Rules.{rules}

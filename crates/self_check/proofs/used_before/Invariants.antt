@@ -1,11 +1,7 @@
-use native.Mathlib.Omega.{arith}
-use Rattle.laws.proofs.Search.{any_found}
-use Rattle.laws.proofs.Linked.{WalkBack, ahead, back_start, back_more, back_less, back_end}
+use Rattle.laws.proofs.Linked.{WalkBack, ahead}
 use Rattle.job.specs.Model.{view}
 use Rattle.self_check.specs.Keys.{use_key}
-use Rattle.against.specs.Against.{uses_twice, used_before}
-use Rattle.self_check.proofs.Steps.{own_uses_twice}
-use borrow.Author.Rules.{rules}
+use Rattle.against.specs.Against.{uses_twice}
 use Rattle.self_check.proofs.used_before.Given as goal
 
 abbrev pub invariant-loop-v : goal.invariant-loop-v

@@ -1,13 +1,10 @@
 -- The lowest step found so far is kept; one more use lowers it or not, and is linked after those before it.
-use Prim.Native.Nat.{◌≤◌, ◌-◌}
-use mathlib.Core.Path.{◌≡◌, sym, ap₂, ◌∙◌}
+use Prim.Native.Nat.{◌-◌}
+use mathlib.Core.Path.{sym, ap₂, ◌∙◌}
 use native.Mathlib.Omega.{arith}
-use Rattle.laws.specs.Search.{lowest_owner}
 use Rattle.laws.proofs.Search.{owner_start, owner_more, owner_end}
-use Rattle.job.specs.Model.{view}
-use Rattle.self_check.specs.Keys.{step_key, use_key}
-use Rattle.timeline.specs.Indexed.{Growing}
-use Rattle.against.specs.Against.{used_before, uses_twice_step}
+use Rattle.self_check.specs.Keys.{step_key}
+use Rattle.against.specs.Against.{uses_twice_step}
 use Rattle.timeline.proofs.Indexing.{growing_start, growing_more}
 use borrow.Author.Rules.{rules}
 use Rattle.self_check.proofs.uses_against.Goals as goal

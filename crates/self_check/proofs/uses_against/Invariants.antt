@@ -1,14 +1,10 @@
 use Prim.Native.Nat.{◌≤◌, ◌-◌}
-use mathlib.Core.Path.{◌≡◌, sym, ap₂, ◌∙◌}
-use native.Mathlib.Omega.{arith}
+use mathlib.Core.Path.{◌≡◌}
 use Rattle.laws.specs.Search.{lowest_owner}
-use Rattle.laws.proofs.Search.{owner_start, owner_more, owner_end}
 use Rattle.job.specs.Model.{view}
-use Rattle.self_check.specs.Keys.{step_key, use_key}
+use Rattle.self_check.specs.Keys.{use_key}
 use Rattle.timeline.specs.Indexed.{Growing}
-use Rattle.against.specs.Against.{used_before, uses_twice_step}
-use Rattle.timeline.proofs.Indexing.{growing_start, growing_more}
-use borrow.Author.Rules.{rules}
+use Rattle.against.specs.Against.{used_before}
 use Rattle.self_check.proofs.uses_against.Given as goal
 
 abbrev pub invariant-loop-u : goal.invariant-loop-u

@@ -1,6 +1,5 @@
 -- The tick decides, or leaves the answer to the other fields.
 use Rattle.self_check.proofs.Steps.{uses_twice_not, uses_twice_rest}
-use borrow.Author.Rules.{rules}
 use Rattle.self_check.proofs.uses_twice.Goals as goal
 
 pub returns-then-use_at : goal.returns-then-use_at

@@ -1,4 +1,3 @@
-use borrow.Author.Rules.{rules}
 use Rattle.spelled_names.proofs.Names.{name_is}
 use Rattle.spelled_names.proofs.is_name.Goals as goal
 

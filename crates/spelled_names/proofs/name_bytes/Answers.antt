@@ -1,8 +1,7 @@
 -- Every byte passed may stand in a name.
 use Prim.Native.Nat.{◌-◌}
-use borrow.Author.Rules.{rules}
 use Rattle.spelling.specs.Names.{is_name_byte}
-use Rattle.spelling.proofs.Each.{Each, each_start, each_more, each_fails, each_all}
+use Rattle.spelling.proofs.Each.{each_start, each_more, each_fails, each_all}
 use mathlib.Core.Path.{ap}
 use mathlib.Core.Bool.{not}
 use Rattle.spelled_names.proofs.name_bytes.Goals as goal

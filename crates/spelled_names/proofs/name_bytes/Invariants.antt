@@ -1,7 +1,6 @@
 use Prim.Native.Nat.{◌-◌}
-use borrow.Author.Rules.{rules}
 use Rattle.spelling.specs.Names.{is_name_byte}
-use Rattle.spelling.proofs.Each.{Each, each_start, each_more, each_fails, each_all}
+use Rattle.spelling.proofs.Each.{Each}
 use Rattle.spelled_names.proofs.name_bytes.Given as goal
 
 abbrev pub invariant-loop-k : goal.invariant-loop-k

@@ -1,10 +1,9 @@
 -- The bytes passed agree.
-use Prim.Native.Nat.{ℕ, ◌+◌, ◌-◌, ◌≤◌, ◌<◌}
+use Prim.Native.Nat.{◌+◌, ◌-◌, ◌<◌}
 use mathlib.Core.Path.{◌≡◌}
-use lib.ListN.{length, get_or}
+use lib.ListN.{length}
 use native.Mathlib.Omega.{arith}
 use borrow.Author.Count.{below_more}
-use borrow.Author.Rules.{rules}
 use Rattle.spelled_names.proofs.Words.{same_longer, same_apart, same_all}
 use Rattle.spelled_names.proofs.word_is.Goals as goal
 

@@ -1,10 +1,6 @@
 use Prim.Native.Nat.{ℕ, ◌+◌, ◌-◌, ◌≤◌, ◌<◌}
 use mathlib.Core.Path.{◌≡◌}
 use lib.ListN.{length, get_or}
-use native.Mathlib.Omega.{arith}
-use borrow.Author.Count.{below_more}
-use borrow.Author.Rules.{rules}
-use Rattle.spelled_names.proofs.Words.{same_longer, same_apart, same_all}
 use Rattle.spelled_names.proofs.word_is.Given as goal
 
 abbrev pub invariant-loop-k : goal.invariant-loop-k

@@ -1,10 +1,9 @@
 -- Every byte passed is a digit, and the number is what they spell.
 use Prim.Native.Nat.{◌-◌}
-use borrow.Author.Rules.{rules}
 use mathlib.Core.Path.{sym, ◌∙◌, ap}
 use borrow.Author.Tests.{not-false}
 use Rattle.spelling.proofs.Digits.{digit_range}
-use Rattle.spelled_numbers.proofs.Numbers.{Counted, counted_start, counted_fits, counted_more}
+use Rattle.spelled_numbers.proofs.Numbers.{counted_start, counted_fits, counted_more}
 use Rattle.spelled_numbers.proofs.Numbers.{digits_none, digits_other, digits_all}
 use mathlib.Core.Bool.{not}
 use Rattle.spelled_numbers.proofs.digits.Goals as goal

@@ -1,9 +1,8 @@
 -- No point has been passed.
 use Prim.Native.Nat.{◌-◌}
 use native.Mathlib.Omega.{arith}
-use borrow.Author.Rules.{rules}
-use Rattle.spelling.proofs.Each.{Each, each_start}
-use Rattle.spelled_numbers.proofs.Numbers.{is_no_point, point_more, point_is}
+use Rattle.spelling.proofs.Each.{each_start}
+use Rattle.spelled_numbers.proofs.Numbers.{point_more, point_is}
 use Rattle.spelled_numbers.proofs.point_at.Goals as goal
 
 pub loop-k-init : goal.loop-k-init

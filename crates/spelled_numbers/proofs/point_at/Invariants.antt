@@ -1,8 +1,6 @@
 use Prim.Native.Nat.{◌-◌}
-use native.Mathlib.Omega.{arith}
-use borrow.Author.Rules.{rules}
-use Rattle.spelling.proofs.Each.{Each, each_start}
-use Rattle.spelled_numbers.proofs.Numbers.{is_no_point, point_more, point_is}
+use Rattle.spelling.proofs.Each.{Each}
+use Rattle.spelled_numbers.proofs.Numbers.{is_no_point}
 use Rattle.spelled_numbers.proofs.point_at.Given as goal
 
 abbrev pub invariant-loop-k : goal.invariant-loop-k

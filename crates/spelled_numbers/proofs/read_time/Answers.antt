@@ -2,7 +2,6 @@
 use Prim.Native.Nat.{◌<◌}
 use mathlib.Core.Path.{sym, ◌∙◌}
 use native.Mathlib.Omega.{arith}
-use borrow.Author.Rules.{rules}
 use Rattle.spelled_numbers.proofs.Numbers.{below, digits_count, time_none, time_whole, time_odd, time_parts}
 use Rattle.spelled_numbers.proofs.read_time.Goals as goal
 

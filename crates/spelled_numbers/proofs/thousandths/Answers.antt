@@ -1,7 +1,6 @@
 -- Two zeros, one or none behind the digits.
 use mathlib.Core.Path.{◌≡◌}
 use native.Mathlib.Omega.{arith}
-use borrow.Author.Rules.{rules}
 use Rattle.spelled_numbers.proofs.thousandths.Goals as goal
 
 pub returns-then-count-eq1 : goal.returns-then-count-eq1

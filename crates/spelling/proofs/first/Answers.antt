@@ -1,4 +1,3 @@
-use borrow.Author.Rules.{rules}
 use Rattle.spelling.proofs.Scan.{first_token}
 use Rattle.spelling.proofs.first.Goals as goal
 

@@ -1,8 +1,6 @@
 -- Every byte passed is a word's.
 use Prim.Native.Nat.{◌-◌}
-use lib.ListN.{length}
-use borrow.Author.Rules.{rules}
-use Rattle.spelling.proofs.Scan.{Run, run_start, run_more, run_stop, run_out}
+use Rattle.spelling.proofs.Scan.{run_start, run_more, run_stop, run_out}
 use mathlib.Core.Path.{ap}
 use mathlib.Core.Bool.{not}
 use Rattle.spelling.proofs.run_end.Goals as goal

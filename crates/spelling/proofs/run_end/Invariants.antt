@@ -1,7 +1,6 @@
 use Prim.Native.Nat.{◌-◌}
 use lib.ListN.{length}
-use borrow.Author.Rules.{rules}
-use Rattle.spelling.proofs.Scan.{Run, run_start, run_more, run_stop, run_out}
+use Rattle.spelling.proofs.Scan.{Run}
 use Rattle.spelling.proofs.run_end.Given as goal
 
 abbrev pub invariant-loop-end : goal.invariant-loop-end

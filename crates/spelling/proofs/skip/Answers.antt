@@ -1,9 +1,7 @@
 -- The bytes passed are blanks, and the lines are those that they end.
 use Prim.Native.Nat.{◌-◌}
-use lib.ListN.{length}
 use native.Mathlib.Omega.{arith}
-use borrow.Author.Rules.{rules}
-use Rattle.spelling.proofs.Scan.{Passed, passed_start, passed_more, passed_full, passed_out}
+use Rattle.spelling.proofs.Scan.{passed_start, passed_more, passed_full, passed_out}
 use mathlib.Core.Path.{ap}
 use mathlib.Core.Bool.{not}
 use Rattle.spelling.proofs.skip.Goals as goal

@@ -1,5 +1,4 @@
 -- Past the blanks, then the token there.
-use borrow.Author.Rules.{rules}
 use Rattle.spelling.proofs.Scan.{moved}
 use Rattle.spelling.proofs.token_from.Goals as goal
 

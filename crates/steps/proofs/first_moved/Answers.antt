@@ -1,11 +1,6 @@
 -- A search for the lowest that breaks the rule.
-use Prim.Native.Nat.{◌≤◌, ◌-◌}
-use mathlib.Core.Path.{◌≡◌}
-use Rattle.laws.specs.Search.{lowest}
+use Prim.Native.Nat.{◌-◌}
 use Rattle.laws.proofs.Search.{lowest_start, lowest_more, lowest_found, lowest_end}
-use Rattle.job.specs.Clocked.{clocked}
-use Rattle.job.specs.Model.{view}
-use Rattle.validity.specs.Ticks.{schedule_of}
 use Rattle.validity.specs.Checks.{moved}
 use borrow.Author.Rules.{rules}
 use Rattle.steps.proofs.first_moved.Goals as goal

@@ -1,12 +1,10 @@
 use Prim.Native.Nat.{◌≤◌, ◌-◌}
 use mathlib.Core.Path.{◌≡◌}
 use Rattle.laws.specs.Search.{lowest}
-use Rattle.laws.proofs.Search.{lowest_start, lowest_more, lowest_found, lowest_end}
 use Rattle.job.specs.Clocked.{clocked}
 use Rattle.job.specs.Model.{view}
 use Rattle.validity.specs.Ticks.{schedule_of}
 use Rattle.validity.specs.Checks.{moved}
-use borrow.Author.Rules.{rules}
 use Rattle.steps.proofs.first_moved.Given as goal
 
 abbrev pub invariant-loop-k : goal.invariant-loop-k

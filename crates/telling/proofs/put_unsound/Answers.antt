@@ -3,7 +3,6 @@ use mathlib.Core.Path.{ap}
 use Rattle.telling.proofs.Putting.{put_as}
 use Rattle.telling.proofs.Unsound.{Other, unsound_other}
 use Rattle.telling.specs.Told.{unsound}
-use borrow.Author.Rules.{rules}
 use native.Mathlib.Omega.{arith}
 use Rattle.telling.proofs.put_unsound.Goals as goal
 

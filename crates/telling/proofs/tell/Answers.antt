@@ -1,6 +1,5 @@
 -- The line of a job that was made, or of a refusal.
 use Rattle.telling.proofs.Putting.{told_made, told_refused}
-use borrow.Author.Rules.{rules}
 use Rattle.telling.proofs.tell.Goals as goal
 
 pub returns-then-number-eq0 : goal.returns-then-number-eq0

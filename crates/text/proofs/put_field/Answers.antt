@@ -1,6 +1,5 @@
 -- The number stands behind the word.
 use Rattle.text.proofs.Writing.{put_then}
-use borrow.Author.Rules.{rules}
 use native.Mathlib.Omega.{arith}
 use Rattle.text.proofs.put_field.Goals as goal
 

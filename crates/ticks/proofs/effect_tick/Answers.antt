@@ -1,5 +1,4 @@
 -- The start of the point's step, and the point.
-use borrow.Author.Rules.{rules}
 use native.Mathlib.Omega.{arith}
 use Rattle.ticks.proofs.effect_tick.Goals as goal
 

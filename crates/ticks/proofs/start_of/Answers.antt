@@ -1,7 +1,6 @@
 -- A start past the list reads as 0.
 use mathlib.Core.Path.{sym}
 use lib.ListN.{get_or-eq_default}
-use borrow.Author.Rules.{rules}
 use native.Mathlib.Omega.{arith}
 use Rattle.ticks.proofs.start_of.Goals as goal
 

@@ -1,5 +1,4 @@
 use Rattle.token_reader.proofs.Steps.{stand, advanced_to}
-use borrow.Author.Rules.{rules}
 use Rattle.token_reader.proofs.advance.Goals as goal
 
 pub next-c-requires : goal.next-c-requires

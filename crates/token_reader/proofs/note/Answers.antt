@@ -1,6 +1,5 @@
 use native.Mathlib.Omega.{arith}
 use Rattle.token_reader.proofs.Noting.{noting_room, noted}
-use borrow.Author.Rules.{rules}
 use Rattle.token_reader.proofs.note.Goals as goal
 
 pub advance-a-requires : goal.advance-a-requires

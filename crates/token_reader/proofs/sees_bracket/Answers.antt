@@ -1,6 +1,5 @@
 use Rattle.token_reader.proofs.Steps.{stand, same_here}
 use Rattle.spelling.specs.Cursor.{is_bracket}
-use borrow.Author.Rules.{rules}
 use Rattle.token_reader.proofs.sees_bracket.Goals as goal
 
 pub at_bracket-requires : goal.at_bracket-requires

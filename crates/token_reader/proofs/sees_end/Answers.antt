@@ -1,6 +1,5 @@
 use Rattle.token_reader.proofs.Steps.{stand, same_here}
 use Rattle.spelling.specs.Cursor.{is_stop}
-use borrow.Author.Rules.{rules}
 use Rattle.token_reader.proofs.sees_end.Goals as goal
 
 pub at_end-requires : goal.at_end-requires

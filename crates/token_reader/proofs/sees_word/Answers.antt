@@ -1,6 +1,5 @@
 use Rattle.token_reader.proofs.Steps.{stand, same_here}
 use Rattle.spelling.specs.Cursor.{is_word}
-use borrow.Author.Rules.{rules}
 use Rattle.token_reader.proofs.sees_word.Goals as goal
 
 pub at_word-requires : goal.at_word-requires

@@ -1,6 +1,5 @@
 use Rattle.token_reader.proofs.Steps.{take_passes, take_goes, take_fails}
 use Rattle.token_reader.proofs.Tested.{bracket_inside, bracket_yes, bracket_no}
-use borrow.Author.Rules.{rules}
 use Rattle.token_reader.proofs.take_bracket.Goals as goal
 
 pub returns-then-r-ne0 : goal.returns-then-r-ne0

@@ -2,7 +2,6 @@ use mathlib.Core.Path.{refl, ap}
 use mathlib.Core.Logic.{inl, inr}
 use Rattle.token_reader.proofs.Steps.{stand, passes, fault}
 use Rattle.token_reader.proofs.Naming.{bounds, name_no, named_sound, name_reads}
-use borrow.Author.Rules.{rules}
 use mathlib.Core.Bool.{not}
 use Rattle.token_reader.proofs.take_name.Goals as goal
 

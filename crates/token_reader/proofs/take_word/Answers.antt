@@ -1,6 +1,5 @@
 use Rattle.token_reader.proofs.Steps.{take_passes, take_goes, take_fails}
 use Rattle.token_reader.proofs.Tested.{word_inside, word_yes, word_no}
-use borrow.Author.Rules.{rules}
 use Rattle.token_reader.proofs.take_word.Goals as goal
 
 pub returns-then-r-ne0 : goal.returns-then-r-ne0

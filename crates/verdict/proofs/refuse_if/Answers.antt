@@ -1,7 +1,6 @@
 -- A refusal so far stands; else the test decides.
 use mathlib.Core.Path.{sym, ◌∙◌}
 use Rattle.verdict.proofs.Chain.{then_refused, then_accepted, refuse_yes, refuse_no}
-use borrow.Author.Rules.{rules}
 use Rattle.verdict.proofs.refuse_if.Goals as goal
 
 pub returns-then-number-ne0 : goal.returns-then-number-ne0

@@ -1,7 +1,6 @@
 -- The reader's answer, or the first clash among the names.
 use mathlib.Core.Path.{sym}
 use native.Mathlib.Omega.{arith}
-use borrow.Author.Rules.{rules}
 use Rattle.from_pddl.proofs.Understood.{notes_length, notes_readable, clash_understood, reader_understood}
 use Rattle.from_pddl.proofs.actions.read_named.Goals as goal
 

@@ -1,8 +1,6 @@
 use Prim.Native.Nat.{◌-◌, ◌≤◌}
-use native.Mathlib.Omega.{arith}
 use Rattle.order_file.specs.Table.{row_width}
 use Rattle.gaps.specs.Rules.{Cleared}
-use Rattle.gaps.proofs.Filled.{cleared_start, cleared_more, cleared_all}
 use Rattle.gaps.proofs.fill.clear_own.Given as goal
 
 abbrev pub invariant-loop-i : goal.invariant-loop-i

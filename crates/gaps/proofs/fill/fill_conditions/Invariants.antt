@@ -1,13 +1,8 @@
 use Prim.Native.Nat.{◌-◌, ◌≤◌}
-use mathlib.Core.Path.{refl}
-use native.Mathlib.Omega.{arith}
-use borrow.Author.Rules.{rules}
 use Rattle.job.specs.Model.{view}
 use Rattle.validity.specs.Ticks.{schedule_of}
 use Rattle.gaps.specs.Rules.{fact_at}
 use Rattle.origins.specs.Points.{FactOrder, Reached, Among}
-use Rattle.origins.proofs.Reached.{within_up, within_all, within_empty}
-use Rattle.gaps.proofs.Rules.{given_known, given_reached, fact_known, conditions_raised}
 use Rattle.gaps.proofs.fill.fill_conditions.Given as goal
 
 abbrev pub invariant-loop-f : goal.invariant-loop-f

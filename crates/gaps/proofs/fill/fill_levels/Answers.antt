@@ -1,12 +1,10 @@
 -- Each level in turn.
-use Prim.Native.Nat.{◌-◌, ◌≤◌}
+use Prim.Native.Nat.{◌-◌}
 use mathlib.Core.Path.{refl}
 use native.Mathlib.Omega.{arith}
-use borrow.Author.Rules.{rules}
 use Rattle.validity.specs.Ticks.{schedule_of}
-use Rattle.origins.specs.Points.{Reached, Among}
 use Rattle.origins.proofs.Reached.{within_up, within_all, within_empty}
-use Rattle.gaps.proofs.Rules.{given_points, LevelOrder, level_known, levels_raised}
+use Rattle.gaps.proofs.Rules.{given_points, level_known, levels_raised}
 use Rattle.gaps.proofs.fill.fill_levels.Goals as goal
 
 pub loop-l-init : goal.loop-l-init

@@ -1,11 +1,7 @@
 use Prim.Native.Nat.{◌-◌, ◌≤◌}
-use mathlib.Core.Path.{refl}
-use native.Mathlib.Omega.{arith}
-use borrow.Author.Rules.{rules}
 use Rattle.validity.specs.Ticks.{schedule_of}
 use Rattle.origins.specs.Points.{Reached, Among}
-use Rattle.origins.proofs.Reached.{within_up, within_all, within_empty}
-use Rattle.gaps.proofs.Rules.{given_points, LevelOrder, level_known, levels_raised}
+use Rattle.gaps.proofs.Rules.{LevelOrder}
 use Rattle.gaps.proofs.fill.fill_levels.Given as goal
 
 abbrev pub invariant-loop-l : goal.invariant-loop-l

@@ -1,11 +1,6 @@
 -- Each condition in turn.
-use Prim.Native.Nat.{◌≤◌, ◌-◌}
-use Rattle.laws.specs.Fold.{largest}
-use Rattle.job.specs.Model.{view}
-use Rattle.job.specs.Clocked.{clocked}
-use Rattle.orders.specs.Gaps.{support_order, support_gap}
-use Rattle.order_file.specs.Table.{Gaps}
-use Rattle.gaps.specs.Rules.{RaisedByLinks}
+use Prim.Native.Nat.{◌-◌}
+use Rattle.orders.specs.Gaps.{support_gap}
 use Rattle.gaps.proofs.Filled.{raised_start, raised_more, raised_end}
 use native.Mathlib.Omega.{arith}
 use Rattle.gaps.proofs.fill.fill_support.Goals as goal

@@ -2,11 +2,9 @@ use Prim.Native.Nat.{◌≤◌, ◌-◌}
 use Rattle.laws.specs.Fold.{largest}
 use Rattle.job.specs.Model.{view}
 use Rattle.job.specs.Clocked.{clocked}
-use Rattle.orders.specs.Gaps.{support_order, support_gap}
+use Rattle.orders.specs.Gaps.{support_order}
 use Rattle.order_file.specs.Table.{Gaps}
 use Rattle.gaps.specs.Rules.{RaisedByLinks}
-use Rattle.gaps.proofs.Filled.{raised_start, raised_more, raised_end}
-use native.Mathlib.Omega.{arith}
 use Rattle.gaps.proofs.fill.fill_support.Given as goal
 
 abbrev pub invariant-loop-c : goal.invariant-loop-c

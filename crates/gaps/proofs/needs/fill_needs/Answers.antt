@@ -1,15 +1,14 @@
 -- Each level in turn; in a job without needs there are none to order.
-use Prim.Native.Nat.{◌-◌, ◌≤◌}
+use Prim.Native.Nat.{◌-◌}
 use mathlib.Core.Path.{refl}
 use native.Mathlib.Omega.{arith}
 use borrow.Author.Rules.{rules}
 use Rattle.laws.specs.Fold.{largest}
 use Rattle.validity.specs.Ticks.{schedule_of}
 use Rattle.orders.specs.Gaps.{need_gap}
-use Rattle.origins.specs.Points.{Reached, Among}
 use Rattle.origins.proofs.Reached.{within_up, within_all, within_empty}
 use Rattle.gaps.proofs.Filled.{raised_none}
-use Rattle.gaps.proofs.Rules.{given_group, given_between, NeedOrder, level_known, need_known, needs_raised}
+use Rattle.gaps.proofs.Rules.{given_group, given_between, level_known, need_known, needs_raised}
 use Rattle.gaps.proofs.needs.fill_needs.Goals as goal
 
 pub returns-then-job-eq0 : goal.returns-then-job-eq0

@@ -1,14 +1,7 @@
 use Prim.Native.Nat.{◌-◌, ◌≤◌}
-use mathlib.Core.Path.{refl}
-use native.Mathlib.Omega.{arith}
-use borrow.Author.Rules.{rules}
-use Rattle.laws.specs.Fold.{largest}
 use Rattle.validity.specs.Ticks.{schedule_of}
-use Rattle.orders.specs.Gaps.{need_gap}
 use Rattle.origins.specs.Points.{Reached, Among}
-use Rattle.origins.proofs.Reached.{within_up, within_all, within_empty}
-use Rattle.gaps.proofs.Filled.{raised_none}
-use Rattle.gaps.proofs.Rules.{given_group, given_between, NeedOrder, level_known, need_known, needs_raised}
+use Rattle.gaps.proofs.Rules.{NeedOrder}
 use Rattle.gaps.proofs.needs.fill_needs.Given as goal
 
 abbrev pub invariant-loop-l : goal.invariant-loop-l

@@ -1,7 +1,6 @@
 -- The count stands at byte 52 of edition 3, and no other edition has one.
 use mathlib.Core.Path.{refl, sym, ◌∙◌}
 use borrow.Author.Tests.{eq-eqb, ne_eqb}
-use borrow.Author.Rules.{rules}
 use Rattle.job.specs.Layout.{needs_edition}
 use Rattle.job.proofs.layout.needs_counted.Goals as goal
 

@@ -1,5 +1,4 @@
 -- The mark stands at byte 2.
-use borrow.Author.Rules.{rules}
 use Rattle.job.proofs.layout.serial_mark.Goals as goal
 
 pub returns : goal.returns

@@ -5,7 +5,6 @@ use mathlib.Core.Bool.{true, ◌&&◌}
 use lib.Dec.{leb}
 use Rattle.laws.proofs.Search.{and_both}
 use borrow.Author.Tests.{leb-true, le-leb}
-use borrow.Author.Rules.{rules}
 use Rattle.job_reader.proofs.laid.is_laid.Goals as goal
 
 parts :

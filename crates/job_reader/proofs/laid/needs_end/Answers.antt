@@ -1,6 +1,5 @@
 -- The sum of a position and of a table's width is far below the highest number.
 use native.Mathlib.Omega.{arith}
-use borrow.Author.Rules.{rules}
 use Rattle.job_reader.proofs.laid.needs_end.Goals as goal
 
 pub overflow_add-result : goal.overflow_add-result

@@ -2,10 +2,7 @@
 use Prim.Native.Nat.{◌-◌}
 use native.Mathlib.Omega.{arith}
 use Rattle.laws.proofs.Search.{lowest_start, lowest_more, lowest_found, lowest_end}
-use Rattle.job.specs.Clocked.{clocked}
-use Rattle.job.specs.Model.{view}
-use Rattle.levels.proofs.LevelSweeps.{LevelsTried, uses_placed, uses_stretch}
-use borrow.Author.Rules.{rules}
+use Rattle.levels.proofs.LevelSweeps.{uses_placed, uses_stretch}
 use Rattle.levels.proofs.bounds.first_out_of_bounds.Goals as goal
 
 pub loop-l-init : goal.loop-l-init

@@ -2,7 +2,6 @@
 use mathlib.Core.Path.{refl, ap}
 use native.Mathlib.Omega.{arith}
 use Rattle.levels.proofs.LevelSweeps.{level_low_lem}
-use borrow.Author.Rules.{rules}
 use Rattle.levels.proofs.bounds.in_bounds.Goals as goal
 
 pub overflow_add-above : goal.overflow_add-above

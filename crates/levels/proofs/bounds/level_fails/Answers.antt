@@ -1,9 +1,7 @@
 -- Tick by tick, with what the level's uses at earlier ticks add and take.
 use Prim.Native.Nat.{◌-◌}
 use native.Mathlib.Omega.{arith}
-use Rattle.job.specs.Clocked.{clocked}
-use Rattle.job.specs.Model.{view}
-use Rattle.levels.proofs.LevelSweeps.{Sweeping, summed_low, sweeping_start, sweeping_more, sweeping_fails, sweeping_end}
+use Rattle.levels.proofs.LevelSweeps.{summed_low, sweeping_start, sweeping_more, sweeping_fails, sweeping_end}
 use borrow.Author.Tests.{not-true, not-false}
 use mathlib.Core.Path.{ap}
 use mathlib.Core.Bool.{not}

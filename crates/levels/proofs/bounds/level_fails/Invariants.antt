@@ -1,9 +1,7 @@
 use Prim.Native.Nat.{◌-◌}
-use native.Mathlib.Omega.{arith}
 use Rattle.job.specs.Clocked.{clocked}
 use Rattle.job.specs.Model.{view}
-use Rattle.levels.proofs.LevelSweeps.{Sweeping, summed_low, sweeping_start, sweeping_more, sweeping_fails, sweeping_end}
-use borrow.Author.Tests.{not-true, not-false}
+use Rattle.levels.proofs.LevelSweeps.{Sweeping}
 use Rattle.levels.proofs.bounds.level_fails.Given as goal
 
 abbrev pub invariant-loop-sums : goal.invariant-loop-sums

@@ -1,10 +1,7 @@
 -- Use by use, while the tick is the first one's.
 use Prim.Native.Nat.{◌-◌}
 use native.Mathlib.Omega.{arith}
-use Rattle.job.specs.Clocked.{clocked}
-use Rattle.job.specs.Model.{view}
-use Rattle.levels.proofs.LevelSweeps.{Gathering, summed_low, gathering_start, gathering_more, gathering_ends}
-use borrow.Author.Rules.{rules}
+use Rattle.levels.proofs.LevelSweeps.{summed_low, gathering_start, gathering_more, gathering_ends}
 use Rattle.levels.proofs.bounds.sums_at.Goals as goal
 
 pub bounds-points-first : goal.bounds-points-first

@@ -1,9 +1,7 @@
 use Prim.Native.Nat.{◌-◌}
-use native.Mathlib.Omega.{arith}
 use Rattle.job.specs.Clocked.{clocked}
 use Rattle.job.specs.Model.{view}
-use Rattle.levels.proofs.LevelSweeps.{Gathering, summed_low, gathering_start, gathering_more, gathering_ends}
-use borrow.Author.Rules.{rules}
+use Rattle.levels.proofs.LevelSweeps.{Gathering}
 use Rattle.levels.proofs.bounds.sums_at.Given as goal
 
 abbrev pub invariant-loop-sums : goal.invariant-loop-sums

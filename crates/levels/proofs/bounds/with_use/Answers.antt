@@ -1,7 +1,6 @@
 -- A use rises or falls by what its amount is from 0.
 use mathlib.Core.Path.{refl}
 use native.Mathlib.Omega.{arith}
-use borrow.Author.Rules.{rules}
 use Rattle.levels.proofs.bounds.with_use.Goals as goal
 
 pub returns-then-amount-gt-SIGN_BIAS : goal.returns-then-amount-gt-SIGN_BIAS

@@ -1,10 +1,5 @@
 use Prim.Native.Nat.{◌-◌}
-use mathlib.Core.Path.{refl}
-use native.Mathlib.Omega.{arith}
-use borrow.Author.Rules.{rules}
-use Rattle.laws.proofs.Search.{contrary}
 use Rattle.levels.specs.UsesApart.{LevelsApart}
-use Rattle.levels.proofs.UsesApart.{levels_more}
 use Rattle.levels.proofs.uses.any_twice.Given as goal
 
 abbrev pub invariant-loop-l : goal.invariant-loop-l

@@ -1,9 +1,8 @@
 -- From the place back, as long as the tick stays.
 use mathlib.Core.Path.{refl}
 use native.Mathlib.Omega.{arith}
-use borrow.Author.Rules.{rules}
 use Rattle.laws.proofs.Search.{contrary}
-use Rattle.levels.proofs.UsesApart.{Others, others_start, others_more, others_past, others_end}
+use Rattle.levels.proofs.UsesApart.{others_start, others_more, others_past, others_end}
 use Rattle.levels.proofs.uses.repeated.Goals as goal
 
 pub bounds-points-q : goal.bounds-points-q

@@ -2,9 +2,7 @@
 use Prim.Native.Nat.{◌-◌}
 use mathlib.Core.Path.{refl}
 use native.Mathlib.Omega.{arith}
-use borrow.Author.Rules.{rules}
 use Rattle.laws.proofs.Search.{contrary}
-use Rattle.levels.specs.UsesApart.{StepsApart}
 use Rattle.levels.proofs.UsesApart.{apart_more}
 use Rattle.levels.proofs.uses.twice.Goals as goal
 

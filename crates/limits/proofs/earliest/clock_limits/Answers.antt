@@ -1,6 +1,5 @@
 -- By timed facts, then by links.
 use native.Mathlib.Omega.{arith}
-use borrow.Author.Rules.{rules}
 use Rattle.limits.proofs.Raised.{links_named, limits_are}
 use Rattle.limits.proofs.earliest.clock_limits.Goals as goal
 

@@ -1,13 +1,11 @@
 -- Each point in turn; the timed facts before it have been passed.
-use Prim.Native.Nat.{ℕ, ◌-◌, ◌≤◌, ◌<◌}
+use Prim.Native.Nat.{◌-◌}
 use native.Mathlib.Omega.{arith}
 use borrow.Author.Rules.{rules}
 use lib.ListN.{get_or}
 use Rattle.timeline.specs.Words.{tick_at}
-use Rattle.timeline.specs.Walking.{Walking}
 use Rattle.validity.specs.Ticks.{schedule_of}
-use Rattle.moves.specs.Moved.{Up, Moved}
-use Rattle.limits.specs.Beside.{LaterThan, OfWords, OfTimed}
+use Rattle.moves.specs.Moved.{Up}
 use Rattle.moves.proofs.Moved.{up_same, up_on, moved_none, moved_empty, moved_more, moved_all}
 use Rattle.limits.proofs.Walked.{walking_first, walking_later, walking_passed, other_most, later_all}
 use Rattle.limits.proofs.earliest.raise_points.Goals as goal

@@ -1,9 +1,7 @@
 -- Each condition in turn.
-use Prim.Native.Nat.{◌-◌, ◌≤◌}
+use Prim.Native.Nat.{◌-◌}
 use native.Mathlib.Omega.{arith}
-use Rattle.job.specs.Model.{view}
-use Rattle.moves.specs.Moved.{Up, Moved, Among}
-use Rattle.limits.specs.Beside.{LimitByLink}
+use Rattle.moves.specs.Moved.{Up}
 use Rattle.moves.proofs.Moved.{up_same, up_on, moved_none, moved_empty, moved_more, moved_all}
 use Rattle.limits.proofs.earliest.raise_supported.Goals as goal
 

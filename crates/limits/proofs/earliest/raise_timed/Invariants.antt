@@ -1,14 +1,7 @@
 use Prim.Native.Nat.{◌-◌, ◌≤◌}
-use native.Mathlib.Omega.{arith}
-use borrow.Author.Rules.{rules}
-use Rattle.job.specs.Model.{view}
 use Rattle.validity.specs.Ticks.{schedule_of}
 use Rattle.moves.specs.Moved.{Up, Moved, Among}
 use Rattle.limits.specs.Beside.{LaterThan, OfFact}
-use Rattle.moves.proofs.Moved.{up_same, up_on, moved_none, moved_empty, moved_more, moved_all}
-use Rattle.limits.proofs.Grouped.{fact_setters, fact_wanted}
-use Rattle.limits.proofs.Known.{timed_row_lem}
-use Rattle.limits.proofs.Walked.{moved_points, moved_timed}
 use Rattle.limits.proofs.earliest.raise_timed.Given as goal
 
 abbrev pub invariant-loop-f : goal.invariant-loop-f

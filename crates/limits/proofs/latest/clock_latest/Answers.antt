@@ -1,5 +1,4 @@
 -- By timed facts, from none.
-use borrow.Author.Rules.{rules}
 use Rattle.limits.proofs.Lowered.{latest_are}
 use Rattle.limits.proofs.latest.clock_latest.Goals as goal
 

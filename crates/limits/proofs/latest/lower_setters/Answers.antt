@@ -1,14 +1,12 @@
 -- Each setter in turn.
-use Prim.Native.Nat.{ℕ, ◌-◌, ◌≤◌, ◌<◌}
+use Prim.Native.Nat.{◌-◌, ◌≤◌}
 use mathlib.Core.Path.{refl}
 use native.Mathlib.Omega.{arith}
 use borrow.Author.Rules.{rules}
 use lib.ListN.{get_or}
 use Rattle.timeline.specs.Words.{word_step, word_tick, tick_at}
 use Rattle.validity.specs.Ticks.{schedule_of}
-use Rattle.moves.specs.Moved.{Down, Moved}
-use Rattle.limits.specs.Beside.{SoonerThan, OfWords, OfTimed}
-use Rattle.moves.specs.Others.{NoOther}
+use Rattle.moves.specs.Moved.{Down}
 use Rattle.moves.proofs.Moved.{down_same, down_on, moved_none, moved_empty, moved_more, moved_all}
 use Rattle.limits.proofs.Walked.{next_later, next_place, next_most, sooner_all}
 use Rattle.limits.proofs.latest.lower_setters.Goals as goal

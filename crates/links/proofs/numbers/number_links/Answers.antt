@@ -1,11 +1,9 @@
 -- Link by link; without timed facts there is nothing to do.
-use Prim.Native.Nat.{ℕ, ◌+◌, ◌-◌, ◌≤◌}
-use mathlib.Core.Path.{◌≡◌, refl}
-use mathlib.Core.List.{List, []}
+use Prim.Native.Nat.{◌-◌}
+use mathlib.Core.Path.{refl}
+use mathlib.Core.List.{[]}
 use native.Mathlib.Omega.{arith}
-use borrow.Author.Rules.{rules}
 use Rattle.job.specs.Model.{view}
-use Rattle.links.specs.Numbered.{AllKnown, NumberedTo}
 use Rattle.links.proofs.Numbered.{untimed_numbered, numbered_none, numbered_more}
 use Rattle.links.proofs.numbers.number_links.Goals as goal
 

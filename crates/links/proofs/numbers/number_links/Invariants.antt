@@ -1,11 +1,8 @@
 use Prim.Native.Nat.{ℕ, ◌+◌, ◌-◌, ◌≤◌}
-use mathlib.Core.Path.{◌≡◌, refl}
-use mathlib.Core.List.{List, []}
-use native.Mathlib.Omega.{arith}
-use borrow.Author.Rules.{rules}
+use mathlib.Core.Path.{◌≡◌}
+use mathlib.Core.List.{List}
 use Rattle.job.specs.Model.{view}
 use Rattle.links.specs.Numbered.{AllKnown, NumberedTo}
-use Rattle.links.proofs.Numbered.{untimed_numbered, numbered_none, numbered_more}
 use Rattle.links.proofs.numbers.number_links.Given as goal
 
 abbrev pub invariant-loop-k : goal.invariant-loop-k

@@ -1,7 +1,6 @@
 -- All setters of the goal's fact lie before the tick after all.
 use mathlib.Core.Path.{ap, ◌∙◌}
 use native.Mathlib.Omega.{arith}
-use borrow.Author.Rules.{rules}
 use Rattle.links.proofs.Supported.{goal_some, goal_is}
 use Rattle.links.proofs.support.goal_link.Goals as goal
 

@@ -1,14 +1,8 @@
 -- Fact by fact.
 use Prim.Native.Nat.{◌-◌}
-use mathlib.Core.Path.{◌≡◌, refl, sym}
+use mathlib.Core.Path.{refl, sym}
 use native.Mathlib.Omega.{arith}
 use borrow.Author.Rules.{rules}
-use lib.ListN.{length}
-use Rattle.timeline.specs.Words.{step_span}
-use Rattle.job.specs.Model.{view}
-use Rattle.job.specs.Clocked.{clocked}
-use Rattle.links.specs.Linkable.{Linkable}
-use Rattle.links.specs.Linking.{Below, LinksPut}
 use Rattle.links.proofs.Putting.{links_size, links_room}
 use Rattle.links.proofs.Linking.{below_start, below_more, below_end}
 use Rattle.links.proofs.support.link_conditions.Goals as goal

@@ -3,7 +3,6 @@ use Prim.Native.Nat.{◌-◌}
 use mathlib.Core.Path.{sym, ◌∙◌}
 use native.Mathlib.Omega.{arith}
 use borrow.Author.Rules.{rules}
-use Rattle.links.specs.Linking.{Linking}
 use Rattle.links.proofs.Linking.{linking_start, linking_there, linking_room, linking_some, linking_more, linking_size, linking_end}
 use Rattle.links.proofs.support.link_fact.Goals as goal
 

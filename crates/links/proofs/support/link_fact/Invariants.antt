@@ -1,9 +1,5 @@
 use Prim.Native.Nat.{◌-◌}
-use mathlib.Core.Path.{sym, ◌∙◌}
-use native.Mathlib.Omega.{arith}
-use borrow.Author.Rules.{rules}
 use Rattle.links.specs.Linking.{Linking}
-use Rattle.links.proofs.Linking.{linking_start, linking_there, linking_room, linking_some, linking_more, linking_size, linking_end}
 use Rattle.links.proofs.support.link_fact.Given as goal
 
 abbrev pub invariant-loop-p : goal.invariant-loop-p

@@ -1,12 +1,8 @@
 use Prim.Native.Nat.{◌+◌, ◌-◌, ◌≤◌}
-use native.Mathlib.Omega.{arith}
-use borrow.Author.Rules.{rules}
 use Rattle.job.specs.Model.{view}
 use Rattle.job.specs.Clocked.{clocked}
 use Rattle.links.specs.Linkable.{Linkable}
 use Rattle.links.specs.Linking.{FromTo, LinksPut}
-use Rattle.links.proofs.Putting.{links_size, links_room}
-use Rattle.links.proofs.Linking.{goals_start, goals_more, goals_end}
 use Rattle.links.proofs.support.link_goals.Given as goal
 
 abbrev pub invariant-loop-g : goal.invariant-loop-g

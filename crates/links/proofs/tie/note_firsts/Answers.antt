@@ -1,11 +1,7 @@
 -- From the last point to the first.
-use Prim.Native.Nat.{◌≤◌}
 use mathlib.Core.Path.{◌≡◌, sym, ◌∙◌}
 use native.Mathlib.Omega.{arith}
 use borrow.Author.Rules.{rules}
-use lib.ListN.{length}
-use Rattle.timeline.specs.Words.{step_span}
-use Rattle.links.specs.Tied.{Firsts}
 use Rattle.links.proofs.Tied.{firsts_none, firsts_more}
 use Rattle.links.proofs.tie.note_firsts.Goals as goal
 

@@ -1,11 +1,8 @@
 use Prim.Native.Nat.{◌≤◌}
-use mathlib.Core.Path.{◌≡◌, sym, ◌∙◌}
-use native.Mathlib.Omega.{arith}
-use borrow.Author.Rules.{rules}
+use mathlib.Core.Path.{◌≡◌}
 use lib.ListN.{length}
 use Rattle.timeline.specs.Words.{step_span}
 use Rattle.links.specs.Tied.{Firsts}
-use Rattle.links.proofs.Tied.{firsts_none, firsts_more}
 use Rattle.links.proofs.tie.note_firsts.Given as goal
 
 abbrev pub invariant-loop-p : goal.invariant-loop-p

@@ -1,9 +1,8 @@
 -- Point by point, as long as the tick stays.
-use Prim.Native.Nat.{◌-◌, ◌≤◌, ◌<◌}
+use Prim.Native.Nat.{◌-◌}
 use mathlib.Core.Path.{refl, sym, ◌∙◌}
 use native.Mathlib.Omega.{arith}
 use borrow.Author.Rules.{rules}
-use Rattle.links.specs.Tied.{OneTick}
 use Rattle.links.proofs.Tied.{tick_start, tick_more}
 use Rattle.links.proofs.tie.tie_end.Goals as goal
 

@@ -1,6 +1,5 @@
 -- The last before the cursor, or the one before its run.
 use native.Mathlib.Omega.{arith}
-use borrow.Author.Rules.{rules}
 use Rattle.moves.proofs.NextOthers.{other_none, other_last, other_same, other_turned}
 use Rattle.moves.proofs.others.last_other.Goals as goal
 

@@ -1,9 +1,8 @@
 -- Place after place.
-use Prim.Native.Nat.{◌-◌, ◌≤◌}
+use Prim.Native.Nat.{◌-◌}
 use mathlib.Core.Path.{refl, sym}
 use native.Mathlib.Omega.{arith}
 use borrow.Author.Rules.{rules}
-use Rattle.moves.specs.Others.{NoOther}
 use Rattle.moves.proofs.Tested.{both_pass, one_fails}
 use Rattle.moves.proofs.NextOthers.{no_more}
 use Rattle.moves.proofs.others.next_other.Goals as goal

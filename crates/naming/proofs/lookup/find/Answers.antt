@@ -1,10 +1,7 @@
 -- A search back along the first appearances of one key.
 use native.Mathlib.Omega.{arith}
-use borrow.Author.Rules.{rules}
-use Rattle.laws.proofs.Linked.{WalkBack, ahead, back_start, back_more, back_less}
-use Rattle.notes.specs.Notes.{items_in}
-use Rattle.naming.specs.Index.{mixed, key}
-use Rattle.naming.proofs.Linking.{is_first_of, own, walk_first, first_says, looked_here, looked_none}
+use Rattle.laws.proofs.Linked.{back_start, back_more, back_less}
+use Rattle.naming.proofs.Linking.{own, walk_first, first_says, looked_here, looked_none}
 use Rattle.naming.proofs.Looking.{first_inside, first_same}
 use Rattle.naming.proofs.lookup.find.Goals as goal
 

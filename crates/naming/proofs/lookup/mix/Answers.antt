@@ -1,10 +1,7 @@
 -- The bytes passed are mixed in.
-use Prim.Native.Nat.{◌-◌, ◌<◌}
-use mathlib.Core.Path.{◌≡◌, refl}
-use lib.ListN.{length, drop}
+use Prim.Native.Nat.{◌-◌}
+use mathlib.Core.Path.{refl}
 use native.Mathlib.Omega.{arith}
-use borrow.Author.Rules.{rules}
-use Rattle.naming.specs.Index.{key_count, mixed}
 use Rattle.naming.proofs.Linking.{mix_more, mix_end}
 use Rattle.naming.proofs.lookup.mix.Goals as goal
 

@@ -1,10 +1,7 @@
 use Prim.Native.Nat.{◌-◌, ◌<◌}
-use mathlib.Core.Path.{◌≡◌, refl}
+use mathlib.Core.Path.{◌≡◌}
 use lib.ListN.{length, drop}
-use native.Mathlib.Omega.{arith}
-use borrow.Author.Rules.{rules}
 use Rattle.naming.specs.Index.{key_count, mixed}
-use Rattle.naming.proofs.Linking.{mix_more, mix_end}
 use Rattle.naming.proofs.lookup.mix.Given as goal
 
 abbrev pub invariant-loop-k : goal.invariant-loop-k

@@ -5,7 +5,6 @@ use mathlib.Core.Bool.{cond}
 use lib.ListN.{length, get_or, set}
 use lib.Seq.{lt-length-set}
 use native.Mathlib.Omega.{arith}
-use borrow.Author.Rules.{rules}
 use Rattle.naming.specs.Index.{key_count}
 use Rattle.naming.proofs.passing.enter.Goals as goal
 

@@ -1,7 +1,6 @@
 -- The note's role, the look-up of its name and what is told of it decide.
 use native.Mathlib.Omega.{arith}
 use mathlib.Core.Path.{sym, ap, ◌∙◌}
-use borrow.Author.Rules.{rules}
 use Rattle.naming.specs.Index.{mixed}
 use Rattle.naming.proofs.Stepping.{counts_low, step_number, step_again, step_new, name_part, looked_name}
 use Rattle.naming.proofs.passing.pass_item.Goals as goal

@@ -1,7 +1,6 @@
 -- The kinds and the mark decide, and the stores follow.
 use native.Mathlib.Omega.{arith}
 use mathlib.Core.Path.{ap, ◌∙◌}
-use borrow.Author.Rules.{rules}
 use Rattle.notes.specs.Notes.{role_of}
 use Rattle.supplied.specs.Names.{gives}
 use Rattle.naming.proofs.Stepping.{kind_of_role, again_kind, again_given, again_done}

@@ -2,9 +2,7 @@
 use Prim.Native.Nat.{◌-◌}
 use mathlib.Core.Path.{refl}
 use native.Mathlib.Omega.{arith}
-use borrow.Author.Rules.{rules}
 use Rattle.laws.proofs.Search.{contrary}
-use Rattle.opposing.specs.Against.{FactsUnmixed}
 use Rattle.opposing.proofs.Unmixed.{facts_more}
 use Rattle.opposing.proofs.neighbours.any_mixed.Goals as goal
 

@@ -2,9 +2,8 @@
 use Prim.Native.Nat.{◌-◌}
 use mathlib.Core.Path.{refl}
 use native.Mathlib.Omega.{arith}
-use borrow.Author.Rules.{rules}
 use Rattle.laws.proofs.Search.{contrary}
-use Rattle.opposing.proofs.Unmixed.{Neighbours, neighbours_start, neighbours_more, neighbours_end}
+use Rattle.opposing.proofs.Unmixed.{neighbours_start, neighbours_more, neighbours_end}
 use Rattle.opposing.proofs.neighbours.mixed.Goals as goal
 
 pub begin_at-end-requires : goal.begin_at-end-requires

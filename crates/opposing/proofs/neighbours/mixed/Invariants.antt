@@ -1,9 +1,5 @@
 use Prim.Native.Nat.{◌-◌}
-use mathlib.Core.Path.{refl}
-use native.Mathlib.Omega.{arith}
-use borrow.Author.Rules.{rules}
-use Rattle.laws.proofs.Search.{contrary}
-use Rattle.opposing.proofs.Unmixed.{Neighbours, neighbours_start, neighbours_more, neighbours_end}
+use Rattle.opposing.proofs.Unmixed.{Neighbours}
 use Rattle.opposing.proofs.neighbours.mixed.Given as goal
 
 abbrev pub invariant-loop-p : goal.invariant-loop-p

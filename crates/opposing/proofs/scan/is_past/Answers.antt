@@ -1,6 +1,5 @@
 -- The first point, as they rise.
 use native.Mathlib.Omega.{arith}
-use borrow.Author.Rules.{rules}
 use borrow.Author.Tests.{ltb-true}
 use Rattle.opposing.proofs.Scanned.{rising_past}
 use Rattle.opposing.proofs.scan.is_past.Goals as goal

@@ -1,9 +1,7 @@
 -- All that was passed has the value.
-use Prim.Native.Nat.{◌-◌, ◌≤◌}
+use Prim.Native.Nat.{◌-◌}
 use mathlib.Core.Path.{sym, ◌∙◌}
 use native.Mathlib.Omega.{arith}
-use borrow.Author.Rules.{rules}
-use Rattle.opposing.specs.Against.{OfValue}
 use Rattle.opposing.proofs.Scanned.{of_value_more}
 use Rattle.opposing.proofs.scan.opposing_from.Goals as goal
 

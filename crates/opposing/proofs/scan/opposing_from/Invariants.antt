@@ -1,9 +1,5 @@
 use Prim.Native.Nat.{◌-◌, ◌≤◌}
-use mathlib.Core.Path.{sym, ◌∙◌}
-use native.Mathlib.Omega.{arith}
-use borrow.Author.Rules.{rules}
 use Rattle.opposing.specs.Against.{OfValue}
-use Rattle.opposing.proofs.Scanned.{of_value_more}
 use Rattle.opposing.proofs.scan.opposing_from.Given as goal
 
 abbrev pub invariant-loop-p : goal.invariant-loop-p

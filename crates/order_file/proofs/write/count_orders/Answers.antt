@@ -1,12 +1,8 @@
 -- The entries so far that are orders are counted.
-use Prim.Native.Nat.{◌≤◌, ◌-◌}
-use mathlib.Core.Path.{◌≡◌, refl, ◌∙◌}
-use mathlib.Core.Logic.{⊎_elim}
+use Prim.Native.Nat.{◌-◌}
+use mathlib.Core.Path.{refl, ◌∙◌}
 use native.Mathlib.Omega.{arith}
-use Rattle.order_file.specs.Table.{table_size}
-use Rattle.laws.specs.Nth.{count}
 use Rattle.laws.proofs.Nth.{count_start, count_more, count_same}
-use Rattle.order_file.specs.Held.{entered}
 use Rattle.order_file.proofs.Put.{entered_above, entered_below, entered_rest}
 use Rattle.order_file.proofs.write.count_orders.Goals as goal
 use Rattle.order_file.proofs.write.count_orders.Goals.{then-gaps-q-gt-TABLE_BIAS, else-gaps-q-gt-TABLE_BIAS}

@@ -1,6 +1,5 @@
 -- The tables are put one behind the other.
 use native.Mathlib.Omega.{arith}
-use borrow.Author.Rules.{rules}
 use Rattle.order_file.proofs.Whole.{orders_most, put_file}
 use Rattle.order_file.proofs.write.write_file.Goals as goal
 

@@ -1,5 +1,4 @@
 -- Each number is put behind the one before it.
-use borrow.Author.Rules.{rules}
 use Rattle.order_file.proofs.Put.{put_header}
 use Rattle.order_file.proofs.write.write_header.Goals as goal
 

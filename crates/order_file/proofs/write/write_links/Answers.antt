@@ -1,10 +1,7 @@
 -- One more link is put behind the others.
-use Prim.Native.Nat.{◌≤◌, ◌-◌}
-use mathlib.Core.Path.{◌≡◌, refl}
+use Prim.Native.Nat.{◌-◌}
+use mathlib.Core.Path.{refl}
 use native.Mathlib.Omega.{arith}
-use lib.Seq.{sets}
-use Rattle.laws.specs.Listed.{concatenate}
-use Rattle.order_file.specs.Held.{link_in}
 use Rattle.order_file.proofs.Put.{put_start, put_size, links_more, put_end}
 use Rattle.order_file.proofs.write.write_links.Goals as goal
 

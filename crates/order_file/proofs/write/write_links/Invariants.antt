@@ -1,10 +1,8 @@
 use Prim.Native.Nat.{◌≤◌, ◌-◌}
-use mathlib.Core.Path.{◌≡◌, refl}
-use native.Mathlib.Omega.{arith}
+use mathlib.Core.Path.{◌≡◌}
 use lib.Seq.{sets}
 use Rattle.laws.specs.Listed.{concatenate}
 use Rattle.order_file.specs.Held.{link_in}
-use Rattle.order_file.proofs.Put.{put_start, put_size, links_more, put_end}
 use Rattle.order_file.proofs.write.write_links.Given as goal
 
 abbrev pub invariant-loop-j : goal.invariant-loop-j

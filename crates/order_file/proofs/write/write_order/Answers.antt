@@ -1,5 +1,4 @@
 -- Each number is put behind the one before it.
-use borrow.Author.Rules.{rules}
 use Rattle.order_file.proofs.Put.{put_order}
 use Rattle.order_file.proofs.write.write_order.Goals as goal
 

@@ -1,9 +1,8 @@
 -- The orders of one more row are put behind the others.
-use Prim.Native.Nat.{◌*◌, ◌-◌}
+use Prim.Native.Nat.{◌-◌}
 use native.Mathlib.Nat.{mul-le-mul_left}
 use native.Mathlib.Omega.{arith}
 use Rattle.order_file.specs.Table.{row_width}
-use Rattle.order_file.specs.Held.{OrdersPut}
 use Rattle.order_file.proofs.Put.{put_size, orders_start, orders_end}
 use Rattle.order_file.proofs.write.write_orders.Goals as goal
 

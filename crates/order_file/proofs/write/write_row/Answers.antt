@@ -1,11 +1,8 @@
 -- One more order is put behind the others, where the entry is one.
-use Prim.Native.Nat.{ℕ, ◌*◌, ◌-◌, ◌≤◌, ◌<◌}
-use mathlib.Core.List.{List}
-use mathlib.Core.Logic.{⊎_elim}
+use Prim.Native.Nat.{◌-◌, ◌<◌}
 use mathlib.Core.Path.{◌∙◌}
 use native.Mathlib.Omega.{arith}
-use Rattle.order_file.specs.Table.{row_width, table_size}
-use Rattle.order_file.specs.Held.{OrdersPut}
+use Rattle.order_file.specs.Table.{table_size}
 use Rattle.order_file.proofs.Put.{put_size, order_fits, orders_more, orders_same, orders_row}
 use Rattle.order_file.proofs.write.write_row.Goals as goal
 use Rattle.order_file.proofs.write.write_row.Goals.{then-gaps-q-gt-TABLE_BIAS, else-gaps-q-gt-TABLE_BIAS}

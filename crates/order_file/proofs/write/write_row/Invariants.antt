@@ -1,11 +1,7 @@
-use Prim.Native.Nat.{ℕ, ◌*◌, ◌-◌, ◌≤◌, ◌<◌}
+use Prim.Native.Nat.{ℕ, ◌*◌, ◌-◌, ◌≤◌}
 use mathlib.Core.List.{List}
-use mathlib.Core.Logic.{⊎_elim}
-use mathlib.Core.Path.{◌∙◌}
-use native.Mathlib.Omega.{arith}
-use Rattle.order_file.specs.Table.{row_width, table_size}
+use Rattle.order_file.specs.Table.{row_width}
 use Rattle.order_file.specs.Held.{OrdersPut}
-use Rattle.order_file.proofs.Put.{put_size, order_fits, orders_more, orders_same, orders_row}
 use Rattle.order_file.proofs.write.write_row.Given as goal
 
 abbrev pub invariant-loop-q : goal.invariant-loop-q

@@ -1,11 +1,9 @@
 use Prim.Native.Nat.{◌≤◌, ◌-◌}
 use mathlib.Core.Path.{◌≡◌}
-use native.Mathlib.Omega.{arith}
 use lib.Seq.{sets}
 use Rattle.laws.specs.Listed.{concatenate}
 use Rattle.order_file.specs.Layout.{windows_at}
 use Rattle.order_file.specs.Held.{window_in}
-use Rattle.order_file.proofs.Put.{put_start, put_size, windows_more, put_end}
 use Rattle.order_file.proofs.write.write_windows.Given as goal
 
 abbrev pub invariant-loop-k : goal.invariant-loop-k

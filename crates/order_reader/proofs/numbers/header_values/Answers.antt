@@ -1,5 +1,4 @@
 use mathlib.Core.Path.{sym, ap}
-use borrow.Author.Rules.{rules}
 use Rattle.order_answers.specs.Answers.{header_values}
 use Rattle.order_reader.proofs.numbers.header_values.Goals as goal
 

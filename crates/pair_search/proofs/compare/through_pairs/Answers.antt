@@ -1,7 +1,7 @@
 -- The keys up to p are passed as the lower ones of their pairs, and none of these was found.
 use Prim.Native.Nat.{◌-◌}
 use native.Mathlib.Omega.{arith}
-use Rattle.pair_search.proofs.Comparing.{PassedPairs, pairs_start, pairs_more, pairs_found, pairs_end}
+use Rattle.pair_search.proofs.Comparing.{pairs_start, pairs_more, pairs_found, pairs_end}
 use Rattle.pair_search.proofs.compare.through_pairs.Goals as goal
 
 pub loop-p-init : goal.loop-p-init

@@ -1,11 +1,8 @@
 -- Those up to q are passed, and none of them is opposite.
 use Prim.Native.Nat.{◌-◌}
-use mathlib.Core.Path.{◌≡◌, sym, ◌∙◌}
+use mathlib.Core.Path.{sym, ◌∙◌}
 use native.Mathlib.Omega.{arith}
-use lib.ListN.{get_or}
-use borrow.Author.Rules.{rules}
-use Rattle.pair_search.specs.Keys.{opposite}
-use Rattle.pair_search.proofs.Comparing.{Passed, passed_start, passed_more, passed_found, passed_end}
+use Rattle.pair_search.proofs.Comparing.{passed_start, passed_more, passed_found, passed_end}
 use Rattle.pair_search.proofs.compare.with_higher.Goals as goal
 
 pub offset_bounds-keys-p : goal.offset_bounds-keys-p

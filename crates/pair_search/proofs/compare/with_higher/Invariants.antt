@@ -1,10 +1,8 @@
 use Prim.Native.Nat.{◌-◌}
-use mathlib.Core.Path.{◌≡◌, sym, ◌∙◌}
-use native.Mathlib.Omega.{arith}
+use mathlib.Core.Path.{◌≡◌}
 use lib.ListN.{get_or}
-use borrow.Author.Rules.{rules}
 use Rattle.pair_search.specs.Keys.{opposite}
-use Rattle.pair_search.proofs.Comparing.{Passed, passed_start, passed_more, passed_found, passed_end}
+use Rattle.pair_search.proofs.Comparing.{Passed}
 use Rattle.pair_search.proofs.compare.with_higher.Given as goal
 
 abbrev pub invariant-loop-q : goal.invariant-loop-q

@@ -1,9 +1,7 @@
 -- Each effect becomes the last of its step.
-use Prim.Native.Nat.{◌≤◌, ◌-◌}
+use Prim.Native.Nat.{◌-◌}
 use native.Mathlib.Omega.{arith}
-use Rattle.timeline.specs.Indexed.{Growing}
 use Rattle.timeline.proofs.Indexing.{growing_more, growing_end}
-use Rattle.job.specs.Model.{view}
 use borrow.Author.Rules.{rules}
 use Rattle.pair_search.proofs.keys.link_effects.Goals as goal
 

@@ -1,9 +1,6 @@
 use Prim.Native.Nat.{◌≤◌, ◌-◌}
-use native.Mathlib.Omega.{arith}
 use Rattle.timeline.specs.Indexed.{Growing}
-use Rattle.timeline.proofs.Indexing.{growing_more, growing_end}
 use Rattle.job.specs.Model.{view}
-use borrow.Author.Rules.{rules}
 use Rattle.pair_search.proofs.keys.link_effects.Given as goal
 
 abbrev pub invariant-loop-k : goal.invariant-loop-k

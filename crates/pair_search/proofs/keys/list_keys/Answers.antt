@@ -1,10 +1,9 @@
 -- Along the links of a step's effects, from the last to the first.
 use mathlib.Core.Path.{sym, ap, ◌∙◌}
 use native.Mathlib.Omega.{arith}
-use Rattle.laws.proofs.Linked.{ahead, back_less}
-use Rattle.job.specs.Model.{view}
+use Rattle.laws.proofs.Linked.{back_less}
 use Rattle.pair_search.specs.Keys.{key_of}
-use Rattle.pair_search.proofs.Listing.{in_range, Listing, listing_room, listing_start, listing_more, listing_end}
+use Rattle.pair_search.proofs.Listing.{in_range, listing_room, listing_start, listing_more, listing_end}
 use Rattle.pair_search.proofs.keys.list_keys.Goals as goal
 
 pub last_of-k-requires : goal.last_of-k-requires

@@ -1,6 +1,5 @@
 -- The sum of the counts.
 use mathlib.Core.Path.{refl}
-use borrow.Author.Rules.{rules}
 use Rattle.points.proofs.words.groups_counted.Goals as goal
 
 pub returns : goal.returns

@@ -1,7 +1,6 @@
 -- Both tests pass.
 use native.Mathlib.Omega.{arith}
 use lib.Dec.{leb}
-use borrow.Author.Rules.{rules}
 use borrow.Author.Tests.{leb-true}
 use Rattle.laws.proofs.Search.{and_both}
 use Rattle.points.specs.Words.{few_points, few_groups}

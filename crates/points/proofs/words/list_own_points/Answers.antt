@@ -1,5 +1,4 @@
 -- The points of the job whose timed facts are left out.
-use borrow.Author.Rules.{rules}
 use Rattle.validity.specs.Ticks.{schedule_of}
 use Rattle.points.proofs.Own.{untimed_ranged, untimed_laid, untimed_room, untimed_known}
 use Rattle.points.proofs.words.list_own_points.Goals as goal

@@ -1,6 +1,5 @@
 -- The words are listed and then sorted, so the points are known.
 use native.Mathlib.Omega.{arith}
-use borrow.Author.Rules.{rules}
 use Rattle.job.specs.Model.{view}
 use Rattle.points.proofs.ClockedRange.{clocked_range}
 use Rattle.points.proofs.Placing.{groups_low, points_known}

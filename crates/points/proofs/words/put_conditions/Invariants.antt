@@ -1,11 +1,8 @@
 use Prim.Native.Nat.{◌-◌}
-use native.Mathlib.Nat.{zero-add}
-use native.Mathlib.Omega.{arith}
-use borrow.Author.Rules.{rules}
 use Rattle.job.specs.Model.{view}
 use Rattle.point_words.specs.Words.{condition_word}
 use Rattle.validity.specs.Ticks.{schedule_of, first_tick}
-use Rattle.points.proofs.Putting.{Putting, putting_start, putting_room, putting_more, putting_end}
+use Rattle.points.proofs.Putting.{Putting}
 use Rattle.points.proofs.words.put_conditions.Given as goal
 
 abbrev pub invariant-loop-c : goal.invariant-loop-c

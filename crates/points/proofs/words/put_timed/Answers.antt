@@ -1,12 +1,7 @@
 -- The words so far are put.
-use Prim.Native.Nat.{◌+◌, ◌-◌}
+use Prim.Native.Nat.{◌-◌}
 use native.Mathlib.Omega.{arith}
-use borrow.Author.Rules.{rules}
-use Rattle.job.specs.Clocked.{clocked}
-use Rattle.job.specs.Model.{view}
-use Rattle.point_words.specs.Words.{effect_word}
-use Rattle.validity.specs.Ticks.{schedule_of, effect_tick}
-use Rattle.points.proofs.Putting.{Putting, putting_start, putting_room, putting_more, putting_end}
+use Rattle.points.proofs.Putting.{putting_start, putting_room, putting_more, putting_end}
 use Rattle.points.proofs.words.put_timed.Goals as goal
 
 pub loop-j-init : goal.loop-j-init

@@ -1,11 +1,9 @@
 use Prim.Native.Nat.{◌+◌, ◌-◌}
-use native.Mathlib.Omega.{arith}
-use borrow.Author.Rules.{rules}
 use Rattle.job.specs.Clocked.{clocked}
 use Rattle.job.specs.Model.{view}
 use Rattle.point_words.specs.Words.{effect_word}
 use Rattle.validity.specs.Ticks.{schedule_of, effect_tick}
-use Rattle.points.proofs.Putting.{Putting, putting_start, putting_room, putting_more, putting_end}
+use Rattle.points.proofs.Putting.{Putting}
 use Rattle.points.proofs.words.put_timed.Given as goal
 
 abbrev pub invariant-loop-j : goal.invariant-loop-j

@@ -1,12 +1,9 @@
 -- Each point in turn.
-use Prim.Native.Nat.{ℕ, ◌+◌, ◌-◌, ◌≤◌}
+use Prim.Native.Nat.{◌+◌, ◌-◌}
 use mathlib.Core.Path.{refl}
 use native.Mathlib.Omega.{arith}
 use borrow.Author.Rules.{rules}
-use Rattle.validity.specs.Ticks.{schedule_of}
 use Rattle.order_file.specs.Table.{row_width}
-use Rattle.order_file.specs.Contents.{step_limit}
-use Rattle.origins.specs.Points.{Group, Reached, Among, PointOrder}
 use Rattle.origins.proofs.Reached.{within_up, within_all, within_empty}
 use Rattle.rows.proofs.Grouped.{group_from, group_notable, point_known, later_given}
 use Rattle.rows.proofs.pairs.pair_among.Goals as goal

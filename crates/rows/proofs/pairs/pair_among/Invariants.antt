@@ -1,13 +1,7 @@
-use Prim.Native.Nat.{ℕ, ◌+◌, ◌-◌, ◌≤◌}
-use mathlib.Core.Path.{refl}
-use native.Mathlib.Omega.{arith}
-use borrow.Author.Rules.{rules}
+use Prim.Native.Nat.{ℕ, ◌-◌, ◌≤◌}
 use Rattle.validity.specs.Ticks.{schedule_of}
-use Rattle.order_file.specs.Table.{row_width}
 use Rattle.order_file.specs.Contents.{step_limit}
 use Rattle.origins.specs.Points.{Group, Reached, Among, PointOrder}
-use Rattle.origins.proofs.Reached.{within_up, within_all, within_empty}
-use Rattle.rows.proofs.Grouped.{group_from, group_notable, point_known, later_given}
 use Rattle.rows.proofs.pairs.pair_among.Given as goal
 
 abbrev pub invariant-loop-p : goal.invariant-loop-p

@@ -1,12 +1,10 @@
 -- Each condition in turn.
-use Prim.Native.Nat.{◌-◌, ◌≤◌}
+use Prim.Native.Nat.{◌-◌}
 use mathlib.Core.Path.{refl}
 use native.Mathlib.Omega.{arith}
 use borrow.Author.Rules.{rules}
 use Rattle.job.specs.Model.{view}
 use Rattle.validity.specs.Ticks.{schedule_of}
-use Rattle.order_file.specs.Table.{row_width}
-use Rattle.origins.specs.Points.{Reached, Among, AroundCondition}
 use Rattle.origins.proofs.Reached.{within_up, within_all, within_empty}
 use Rattle.rows.proofs.Grouped.{group_wide, group_notable, last_known, origin_wide}
 use Rattle.rows.proofs.Beside.{around_given, fact_paired}

@@ -4,7 +4,6 @@ use mathlib.Core.Path.{refl}
 use native.Mathlib.Omega.{arith}
 use borrow.Author.Rules.{rules}
 use Rattle.order_file.specs.Table.{row_width}
-use Rattle.origins.specs.Points.{Ordering}
 use Rattle.origins.proofs.Reached.{within_up, within_all, within_empty}
 use Rattle.rows.proofs.Grouped.{group_notable}
 use Rattle.rows.proofs.pairs.raise_after.Goals as goal

@@ -1,11 +1,8 @@
 -- Each setter in turn.
-use Prim.Native.Nat.{◌-◌, ◌≤◌}
+use Prim.Native.Nat.{◌-◌}
 use mathlib.Core.Path.{refl}
 use native.Mathlib.Omega.{arith}
 use borrow.Author.Rules.{rules}
-use Rattle.validity.specs.Ticks.{schedule_of}
-use Rattle.order_file.specs.Table.{row_width}
-use Rattle.origins.specs.Points.{Reached, Around}
 use Rattle.origins.proofs.Reached.{within_up, within_all, within_empty}
 use Rattle.rows.proofs.Grouped.{group_notable}
 use Rattle.rows.proofs.pairs.raise_around.Goals as goal

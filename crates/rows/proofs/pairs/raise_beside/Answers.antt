@@ -3,7 +3,6 @@ use Prim.Native.Nat.{◌≤◌, ◌<◌}
 use mathlib.Core.Path.{sym, ◌∙◌}
 use native.Mathlib.Omega.{arith}
 use lib.Dec.{ltb}
-use borrow.Author.Rules.{rules}
 use Rattle.job.specs.Model.{longest}
 use Rattle.validity.specs.Ticks.{schedule_of}
 use Rattle.order_file.specs.Table.{row_width}

@@ -1,7 +1,6 @@
 -- One order, or none.
 use mathlib.Core.Path.{ap, ◌∙◌}
 use native.Mathlib.Omega.{arith}
-use borrow.Author.Rules.{rules}
 use Rattle.validity.specs.Ticks.{schedule_of}
 use Rattle.orders.specs.Gaps.{strictly}
 use Rattle.rows.proofs.Grouped.{onto_passes, onto_fails, onto_none, onto_one}

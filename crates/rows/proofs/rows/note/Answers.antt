@@ -1,6 +1,5 @@
 -- Its place is that of its value and step.
 use native.Mathlib.Omega.{arith}
-use borrow.Author.Rules.{rules}
 use Rattle.rows.proofs.rows.note.Goals as goal
 
 pub overflow_mul-k : goal.overflow_mul-k

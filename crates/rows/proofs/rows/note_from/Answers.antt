@@ -1,8 +1,6 @@
 -- Back from the last noted place, up to the first point before tick t.
-use Prim.Native.Nat.{ℕ}
 use native.Mathlib.Omega.{arith}
 use borrow.Author.Rules.{rules}
-use Rattle.origins.specs.Points.{Noting}
 use Rattle.rows.proofs.Grouped.{group_notable, noting_found, noting_all, noting_more}
 use Rattle.rows.proofs.rows.note_from.Goals as goal
 

@@ -1,8 +1,5 @@
 use Prim.Native.Nat.{ℕ}
-use native.Mathlib.Omega.{arith}
-use borrow.Author.Rules.{rules}
 use Rattle.origins.specs.Points.{Noting}
-use Rattle.rows.proofs.Grouped.{group_notable, noting_found, noting_all, noting_more}
 use Rattle.rows.proofs.rows.note_from.Given as goal
 
 abbrev pub invariant-loop-p : goal.invariant-loop-p

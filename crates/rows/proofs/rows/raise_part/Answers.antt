@@ -1,7 +1,6 @@
 -- Entry by entry.
-use Prim.Native.Nat.{◌-◌, ◌≤◌}
+use Prim.Native.Nat.{◌-◌}
 use native.Mathlib.Omega.{arith}
-use Rattle.origins.specs.Points.{due_at, Rowed}
 use Rattle.origins.proofs.Row.{rowed_start, rowed_more, rowed_all, row_low}
 use Rattle.rows.proofs.rows.raise_part.Goals as goal
 

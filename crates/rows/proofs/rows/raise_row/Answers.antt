@@ -1,6 +1,5 @@
 -- The row, whole or in part.
 use native.Mathlib.Omega.{arith}
-use borrow.Author.Rules.{rules}
 use Rattle.order_file.specs.Table.{row_width}
 use Rattle.rows.proofs.Grouped.{row_known, row_reached}
 use Rattle.rows.proofs.rows.raise_row.Goals as goal

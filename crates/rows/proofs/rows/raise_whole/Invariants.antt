@@ -1,8 +1,6 @@
 use Prim.Native.Nat.{◌-◌, ◌≤◌}
-use native.Mathlib.Omega.{arith}
 use Rattle.order_file.specs.Table.{row_width}
 use Rattle.origins.specs.Points.{due_at, Rowed}
-use Rattle.origins.proofs.Row.{rowed_start, rowed_more, rowed_all, row_low}
 use Rattle.rows.proofs.rows.raise_whole.Given as goal
 
 abbrev pub invariant-loop-k : goal.invariant-loop-k

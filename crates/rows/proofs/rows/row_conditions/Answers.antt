@@ -3,8 +3,6 @@ use mathlib.Core.Path.{refl}
 use native.Mathlib.Omega.{arith}
 use borrow.Author.Rules.{rules}
 use Rattle.job.specs.Model.{view}
-use Rattle.validity.specs.Ticks.{schedule_of}
-use Rattle.origins.specs.Points.{last_origin, Rowing}
 use Rattle.origins.proofs.Reached.{within_all}
 use Rattle.rows.proofs.Grouped.{last_known, rowing_start, rowing_noting, rowing_known, rowing_more}
 use Rattle.rows.proofs.rows.row_conditions.Goals as goal

@@ -1,10 +1,5 @@
-use mathlib.Core.Path.{refl}
-use native.Mathlib.Omega.{arith}
-use borrow.Author.Rules.{rules}
 use Rattle.validity.specs.Ticks.{schedule_of}
 use Rattle.origins.specs.Points.{point_origin, Rowing}
-use Rattle.origins.proofs.Reached.{within_all}
-use Rattle.rows.proofs.Grouped.{group_notable, point_known, rowing_start, rowing_noting, rowing_known, rowing_more}
 use Rattle.rows.proofs.rows.row_points.Given as goal
 
 abbrev pub invariant-loop-p : goal.invariant-loop-p

@@ -2,10 +2,9 @@
 use mathlib.Core.Path.{refl}
 use native.Mathlib.Omega.{arith}
 use borrow.Author.Rules.{rules}
-use Rattle.validity.specs.Ticks.{schedule_of}
 use Rattle.origins.proofs.Reached.{within_all}
 use Rattle.rows.proofs.Grouped.{group_notable, point_known}
-use Rattle.rows.proofs.Setters.{Setting, setting_start, setting_known, setting_more}
+use Rattle.rows.proofs.Setters.{setting_start, setting_known, setting_more}
 use Rattle.rows.proofs.rows.row_setters.Goals as goal
 
 pub loop-p-init : goal.loop-p-init

@@ -1,10 +1,5 @@
-use mathlib.Core.Path.{refl}
-use native.Mathlib.Omega.{arith}
-use borrow.Author.Rules.{rules}
 use Rattle.validity.specs.Ticks.{schedule_of}
-use Rattle.origins.proofs.Reached.{within_all}
-use Rattle.rows.proofs.Grouped.{group_notable, point_known}
-use Rattle.rows.proofs.Setters.{Setting, setting_start, setting_known, setting_more}
+use Rattle.rows.proofs.Setters.{Setting}
 use Rattle.rows.proofs.rows.row_setters.Given as goal
 
 abbrev pub invariant-loop-p : goal.invariant-loop-p

@@ -1,12 +1,8 @@
 use Prim.Native.Nat.{◌≤◌, ◌-◌}
 use mathlib.Core.Path.{◌≡◌}
-use native.Mathlib.Omega.{arith}
 use Rattle.laws.specs.Search.{lowest}
-use Rattle.laws.proofs.Search.{lowest_start, lowest_more, lowest_found, lowest_end}
 use Rattle.job.specs.Model.{view}
-use Rattle.verdict.proofs.Chain.{lowest_refused, lowest_passed}
-use Rattle.against.specs.Clock.{timed_conflicts, timed_check}
-use borrow.Author.Rules.{rules}
+use Rattle.against.specs.Clock.{timed_conflicts}
 use Rattle.self_check.proofs.clock.check_clock.Given as goal
 
 abbrev pub invariant-loop-j : goal.invariant-loop-j

@@ -7,7 +7,7 @@ use native.Mathlib.Omega.{arith}
 use Rattle.laws.specs.Search.{any, lowest}
 use Rattle.laws.proofs.Search.{any_none, any_found, lowest_facts, lowest_start, lowest_more}
 use Rattle.job.specs.declared.records.TimedFact.{TimedFact}
-use Rattle.job.specs.Model.{Model, view, timed_of}
+use Rattle.job.specs.Model.{Model, timed_of}
 use Rattle.against.specs.Clock.{timed_both_ways, timed_conflicts}
 use borrow.Author.Rules.{rules}
 use Rattle.self_check.proofs.clock.conflicts.Goals as goal

@@ -1,6 +1,5 @@
 -- The sign and the amount, or the amount alone.
 use Rattle.sheet.proofs.Forms.{gap_below, gap_above}
-use borrow.Author.Rules.{rules}
 use native.Mathlib.Omega.{arith}
 use Rattle.sheet.proofs.lines.put_gap.Goals as goal
 

@@ -1,6 +1,5 @@
 -- `none` or the number.
 use Rattle.sheet.proofs.Forms.{latest_none, latest_some}
-use borrow.Author.Rules.{rules}
 use native.Mathlib.Omega.{arith}
 use Rattle.sheet.proofs.lines.put_latest.Goals as goal
 

@@ -1,4 +1,3 @@
-use borrow.Author.Rules.{rules}
 use Rattle.spelling.proofs.Standing.{inside, bracket_end, bracket_is}
 use Rattle.spelling.proofs.here.at_bracket.Goals as goal
 

@@ -1,4 +1,3 @@
-use borrow.Author.Rules.{rules}
 use Rattle.spelling.proofs.Standing.{inside, some_end, some_is}
 use Rattle.spelling.proofs.here.at_some_word.Goals as goal
 

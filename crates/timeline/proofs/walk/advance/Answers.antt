@@ -1,8 +1,6 @@
 -- What stands before the place is before t, up to the first that is not.
 use Prim.Native.Nat.{◌-◌}
 use native.Mathlib.Omega.{arith}
-use borrow.Author.Rules.{rules}
-use Rattle.timeline.specs.Walking.{Walking}
 use Rattle.timeline.proofs.Walking.{walking_more, walking_ends}
 use Rattle.timeline.proofs.walk.advance.Goals as goal
 

@@ -1,8 +1,5 @@
 use Prim.Native.Nat.{◌-◌}
-use native.Mathlib.Omega.{arith}
-use borrow.Author.Rules.{rules}
 use Rattle.timeline.specs.Walking.{Walking}
-use Rattle.timeline.proofs.Walking.{walking_more, walking_ends}
 use Rattle.timeline.proofs.walk.advance.Given as goal
 
 abbrev pub invariant-loop-place : goal.invariant-loop-place

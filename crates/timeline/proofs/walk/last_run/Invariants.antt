@@ -1,8 +1,4 @@
-use mathlib.Core.Path.{refl, sym, ◌∙◌}
-use native.Mathlib.Omega.{arith}
-use borrow.Author.Rules.{rules}
 use Rattle.timeline.specs.Walking.{Alike}
-use Rattle.timeline.proofs.Walking.{alike_start, alike_more, alike_run, run_none}
 use Rattle.timeline.proofs.walk.last_run.Given as goal
 
 abbrev pub invariant-loop-run : goal.invariant-loop-run

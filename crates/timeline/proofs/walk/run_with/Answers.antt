@@ -1,7 +1,6 @@
 -- The first point begins a run, and so does one of another value than the one before it.
 use mathlib.Core.Path.{sym, ◌∙◌}
 use native.Mathlib.Omega.{arith}
-use borrow.Author.Rules.{rules}
 use Rattle.timeline.proofs.Walking.{run_begins, run_grows}
 use Rattle.timeline.proofs.walk.run_with.Goals as goal
 

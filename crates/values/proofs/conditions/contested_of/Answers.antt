@@ -1,11 +1,7 @@
 -- Condition by condition, beside the setters.
 use Prim.Native.Nat.{◌-◌}
 use native.Mathlib.Omega.{arith}
-use borrow.Author.Rules.{rules}
-use Rattle.job.specs.Clocked.{clocked}
-use Rattle.job.specs.Model.{view}
-use Rattle.validity.specs.Ticks.{schedule_of}
-use Rattle.values.proofs.Walked.{Walked, walked_start, walked_listed, walked_before, walked_at, walked_more, walked_end}
+use Rattle.values.proofs.Walked.{walked_start, walked_listed, walked_before, walked_at, walked_more, walked_end}
 use Rattle.values.proofs.conditions.contested_of.Goals as goal
 
 pub begin_at-requires : goal.begin_at-requires

@@ -1,12 +1,8 @@
 -- Fact by fact: every condition is on one of them.
-use Prim.Native.Nat.{◌-◌, ◌<◌}
+use Prim.Native.Nat.{◌-◌}
 use native.Mathlib.Omega.{arith}
-use borrow.Author.Rules.{rules}
 use Rattle.job.specs.Clocked.{clocked}
 use Rattle.job.specs.Model.{view}
-use Rattle.validity.specs.Ticks.{schedule_of}
-use Rattle.values.specs.Contested.{contested}
-use Rattle.laws.specs.Noted.{Noted}
 use Rattle.laws.proofs.Noted.{noted_start, noted_lowest}
 use Rattle.values.proofs.Walked.{fact_more}
 use Rattle.values.proofs.conditions.first_contested.Goals as goal

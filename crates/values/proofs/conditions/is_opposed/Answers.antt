@@ -1,6 +1,5 @@
 -- Nothing, where all points lie after the last tick; else what the two scans find.
 use mathlib.Core.Path.{refl}
-use borrow.Author.Rules.{rules}
 use Rattle.values.proofs.Against.{past_unopposed}
 use Rattle.values.proofs.conditions.is_opposed.Goals as goal
 

@@ -1,6 +1,5 @@
 -- The lower of the two, if the test passed.
 use mathlib.Core.Path.{refl}
-use borrow.Author.Rules.{rules}
 use Rattle.values.proofs.conditions.noted.Goals as goal
 
 pub returns-then-found : goal.returns-then-found

@@ -1,7 +1,6 @@
 -- Before the last tick is up to the tick before it.
 use mathlib.Core.Path.{refl}
 use native.Mathlib.Omega.{arith}
-use borrow.Author.Rules.{rules}
 use Rattle.values.proofs.conditions.opposed_before.Goals as goal
 
 pub returns-then-last-eq0 : goal.returns-then-last-eq0

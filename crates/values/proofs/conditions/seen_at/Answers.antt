@@ -1,6 +1,5 @@
 -- The point before the place tells the value, or there is none.
 use mathlib.Core.Path.{refl}
-use borrow.Author.Rules.{rules}
 use borrow.Author.Tests.{lt-ltb, le-ltb}
 use Rattle.values.proofs.conditions.seen_at.Goals as goal
 

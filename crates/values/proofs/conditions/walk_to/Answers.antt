@@ -1,6 +1,5 @@
 -- The walk goes on, and so does what it knows of the points ahead.
 use native.Mathlib.Omega.{arith}
-use borrow.Author.Rules.{rules}
 use Rattle.values.proofs.Walked.{before_walking, come_there}
 use Rattle.values.proofs.conditions.walk_to.Goals as goal
 

@@ -1,11 +1,8 @@
 -- A search for the lowest that conflicts.
-use Prim.Native.Nat.{◌-◌, ◌≤◌}
-use mathlib.Core.Path.{◌≡◌}
+use Prim.Native.Nat.{◌-◌}
 use native.Mathlib.Omega.{arith}
 use borrow.Author.Rules.{rules}
-use Rattle.laws.specs.Search.{lowest}
 use Rattle.laws.proofs.Search.{lowest_start, lowest_more, lowest_found}
-use Rattle.job.specs.Clocked.{clocked}
 use Rattle.job.specs.Model.{view}
 use Rattle.validity.specs.Ticks.{schedule_of}
 use Rattle.validity.specs.Checks.{conflicts}

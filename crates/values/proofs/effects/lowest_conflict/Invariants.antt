@@ -1,14 +1,10 @@
 use Prim.Native.Nat.{◌-◌, ◌≤◌}
 use mathlib.Core.Path.{◌≡◌}
-use native.Mathlib.Omega.{arith}
-use borrow.Author.Rules.{rules}
 use Rattle.laws.specs.Search.{lowest}
-use Rattle.laws.proofs.Search.{lowest_start, lowest_more, lowest_found}
 use Rattle.job.specs.Clocked.{clocked}
 use Rattle.job.specs.Model.{view}
 use Rattle.validity.specs.Ticks.{schedule_of}
 use Rattle.validity.specs.Checks.{conflicts}
-use Rattle.values.proofs.Conflicts.{no_step_conflicts}
 use Rattle.values.proofs.effects.lowest_conflict.Given as goal
 
 abbrev pub invariant-loop-e : goal.invariant-loop-e
