@@ -1,9 +1,6 @@
 -- The lines of the links, one behind the other.
 use Prim.Native.Nat.{◌-◌}
-use Rattle.order_file.specs.Layout.{contents_of}
-use Rattle.order_text.specs.Text.{link_line, link_most}
-use Rattle.sheet.proofs.LineByLine.{LinesPut, lines_start, lines_more, lines_length, lines_end}
-use borrow.Author.Rules.{rules}
+use Rattle.sheet.proofs.LineByLine.{lines_start, lines_more, lines_length, lines_end}
 use native.Mathlib.Omega.{arith}
 use Rattle.order_text.proofs.put_links.Goals as goal
 

@@ -1,9 +1,7 @@
 use Prim.Native.Nat.{◌-◌}
 use Rattle.order_file.specs.Layout.{contents_of}
 use Rattle.order_text.specs.Text.{link_line, link_most}
-use Rattle.sheet.proofs.LineByLine.{LinesPut, lines_start, lines_more, lines_length, lines_end}
-use borrow.Author.Rules.{rules}
-use native.Mathlib.Omega.{arith}
+use Rattle.sheet.proofs.LineByLine.{LinesPut}
 use Rattle.order_text.proofs.put_links.Given as goal
 
 abbrev pub invariant-loop-k : goal.invariant-loop-k

@@ -3,7 +3,6 @@ use mathlib.Core.Path.{sym, ◌∙◌}
 use Rattle.text.proofs.Writing.{put_written}
 use Rattle.order_text.proofs.Forms.{text_accepted, text_refused}
 use Rattle.order_text.proofs.Fits.{most_within}
-use borrow.Author.Rules.{rules}
 use native.Mathlib.Omega.{arith}
 use Rattle.order_text.proofs.write_text.Goals as goal
 

@@ -1,9 +1,7 @@
 -- The words passed are starts, and as many as are counted.
 use Prim.Native.Nat.{◌-◌}
 use native.Mathlib.Omega.{arith}
-use borrow.Author.Rules.{rules}
-use lib.ListN.{length}
-use Rattle.start_list.proofs.Counting.{Counted, count_start, count_odd, count_fits, count_last, count_more}
+use Rattle.start_list.proofs.Counting.{count_start, count_odd, count_fits, count_last, count_more}
 use Rattle.start_list.proofs.count_starts.Goals as goal
 
 pub loop-n-init : goal.loop-n-init

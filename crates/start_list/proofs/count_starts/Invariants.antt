@@ -1,8 +1,6 @@
 use Prim.Native.Nat.{◌-◌}
-use native.Mathlib.Omega.{arith}
-use borrow.Author.Rules.{rules}
 use lib.ListN.{length}
-use Rattle.start_list.proofs.Counting.{Counted, count_start, count_odd, count_fits, count_last, count_more}
+use Rattle.start_list.proofs.Counting.{Counted}
 use Rattle.start_list.proofs.count_starts.Given as goal
 
 abbrev pub invariant-loop-n : goal.invariant-loop-n

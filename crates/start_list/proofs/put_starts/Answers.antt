@@ -1,8 +1,6 @@
 -- The starts of the words passed stand, and every word to come is a start.
 use Prim.Native.Nat.{◌-◌}
-use borrow.Author.Rules.{rules}
-use lib.ListN.{length}
-use Rattle.start_list.proofs.Storing.{Stored, store_start, store_full, store_odd, store_last, store_more}
+use Rattle.start_list.proofs.Storing.{store_start, store_full, store_odd, store_last, store_more}
 use Rattle.start_list.proofs.put_starts.Goals as goal
 
 pub loop-n-init : goal.loop-n-init

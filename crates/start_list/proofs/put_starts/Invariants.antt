@@ -1,7 +1,6 @@
 use Prim.Native.Nat.{◌-◌}
-use borrow.Author.Rules.{rules}
 use lib.ListN.{length}
-use Rattle.start_list.proofs.Storing.{Stored, store_start, store_full, store_odd, store_last, store_more}
+use Rattle.start_list.proofs.Storing.{Stored}
 use Rattle.start_list.proofs.put_starts.Given as goal
 
 abbrev pub invariant-loop-n : goal.invariant-loop-n

@@ -1,8 +1,6 @@
 -- The bytes passed are of the word.
 use Prim.Native.Nat.{◌-◌}
-use borrow.Author.Rules.{rules}
-use lib.ListN.{length}
-use Rattle.start_list.proofs.Words.{Passed, passed_start, passed_more, word_comma, word_last}
+use Rattle.start_list.proofs.Words.{passed_start, passed_more, word_comma, word_last}
 use Rattle.start_list.proofs.word_end.Goals as goal
 
 pub loop-k-init : goal.loop-k-init

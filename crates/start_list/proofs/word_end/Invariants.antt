@@ -1,7 +1,6 @@
 use Prim.Native.Nat.{◌-◌}
-use borrow.Author.Rules.{rules}
 use lib.ListN.{length}
-use Rattle.start_list.proofs.Words.{Passed, passed_start, passed_more, word_comma, word_last}
+use Rattle.start_list.proofs.Words.{Passed}
 use Rattle.start_list.proofs.word_end.Given as goal
 
 abbrev pub invariant-loop-k : goal.invariant-loop-k

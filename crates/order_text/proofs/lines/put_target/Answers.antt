@@ -1,6 +1,5 @@
 -- The initial state, an effect or a timed fact.
 use Rattle.order_text.proofs.Forms.{target_initial, target_effect, target_timed}
-use borrow.Author.Rules.{rules}
 use native.Mathlib.Omega.{arith}
 use Rattle.order_text.proofs.lines.put_target.Goals as goal
 
