@@ -67,7 +67,7 @@ fn check_starts(s: &[u8], job: Job, starts: &[u32]) -> Verdict
     refuse_if(v, k < job.count.steps, Verdict::FixedStepMoved(k))
 }
 
-// Refusals 8 to 13 and 21, of a well_formed_lem job, rule by rule.
+// Refusals 8 to 13 and 21, of a well-formed job, rule by rule.
 fn check_formed(s: &[u8], job: Job, starts: &[u32], points: &[u64], begins: &[u16]) -> Verdict
     requires { FormedPoints (view job s.now) (schedule_of starts.now) points.now begins.now × Laid job s.now }
     ensures { result ≡ starts_check (clocked (view job s.now)) starts.now }
