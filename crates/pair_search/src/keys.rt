@@ -48,7 +48,7 @@ pub fn link_effects(s: &[u8], job: Job, index: &mut [u16; INDEX_SIZE])
 pub fn list_keys(s: &[u8], job: Job, index: &[u16], step: u16, keys: &mut [u32]) -> usize
     requires { Laid job s.now × Ranged (view job s.now) × Growing (view job s.now).effect_step job.count.effects index.now
         × (step < job.count.steps) × (length keys.old ≡ most_effects) }
-    ensures upper_bound { (result ≤ most_effects) × (drop result keys.new
+    ensures listed { (result ≤ most_effects) × (drop result keys.new
         ≡ map (effect_key (view job s.now)) (effects_from (view job s.now) step 0 job.count.effects)) }
     ensures keys_len { length keys.new ≡ most_effects }
 {

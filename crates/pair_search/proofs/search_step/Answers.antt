@@ -22,4 +22,4 @@ returns c =
     let r = c.through_pairs.ensures in
     let p = c.requires in
     let part = rest_of c.list_keys-low.result c.list_keys-low.new.keys in
-    record { value = (r.0 ∙ ap (through_pairs opposed) (part ∙ c.list_keys-low.ensures.upper_bound.1) ∙ step_keys _ p.1 _, r.1); keys_len = c.list_keys-low.ensures.keys_len }
+    record { value = (r.0 ∙ ap (through_pairs opposed) (part ∙ c.list_keys-low.ensures.listed.1) ∙ step_keys _ p.1 _, r.1); keys_len = c.list_keys-low.ensures.keys_len }

@@ -53,4 +53,4 @@ shape_of-keys c = c.loop-k.invariant.size ∙ sym c.requires.4
 pub returns : goal.returns
 returns c =
     let i = c.loop-k.invariant in
-    record { upper_bound = (i.most, listing_end _ _ _ _ _ _ i c.loop-k-test.false); keys_len = i.size }
+    record { listed = (i.most, listing_end _ _ _ _ _ _ i c.loop-k-test.false); keys_len = i.size }
