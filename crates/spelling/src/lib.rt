@@ -36,7 +36,8 @@ fn line_after(b: u8, line: usize) -> usize
     requires { line ≤ text_most }
     ensures { (result ≡ line_after b line) × (result ≤ line + 1) }
 {
-    if b == 10 { line + 1 } else { line }
+    let ends_line = b == 10;
+    if ends_line { line + 1 } else { line }
 }
 
 // A place of a text, and its line.
@@ -90,7 +91,7 @@ pub struct Cursor {
 // The token that begins at a place which holds no blank.
 fn token_at(plan: bool, text: &[u8], at: usize, line: usize) -> Cursor
     requires at_in_bounds { (at ≤ length text.now) × (line ≤ at) }
-    requires at_value { at < length text.now → is_blank plan (get_or text.now at 0) ≡ false }
+    requires not_blank { at < length text.now → is_blank plan (get_or text.now at 0) ≡ false }
     ensures { (result.at ≡ at) × (result.line ≡ line) × Standing plan text.now result }
 {
     if at == text.len() {

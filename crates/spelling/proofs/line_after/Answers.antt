@@ -9,10 +9,10 @@ pub overflow_add-result : goal.overflow_add-result
 unfolding line_after
 overflow_add-result c = search rules
 
-pub returns-then-b-eq10 : goal.returns-then-b-eq10
+pub returns-then-ends_line : goal.returns-then-ends_line
 unfolding line_after
-returns-then-b-eq10 c = (rw (eq-eqb _ _ c.if-b-eq10.true) (add-one _), omega arith)
+returns-then-ends_line c = (rw (eq-eqb _ _ c.if-ends_line.true) (add-one _), omega arith)
 
-pub returns-else-b-eq10 : goal.returns-else-b-eq10
+pub returns-else-ends_line : goal.returns-else-ends_line
 unfolding line_after
-returns-else-b-eq10 c = (rw (ne_eqb _ _ c.if-b-eq10.false), omega arith)
+returns-else-ends_line c = (rw (ne_eqb _ _ c.if-ends_line.false), omega arith)

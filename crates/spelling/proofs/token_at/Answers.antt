@@ -14,11 +14,11 @@ returns-then-is_mark c =
     let s = c in
     let h : s.args.at < length s.args.text.now = omega arith in
     let mark = sym c.is_mark.ensures ∙ c.if-is_mark.true in
-    (refl, refl, stand_mark _ _ _ s.requires.at_in_bounds.1 h (s.requires.at_value h) mark refl)
+    (refl, refl, stand_mark _ _ _ s.requires.at_in_bounds.1 h (s.requires.not_blank h) mark refl)
 
 pub returns : goal.returns
 returns c =
     let s = c in
     let h : s.args.at < length s.args.text.now = omega arith in
     let mark = sym c.is_mark.ensures ∙ c.if-is_mark.false in
-    (refl, refl, stand_word _ _ _ s.requires.at_in_bounds.1 h (s.requires.at_value h) mark c.run_end.ensures)
+    (refl, refl, stand_word _ _ _ s.requires.at_in_bounds.1 h (s.requires.not_blank h) mark c.run_end.ensures)
