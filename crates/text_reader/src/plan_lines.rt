@@ -12,8 +12,8 @@ const LINE_END: u8 = 10;
 // A line's end, or the text's.
 fn end_line(text: &[u8], r: Reader) -> Reader
     requires { Stands true text.now r }
-    ensures fault_value { result.fault ≡ 0 → r.fault ≡ 0 }
-    ensures by_index { (list : List ℕ) → Ready true text.now list r → Turns true text.now list r line_end list result lines }
+    ensures kept_fault { result.fault ≡ 0 → r.fault ≡ 0 }
+    ensures turns { (list : List ℕ) → Ready true text.now list r → Turns true text.now list r line_end list result lines }
 {
     if r.fault != 0 {
         return r;

@@ -67,5 +67,5 @@ returns c =
     let p8 = c.take_bracket-last.ensures.reads _ c.take_time-timed.ensures.ready in
     let row = (then p1 (then p2 (then p3 (then p4 (then p5 (then p6 (then p7 (lead p8)))))))) in
     let e = c.end_line.ensures in
-    let t = line_full c.requires.0 c.sees_bracket.ensures c.if-sees_bracket.false c.requires.2 row (e.by_index _ p8.ready) in
-    (t, λ z. let h = row.further (e.fault_value z) in omega (arith, (e.by_index _ p8.ready).onward))
+    let t = line_full c.requires.0 c.sees_bracket.ensures c.if-sees_bracket.false c.requires.2 row (e.turns _ p8.ready) in
+    (t, λ z. let h = row.further (e.kept_fault z) in omega (arith, (e.turns _ p8.ready).onward))
