@@ -27,7 +27,8 @@ fn raise_support(s: &[u8], job: Job, links: &[u16], c: u16, gaps: &mut [u32])
 {
     let effects = job.count.effects;
     let link = links[c as usize];
-    if link >= effects {
+    let of_clock = link >= effects;
+    if of_clock {
         return;
     }
     let condition = condition_of(s, job, c);

@@ -16,22 +16,22 @@ use Rattle.gaps.proofs.fill.raise_support.Goals as goal
 pub offset_bounds-links-c : goal.offset_bounds-links-c
 offset_bounds-links-c c = omega arith
 
-pub returns-then-link-effects : goal.returns-then-link-effects
-returns-then-link-effects c =
+pub returns-then-of_clock : goal.returns-then-of_clock
+returns-then-of_clock c =
     let m = view c.args.job c.args.s.now in
-    record { raised_by_links = λ x l. raised_none _ _ _ (support_none m _ _ (condition_link_lem _ _ _ l _ c.requires.1) (omega (arith, c.if-link-effects.true))); gaps = c.requires.0.whole }
+    record { raised_by_links = λ x l. raised_none _ _ _ (support_none m _ _ (condition_link_lem _ _ _ l _ c.requires.1) (omega (arith, c.if-of_clock.true))); gaps = c.requires.0.whole }
 
 pub condition_of-condition-requires : goal.condition_of-condition-requires
 condition_of-condition-requires c = (c.requires.2, c.requires.1)
 
 pub effect_of-effect-requires : goal.effect_of-effect-requires
-effect_of-effect-requires c = (c.requires.2, c.if-link-effects.false)
+effect_of-effect-requires c = (c.requires.2, c.if-of_clock.false)
 
 pub strictly-requires : goal.strictly-requires
 strictly-requires c =
     let form = c.requires.0.form in
     rw (c.effect_of-effect.ensures, c.condition_of-condition.ensures)
-    (step_near _ form _ c.if-link-effects.false, from_near _ (clocked_form _ form) _ c.requires.1)
+    (step_near _ form _ c.if-of_clock.false, from_near _ (clocked_form _ form) _ c.requires.1)
 
 pub raise-requires : goal.raise-requires
 raise-requires c =
@@ -39,7 +39,7 @@ raise-requires c =
     let few = form.step_count in
     rw (c.effect_of-effect.ensures, c.condition_of-condition.ensures) (
       c.requires.0.whole,
-      omega (arith, form.effect_step _ c.if-link-effects.false),
+      omega (arith, form.effect_step _ c.if-of_clock.false),
       omega (arith, form.condition_step _ c.requires.1),
       c.strictly.ensures.1,
     )
@@ -53,10 +53,10 @@ returns c =
     let step = ap (λ (e : Effect). e.step) first in
     let step' = ap (λ (q : Condition). q.step) second in record {
       raised_by_links = λ x l. raised_one _ _ _ _ _ _ _ form.step_count
-          (rw step (form.effect_step _ c.if-link-effects.false))
+          (rw step (form.effect_step _ c.if-of_clock.false))
           (rw step' (form.condition_step _ c.requires.1))
           c.raise.ensures
-          (support_order_lem m _ _ (condition_link_lem _ _ _ l _ c.requires.1) c.if-link-effects.false form.effect_count step step'
+          (support_order_lem m _ _ (condition_link_lem _ _ _ l _ c.requires.1) c.if-of_clock.false form.effect_count step step'
           (c.strictly.ensures.0 ∙ ap₂ strictly (ap (λ (e : Effect). e.at) first) (ap (λ (q : Condition). q.from) second)));
       gaps = c.raise.ensures.whole c.requires.0.whole;
     }
