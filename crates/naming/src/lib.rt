@@ -73,7 +73,8 @@ pub fn find_action(
     let n = said.len();
     let first = find(text, said, index, n, &plan[at..end]);
     if first < n {
-        if role(said[first]) == ACTION {
+        let is_action = role(said[first]) == ACTION;
+        if is_action {
             return first;
         }
     }

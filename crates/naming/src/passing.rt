@@ -127,7 +127,8 @@ pub fn pass_item(
     let at = name_at(note);
     let end = name_end(note);
     let first = find(text, said, index, k, &text[at..end]);
-    if first < k {
+    let repeats = first < k;
+    if repeats {
         return repeat(note, said[first], k, first, numbers, marks);
     }
     enter(

@@ -8,17 +8,17 @@ use Rattle.naming.proofs.find_action.Goals as goal
 pub find-first-requires : goal.find-first-requires
 find-first-requires c = let p = c.requires in (p.0, p.1, omega arith)
 
-pub returns-then-role-eq-ACTION : goal.returns-then-role-eq-ACTION
-returns-then-role-eq-ACTION c =
+pub returns-then-is_action : goal.returns-then-is_action
+returns-then-is_action c =
     let a = c.args in
     action_found a.text.now a.said.now _ _ (looked_part a.at a.end a.plan.now c.find-first.ensures) c.if-first-n.true
-    (sym c.role.ensures ∙ c.if-role-eq-ACTION.true)
+    (sym c.role-is_action.ensures ∙ c.if-is_action.true)
 
-pub returns-else-role-eq-ACTION : goal.returns-else-role-eq-ACTION
-returns-else-role-eq-ACTION c =
+pub returns-else-is_action : goal.returns-else-is_action
+returns-else-is_action c =
     let a = c.args in
     action_other a.text.now a.said.now _ _ (looked_part a.at a.end a.plan.now c.find-first.ensures) a.index.now
-    c.requires.0 c.requires.1 c.if-first-n.true (λ e. c.if-role-eq-ACTION.false (c.role.ensures ∙ e))
+    c.requires.0 c.requires.1 c.if-first-n.true (λ e. c.if-is_action.false (c.role-is_action.ensures ∙ e))
 
 pub returns-else-first-n : goal.returns-else-first-n
 returns-else-first-n c =

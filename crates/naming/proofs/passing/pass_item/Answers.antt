@@ -34,31 +34,31 @@ find-first-requires c =
 pub offset_bounds-said-first : goal.offset_bounds-said-first
 offset_bounds-said-first c =
     let p = c.requires in
-    omega (arith, c.if-first-k.true, p.0.few, p.1)
+    omega (arith, c.if-repeats.true, p.0.few, p.1)
 
 pub bounds-said-first : goal.bounds-said-first
 bounds-said-first c =
     let p = c.requires in
-    omega (arith, c.if-first-k.true, p.1)
+    omega (arith, c.if-repeats.true, p.1)
 
 pub repeat-requires : goal.repeat-requires
 repeat-requires c =
     let p = c.requires in (
       (p.0.each c.args.k p.1).known,
-      (p.0.each c.find-first.result (omega (arith, c.if-first-k.true, p.1))).known,
-      c.if-first-k.true,
+      (p.0.each c.find-first.result (omega (arith, c.if-repeats.true, p.1))).known,
+      c.if-repeats.true,
       omega (arith, p.0.few, p.1, p.2.numbers_size),
       omega (arith, p.0.few, p.1, p.2.marks_size),
     )
 
-pub returns-then-first-k : goal.returns-then-first-k
-returns-then-first-k c =
+pub returns-then-repeats : goal.returns-then-repeats
+returns-then-repeats c =
     let a = c.args in
     let at = c.name_at-at.ensures.0 in
     let end = c.name_end-end.ensures.0 in
     let looked = looked_name a.text.now _ at end c.find-first.ensures in
     step_again a.text.now a.said.now a.k c.requires.0 c.requires.1 c.requires.2 (λ e. c.if-role-eq-NUMBER.false (c.role.ensures ∙ e)) _ looked
-    c.if-first-k.true c.repeat.ensures
+    c.if-repeats.true c.repeat.ensures
 
 pub slice_bounds-mix-count : goal.slice_bounds-mix-count
 slice_bounds-mix-count c = omega (arith, c.name_end-end.ensures.1, c.name_at-at.ensures.0)
@@ -93,4 +93,4 @@ returns c =
     let role = c.role-2.ensures in
     let mixing = c.mix.ensures.0 in
     step_new a.text.now a.said.now a.k c.requires.0 c.requires.1 c.requires.2 (λ e. c.if-role-eq-NUMBER.false (c.role.ensures ∙ e)) _ looked
-    _ _ c.if-first-k.false (mixing ∙ ap (mixed 0) (name_part a.text.now _ at end)) role e.index_after e.numbers_after e.marks_after e.counts_after
+    _ _ c.if-repeats.false (mixing ∙ ap (mixed 0) (name_part a.text.now _ at end)) role e.index_after e.numbers_after e.marks_after e.counts_after
