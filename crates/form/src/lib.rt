@@ -19,7 +19,8 @@ pub fn read_form(s: &[u8]) -> Form
 {
     let form = read_records(s);
     let records = form.verdict;
-    if number(records) != 0 {
+    let is_refused = number(records) != 0;
+    if is_refused {
         return form;
     }
     let job = form.job;
