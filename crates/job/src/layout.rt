@@ -165,7 +165,8 @@ pub fn header_width(edition: u16) -> usize
 fn needs_counted(s: &[u8]) -> u16
     ensures { result ≡ cond (eqb (u16_at s.now 0) needs_edition) (u16_at s.now 52) 0 }
 {
-    if little_endian::u16_at(s, 0) as u16 == NEEDS_EDITION {
+    let has_needs = little_endian::u16_at(s, 0) as u16 == NEEDS_EDITION;
+    if has_needs {
         little_endian::u16_at(s, 52) as u16
     } else {
         0

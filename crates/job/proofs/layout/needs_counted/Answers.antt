@@ -4,9 +4,9 @@ use borrow.Author.Tests.{eq-eqb, ne_eqb}
 use Rattle.job.specs.Layout.{needs_edition}
 use Rattle.job.proofs.layout.needs_counted.Goals as goal
 
-pub returns-then-u16_at-eq-NEEDS_EDITION : goal.returns-then-u16_at-eq-NEEDS_EDITION
-returns-then-u16_at-eq-NEEDS_EDITION c =
-    rw (c.u16_at-then-u16_at-eq-NEEDS_EDITION.ensures.0, eq-eqb _ needs_edition (sym c.u16_at.ensures.0 ∙ c.if-u16_at-eq-NEEDS_EDITION.true)) refl
+pub returns-then-has_needs : goal.returns-then-has_needs
+returns-then-has_needs c =
+    rw (c.u16_at-then-has_needs.ensures.0, eq-eqb _ needs_edition (sym c.u16_at.ensures.0 ∙ c.if-has_needs.true)) refl
 
-pub returns-else-u16_at-eq-NEEDS_EDITION : goal.returns-else-u16_at-eq-NEEDS_EDITION
-returns-else-u16_at-eq-NEEDS_EDITION c = rw (ne_eqb _ needs_edition (λ q. c.if-u16_at-eq-NEEDS_EDITION.false (c.u16_at.ensures.0 ∙ q))) refl
+pub returns-else-has_needs : goal.returns-else-has_needs
+returns-else-has_needs c = rw (ne_eqb _ needs_edition (λ q. c.if-has_needs.false (c.u16_at.ensures.0 ∙ q))) refl
