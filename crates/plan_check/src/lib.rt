@@ -48,7 +48,8 @@ fn line_action(
         return 0;
     }
     let action = find_action(text, said, index, plan, name_at(name), name_end(name));
-    if action == said.len() {
+    let is_none = action == said.len();
+    if is_none {
         return 0;
     }
     if number_at(said, action + 1) != number_of(lines[3 * s + 2]) {

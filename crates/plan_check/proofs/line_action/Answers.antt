@@ -33,12 +33,12 @@ find_action-action-requires c =
       omega (arith, c.name_end.ensures.0, sound.inside (λ e. c.if-role-eq-NUMBER.false (c.role.ensures ∙ e))),
     )
 
-pub returns-then-action-said : goal.returns-then-action-said
-returns-then-action-said c =
+pub returns-then-is_none : goal.returns-then-is_none
+returns-then-is_none c =
     let a = c.args in
     line_none a.text.now a.said.now a.plan.now a.lines.now a.s c.requires.3
     (λ e. c.if-role-eq-NUMBER.false (c.role.ensures ∙ e)) c.name_at.ensures.0 c.name_end.ensures.0 c.find_action-action.ensures
-    c.if-action-said.true
+    c.if-is_none.true
 
 pub overflow_add-action : goal.overflow_add-action
 overflow_add-action c =
@@ -70,7 +70,7 @@ returns-then-number_at-number_of c =
     let a = c.args in
     line_other a.text.now a.said.now a.plan.now a.lines.now a.s c.requires.3
     (λ e. c.if-role-eq-NUMBER.false (c.role.ensures ∙ e)) c.name_at.ensures.0 c.name_end.ensures.0 c.find_action-action.ensures
-    c.if-action-said.false (c.number_at.ensures a.text.now)
+    c.if-is_none.false (c.number_at.ensures a.text.now)
     (c.number_of.ensures a.plan.now) c.if-number_at-number_of.true
 
 pub overflow_add-result : goal.overflow_add-result
@@ -83,5 +83,5 @@ returns c =
     let a = c.args in
     line_found a.text.now a.said.now a.plan.now a.lines.now a.s c.requires.3
     (λ e. c.if-role-eq-NUMBER.false (c.role.ensures ∙ e)) c.name_at.ensures.0 c.name_end.ensures.0 c.find_action-action.ensures
-    c.if-action-said.false (c.number_at.ensures a.text.now)
+    c.if-is_none.false (c.number_at.ensures a.text.now)
     (c.number_of.ensures a.plan.now) c.if-number_at-number_of.false
