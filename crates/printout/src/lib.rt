@@ -43,7 +43,8 @@ pub const MOST_TEXT: usize = 164791;
 fn put_mark(job: &[u8], text: &mut [u8]) -> usize
     ensures { Put text.old 0 (mark_line job.now) text.new result × (result ≤ ignored_most) }
 {
-    if serial_mark(job) == 1 {
+    let is_marked = serial_mark(job) == 1;
+    if is_marked {
         text::put_word(b"serial mark ignored\n", 0, text)
     } else {
         0
