@@ -185,17 +185,7 @@ def as_record(body, names):
     if before and not re.search(r"\bin$", before):
         return None
     inside = b[j + 1 : -1]
-    items, depth, at = [], 0, 0
-    for k, ch in enumerate(inside):
-        if ch in OPEN:
-            depth += 1
-        elif ch in CLOSE:
-            depth -= 1
-        elif ch == "," and depth == 0:
-            items.append(inside[at:k])
-            at = k + 1
-    if inside[at:].strip():
-        items.append(inside[at:])
+    items = split_tuple(inside)
     while len(items) < len(names) and items and items[-1].strip().startswith("(") and group_end(items[-1].strip(), 0) == len(items[-1].strip()) - 1:
         more = split_tuple(items[-1].strip()[1:-1])
         if len(more) < 2:
