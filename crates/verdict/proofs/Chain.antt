@@ -7,11 +7,13 @@ use native.Mathlib.Nat.{not-suc-le-zero}
 use native.Mathlib.Decide.{ℕ_discrete, dec_lt}
 use native.Mathlib.Omega.{arith}
 use borrow.Author.Tests.{eq-eqb, ne_eqb, lt-ltb, le-ltb}
+use Rattle.std.specs.Prelude.{Err}
 use Rattle.laws.specs.Search.{lowest}
 use Rattle.laws.proofs.Search.{last_or_below, any_none, any_false, any_lowest, lowest_facts}
-use Rattle.verdict.specs.declared.Verdict.{Verdict}
-use Rattle.verdict.specs.declared.Verdict.TheVariants.{Accepted}
-use Rattle.verdict.specs.Verdict.{number, ◌then◌, refuse_if, refuse_lowest}
+use Rattle.verdict.specs.declared.Refusal.{Refusal}
+use Rattle.verdict.specs.declared.Refusal.TheVariants.{FileTooShort, UnknownEdition, MarkOutOfRange, CountTooHigh, LayoutDisagrees, RecordOutOfRange, StepAgainstItself, StartsMiscounted}
+use Rattle.verdict.specs.declared.Refusal.TheVariants.{FixedStepMoved, EffectsConflict, ConditionFails, LevelOutOfBounds, GoalFails, TimedFactsConflict, NeedUnmet}
+use Rattle.verdict.specs.Verdict.{Verdict, Accepted, number, refusal_number, ◌then◌, refuse_if, refuse_lowest}
 
 pub then_refused : (v w : Verdict) → (number v ≡ 0 → ⊥) → v ≡ (v then w)
 unfolding ◌then◌
@@ -21,23 +23,23 @@ pub then_accepted : (v w : Verdict) → number v ≡ 0 → w ≡ (v then w)
 unfolding ◌then◌
 then_accepted v w h = simp (eq-eqb (number v) 0 h)
 
-pub refuse_yes : (v : Verdict) {b : Bool} → b ≡ true → v ≡ refuse_if b v
+pub refuse_yes : (v : Refusal) {b : Bool} → b ≡ true → Err v ≡ refuse_if b v
 unfolding refuse_if
 refuse_yes v e = rw e
 
-pub refuse_no : (v : Verdict) {b : Bool} → b ≡ false → Accepted ≡ refuse_if b v
+pub refuse_no : (v : Refusal) {b : Bool} → b ≡ false → Accepted ≡ refuse_if b v
 unfolding refuse_if
 refuse_no v e = rw e
 
 -- the search's answer k is the lowest, below the count or not
 pub lowest_refused :
-    (n : ℕ) (p : ℕ → Bool) (refusal : ℕ → Verdict) {k : ℕ} → k ≡ lowest n p → k < n → refusal k ≡ refuse_lowest n p refusal
+    (n : ℕ) (p : ℕ → Bool) (refusal : ℕ → Refusal) {k : ℕ} → k ≡ lowest n p → k < n → Err (refusal k) ≡ refuse_lowest n p refusal
 unfolding refuse_lowest
 lowest_refused n p refusal {k} e h =
-    ap refusal e ∙ refuse_yes (refusal (lowest n p)) (lt-ltb (lowest n p) n (rw e at h))
+    ap (λ i. Err (refusal i)) e ∙ refuse_yes (refusal (lowest n p)) (lt-ltb (lowest n p) n (rw e at h))
 
 pub lowest_passed :
-    (n : ℕ) (p : ℕ → Bool) (refusal : ℕ → Verdict) {k : ℕ} → k ≡ lowest n p → n ≤ k → Accepted ≡ refuse_lowest n p refusal
+    (n : ℕ) (p : ℕ → Bool) (refusal : ℕ → Refusal) {k : ℕ} → k ≡ lowest n p → n ≤ k → Accepted ≡ refuse_lowest n p refusal
 unfolding refuse_lowest
 lowest_passed n p refusal e h = refuse_no (refusal (lowest n p)) (le-ltb (lowest n p) n (rw e at h))
 
@@ -57,32 +59,48 @@ then_zero v w e =
       | no n ↦ absurd (n (ap number (then_refused v w n) ∙ e))
     ]
 
-pub refuse_zero : (b : Bool) (v : Verdict) → (number v ≡ 0 → ⊥) → number (refuse_if b v) ≡ 0 → b ≡ false
-unfolding refuse_if
-refuse_zero true v h e = absurd (h e)
-refuse_zero false v h e = refl
+-- no refusal has number 0
+pub refusal_nonzero : (r : Refusal) → refusal_number r ≡ 0 → ⊥
+refusal_nonzero FileTooShort e = let z : ◌≡◌ {A = ℕ} 1 0 = e in omega arith
+refusal_nonzero UnknownEdition e = let z : ◌≡◌ {A = ℕ} 2 0 = e in omega arith
+refusal_nonzero MarkOutOfRange e = let z : ◌≡◌ {A = ℕ} 3 0 = e in omega arith
+refusal_nonzero CountTooHigh e = let z : ◌≡◌ {A = ℕ} 4 0 = e in omega arith
+refusal_nonzero LayoutDisagrees e = let z : ◌≡◌ {A = ℕ} 5 0 = e in omega arith
+refusal_nonzero (RecordOutOfRange k) e = let z : ◌≡◌ {A = ℕ} 6 0 = e in omega arith
+refusal_nonzero (StepAgainstItself k) e = let z : ◌≡◌ {A = ℕ} 7 0 = e in omega arith
+refusal_nonzero StartsMiscounted e = let z : ◌≡◌ {A = ℕ} 8 0 = e in omega arith
+refusal_nonzero (FixedStepMoved k) e = let z : ◌≡◌ {A = ℕ} 9 0 = e in omega arith
+refusal_nonzero (EffectsConflict k) e = let z : ◌≡◌ {A = ℕ} 10 0 = e in omega arith
+refusal_nonzero (ConditionFails k) e = let z : ◌≡◌ {A = ℕ} 11 0 = e in omega arith
+refusal_nonzero (LevelOutOfBounds k) e = let z : ◌≡◌ {A = ℕ} 12 0 = e in omega arith
+refusal_nonzero (GoalFails k) e = let z : ◌≡◌ {A = ℕ} 13 0 = e in omega arith
+refusal_nonzero (TimedFactsConflict k) e = let z : ◌≡◌ {A = ℕ} 17 0 = e in omega arith
+refusal_nonzero (NeedUnmet k) e = let z : ◌≡◌ {A = ℕ} 21 0 = e in omega arith
 
-pub refuse_says : (b : Bool) (v : Verdict) → (number (refuse_if b v) ≡ 0 → ⊥) → b ≡ true
+pub refuse_zero : (b : Bool) (v : Refusal) → number (refuse_if b v) ≡ 0 → b ≡ false
+unfolding refuse_if
+refuse_zero true v e = absurd (refusal_nonzero v e)
+refuse_zero false v e = refl
+
+pub refuse_says : (b : Bool) (v : Refusal) → (number (refuse_if b v) ≡ 0 → ⊥) → b ≡ true
 unfolding refuse_if
 refuse_says true v h = refl
 refuse_says false v h = absurd (h refl)
 
 pub lowest_zero :
-    (n : ℕ) (p : ℕ → Bool) (refusal : ℕ → Verdict) → ((k : ℕ) → number (refusal k) ≡ 0 → ⊥)
-    → number (refuse_lowest n p refusal) ≡ 0 → (k : ℕ) → k < n
-    → p k ≡ false
+    (n : ℕ) (p : ℕ → Bool) (refusal : ℕ → Refusal) → number (refuse_lowest n p refusal) ≡ 0 → (k : ℕ) → k < n → p k ≡ false
 unfolding refuse_lowest
-lowest_zero n p refusal h e = any_false p n (any_lowest p n ∙ refuse_zero _ _ (h (lowest n p)) e)
+lowest_zero n p refusal e = any_false p n (any_lowest p n ∙ refuse_zero _ _ e)
 
 -- and a chain accepts where each check does
 pub zero_then : (v w : Verdict) → number v ≡ 0 → number w ≡ 0 → number (v then w) ≡ 0
 zero_then v w h g = ap number (sym (then_accepted v w h)) ∙ g
 
-pub zero_refuse : (b : Bool) (v : Verdict) → b ≡ false → number (refuse_if b v) ≡ 0
+pub zero_refuse : (b : Bool) (v : Refusal) → b ≡ false → number (refuse_if b v) ≡ 0
 zero_refuse b v e = ap number (sym (refuse_no v e))
 
 pub zero_lowest :
-    (n : ℕ) (p : ℕ → Bool) (refusal : ℕ → Verdict) → ((k : ℕ) → k < n → p k ≡ false) → number (refuse_lowest n p refusal) ≡ 0
+    (n : ℕ) (p : ℕ → Bool) (refusal : ℕ → Refusal) → ((k : ℕ) → k < n → p k ≡ false) → number (refuse_lowest n p refusal) ≡ 0
 unfolding refuse_lowest
 zero_lowest n p refusal h = zero_refuse _ (refusal (lowest n p)) (sym (any_lowest p n) ∙ any_none p n h)
 
@@ -101,16 +119,16 @@ then_either P v w h g =
       | no z ↦ subst P (then_refused v w z) h
     ]
 
-pub refuse_either : (P : Verdict → Type 0) (b : Bool) (v : Verdict) → P v → P Accepted → P (refuse_if b v)
+pub refuse_either : (P : Verdict → Type 0) (b : Bool) (v : Refusal) → P (Err v) → P Accepted → P (refuse_if b v)
 unfolding refuse_if
 refuse_either P true v h g = h
 refuse_either P false v h g = g
 
 -- a test names no record, or the refusal is of the lowest that it names
 pub lowest_outcome :
-    (n : ℕ) (p : ℕ → Bool) (refusal : ℕ → Verdict)
+    (n : ℕ) (p : ℕ → Bool) (refusal : ℕ → Refusal)
     → ((refuse_lowest n p refusal ≡ Accepted) × ((k : ℕ) → k < n → p k ≡ false))
-    ⊎ ((k : ℕ) × (k < n) × (p k ≡ true) × ((j : ℕ) → j < k → p j ≡ false) × (refuse_lowest n p refusal ≡ refusal k))
+    ⊎ ((k : ℕ) × (k < n) × (p k ≡ true) × ((j : ℕ) → j < k → p j ≡ false) × (refuse_lowest n p refusal ≡ Err (refusal k)))
 lowest_outcome n p refusal =
     let f = lowest_facts p n in
     elim (dec_lt (lowest n p) n) [

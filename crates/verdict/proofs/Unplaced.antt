@@ -3,15 +3,15 @@ use Prim.Native.Nat.{ℕ, ◌≤◌, ◌<◌}
 use mathlib.Core.Path.{◌≡◌, refl}
 use mathlib.Core.Logic.{◌⊎◌, inl, inr, ⊎_elim}
 use native.Mathlib.Omega.{arith}
-use Rattle.verdict.specs.declared.Verdict.{Verdict}
-use Rattle.verdict.specs.declared.Verdict.TheVariants.{Accepted, FileTooShort, UnknownEdition, MarkOutOfRange, CountTooHigh, LayoutDisagrees}
-use Rattle.verdict.specs.declared.Verdict.TheVariants.{RecordOutOfRange, StepAgainstItself, StartsMiscounted, FixedStepMoved, EffectsConflict}
-use Rattle.verdict.specs.declared.Verdict.TheVariants.{ConditionFails, LevelOutOfBounds, GoalFails, TimedFactsConflict, NeedUnmet}
-use Rattle.verdict.specs.Verdict.{number, place, nowhere}
+use Rattle.std.specs.Prelude.{Ok, Err}
+use Rattle.verdict.specs.declared.Refusal.{Refusal}
+use Rattle.verdict.specs.declared.Refusal.TheVariants.{FileTooShort, UnknownEdition, MarkOutOfRange, CountTooHigh, LayoutDisagrees}
+use Rattle.verdict.specs.declared.Refusal.TheVariants.{RecordOutOfRange, StepAgainstItself, StartsMiscounted, FixedStepMoved, EffectsConflict}
+use Rattle.verdict.specs.declared.Refusal.TheVariants.{ConditionFails, LevelOutOfBounds, GoalFails, TimedFactsConflict, NeedUnmet}
+use Rattle.verdict.specs.Verdict.{Verdict, number, place, refusal_number, refusal_place, nowhere}
 
--- nowhere, or neither 0 to 5 nor 8
-somewhere : (v : Verdict) → (place v ≡ nowhere) ⊎ ((5 < number v) × (number v ≡ 8 → ⊥))
-somewhere Accepted = inl refl
+-- nowhere, or neither 1 to 5 nor 8
+somewhere : (r : Refusal) → (refusal_place r ≡ nowhere) ⊎ ((5 < refusal_number r) × (refusal_number r ≡ 8 → ⊥))
 somewhere FileTooShort = inl refl
 somewhere UnknownEdition = inl refl
 somewhere MarkOutOfRange = inl refl
@@ -29,9 +29,10 @@ somewhere (TimedFactsConflict k) = inr (omega arith, λ e. let z : ◌≡◌ {A 
 somewhere (NeedUnmet k) = inr (omega arith, λ e. let z : ◌≡◌ {A = ℕ} 21 8 = e in omega arith)
 
 pub unplaced : (v : Verdict) → (number v ≤ 5) ⊎ (number v ≡ 8) → place v ≡ nowhere
-unplaced v h =
+unplaced (Ok _) h = refl
+unplaced (Err r) h =
     ⊎_elim
-    (λ (e : place v ≡ nowhere). e)
-    (λ (n : (5 < number v) × (number v ≡ 8 → ⊥)).
-    absurd (⊎_elim (λ (l : number v ≤ 5). omega (arith, n.0)) (λ (e : number v ≡ 8). n.1 e) h))
-    (somewhere v)
+    (λ (e : refusal_place r ≡ nowhere). e)
+    (λ (n : (5 < refusal_number r) × (refusal_number r ≡ 8 → ⊥)).
+    absurd (⊎_elim (λ (l : refusal_number r ≤ 5). omega (arith, n.0)) (λ (e : refusal_number r ≡ 8). n.1 e) h))
+    (somewhere r)

@@ -2,12 +2,10 @@
 #![tactic(auto)]
 
 ghost use Rattle.std.specs.Prelude.{◌≡◌};
-ghost use Rattle.verdict.specs.Verdict.{◌then◌, refuse_if};
 ghost use Rattle.verdict.specs.Verdict as spec;
 
-#[derive(Clone, Copy)]
-pub enum Verdict {
-    Accepted,
+#[derive(Clone, Copy, Debug, PartialEq, Eq)]
+pub enum Refusal {
     FileTooShort,
     UnknownEdition,
     MarkOutOfRange,
@@ -25,63 +23,76 @@ pub enum Verdict {
     NeedUnmet(u16),
 }
 
+// Accepted, or why not.
+pub type Verdict = Result<(), Refusal>;
+
 // The place where none is named.
 pub const NOWHERE: u16 = 65535;
 
-// The number of a refusal, 0 for accepted.
+impl Refusal {
+    // The number of a refusal.
+    pub fn number(self) -> u16
+        ensures { result ≡ spec.refusal_number self }
+    {
+        match self {
+            Refusal::FileTooShort => 1,
+            Refusal::UnknownEdition => 2,
+            Refusal::MarkOutOfRange => 3,
+            Refusal::CountTooHigh => 4,
+            Refusal::LayoutDisagrees => 5,
+            Refusal::RecordOutOfRange(_) => 6,
+            Refusal::StepAgainstItself(_) => 7,
+            Refusal::StartsMiscounted => 8,
+            Refusal::FixedStepMoved(_) => 9,
+            Refusal::EffectsConflict(_) => 10,
+            Refusal::ConditionFails(_) => 11,
+            Refusal::LevelOutOfBounds(_) => 12,
+            Refusal::GoalFails(_) => 13,
+            Refusal::TimedFactsConflict(_) => 17,
+            Refusal::NeedUnmet(_) => 21,
+        }
+    }
+
+    // The place of a refusal.
+    pub fn place(self) -> u16
+        ensures { result ≡ spec.refusal_place self }
+    {
+        match self {
+            Refusal::FileTooShort => NOWHERE,
+            Refusal::UnknownEdition => NOWHERE,
+            Refusal::MarkOutOfRange => NOWHERE,
+            Refusal::CountTooHigh => NOWHERE,
+            Refusal::LayoutDisagrees => NOWHERE,
+            Refusal::RecordOutOfRange(k) => k,
+            Refusal::StepAgainstItself(k) => k,
+            Refusal::StartsMiscounted => NOWHERE,
+            Refusal::FixedStepMoved(k) => k,
+            Refusal::EffectsConflict(k) => k,
+            Refusal::ConditionFails(k) => k,
+            Refusal::LevelOutOfBounds(k) => k,
+            Refusal::GoalFails(k) => k,
+            Refusal::TimedFactsConflict(k) => k,
+            Refusal::NeedUnmet(k) => k,
+        }
+    }
+}
+
+// The number of a verdict's refusal, 0 for accepted.
 pub fn number(v: Verdict) -> u16
     ensures { result ≡ spec.number v }
 {
     match v {
-        Verdict::Accepted => 0,
-        Verdict::FileTooShort => 1,
-        Verdict::UnknownEdition => 2,
-        Verdict::MarkOutOfRange => 3,
-        Verdict::CountTooHigh => 4,
-        Verdict::LayoutDisagrees => 5,
-        Verdict::RecordOutOfRange(_) => 6,
-        Verdict::StepAgainstItself(_) => 7,
-        Verdict::StartsMiscounted => 8,
-        Verdict::FixedStepMoved(_) => 9,
-        Verdict::EffectsConflict(_) => 10,
-        Verdict::ConditionFails(_) => 11,
-        Verdict::LevelOutOfBounds(_) => 12,
-        Verdict::GoalFails(_) => 13,
-        Verdict::TimedFactsConflict(_) => 17,
-        Verdict::NeedUnmet(_) => 21,
+        Ok(()) => 0,
+        Err(refusal) => refusal.number(),
     }
 }
 
-// The place of a refusal.
+// The place of a verdict's refusal.
 pub fn place(v: Verdict) -> u16
     ensures { result ≡ spec.place v }
 {
     match v {
-        Verdict::Accepted => NOWHERE,
-        Verdict::FileTooShort => NOWHERE,
-        Verdict::UnknownEdition => NOWHERE,
-        Verdict::MarkOutOfRange => NOWHERE,
-        Verdict::CountTooHigh => NOWHERE,
-        Verdict::LayoutDisagrees => NOWHERE,
-        Verdict::RecordOutOfRange(k) => k,
-        Verdict::StepAgainstItself(k) => k,
-        Verdict::StartsMiscounted => NOWHERE,
-        Verdict::FixedStepMoved(k) => k,
-        Verdict::EffectsConflict(k) => k,
-        Verdict::ConditionFails(k) => k,
-        Verdict::LevelOutOfBounds(k) => k,
-        Verdict::GoalFails(k) => k,
-        Verdict::TimedFactsConflict(k) => k,
-        Verdict::NeedUnmet(k) => k,
+        Ok(()) => NOWHERE,
+        Err(refusal) => refusal.place(),
     }
-}
-
-// A verdict so far, and where it accepts, a refusal if a test says so.
-pub fn refuse_if(before: Verdict, broken: bool, refusal: Verdict) -> Verdict
-    ensures { result ≡ (before then refuse_if broken refusal) }
-{
-    if number(before) != 0 {
-        return before;
-    }
-    if broken { refusal } else { Verdict::Accepted }
 }
