@@ -1,9 +1,8 @@
 -- Refusals 1 to 5, the header and the layout.
 use Rattle.std.specs.Prelude.{ℕ, Bool, ◌&&◌, ◌||◌, not, List, length, ltb, leb, eqb}
 use Rattle.little_endian.specs.Bytes.{u16_at, u32_at}
-use Rattle.verdict.specs.declared.Verdict.{Verdict}
-use Rattle.verdict.specs.declared.Verdict.TheVariants.{FileTooShort, UnknownEdition, MarkOutOfRange, CountTooHigh, LayoutDisagrees}
-use Rattle.verdict.specs.Verdict.{◌then◌, refuse_if}
+use Rattle.verdict.specs.declared.Refusal.TheVariants.{FileTooShort, UnknownEdition, MarkOutOfRange, CountTooHigh, LayoutDisagrees}
+use Rattle.verdict.specs.Verdict.{Verdict, ◌then◌, refuse_if}
 use Rattle.job.specs.declared.layout.Job.{Job}
 use Rattle.job.specs.Layout.{latest_edition, timed_edition, needs_edition, shortest_header, header_width, serial_mark, job_of, count_too_high}
 

@@ -9,7 +9,7 @@ use job::layout::{
     Job, LATEST_EDITION, NEEDS_EDITION, SHORTEST_HEADER, TIMED_EDITION, count_too_high,
     header_width, serial_mark,
 };
-use verdict::{Verdict, refuse_if};
+use verdict::{Refusal, Verdict};
 
 fn edition_known(edition: u16) -> bool
     ensures { result ≡ edition_known edition }
@@ -48,19 +48,26 @@ pub fn check_header(s: &[u8], job: Job) -> Verdict
     requires { job ≡ job_of s.now }
     ensures { result ≡ header_check s.now }
 {
-    let unknown = !edition_known(job.edition);
+    if s.len() < SHORTEST_HEADER {
+        return Err(Refusal::FileTooShort);
+    }
+    if !edition_known(job.edition) {
+        return Err(Refusal::UnknownEdition);
+    }
     let width = header_width(job.edition);
-    let marks = marks_wrong(s, job);
+    if s.len() < width {
+        return Err(Refusal::FileTooShort);
+    }
+    if marks_wrong(s, job) {
+        return Err(Refusal::MarkOutOfRange);
+    }
     let high = count_too_high(job.count);
-    let layout = !layout_agrees(s, job);
-    let v = refuse_if(
-        Verdict::Accepted,
-        s.len() < SHORTEST_HEADER,
-        Verdict::FileTooShort,
-    );
-    let v = refuse_if(v, unknown, Verdict::UnknownEdition);
-    let v = refuse_if(v, s.len() < width, Verdict::FileTooShort);
-    let v = refuse_if(v, marks, Verdict::MarkOutOfRange);
-    let v = refuse_if(v, high, Verdict::CountTooHigh);
-    refuse_if(v, layout, Verdict::LayoutDisagrees)
+    if high {
+        return Err(Refusal::CountTooHigh);
+    }
+    let agrees = layout_agrees(s, job);
+    if !agrees {
+        return Err(Refusal::LayoutDisagrees);
+    }
+    Ok(())
 }

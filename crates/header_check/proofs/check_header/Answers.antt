@@ -1,69 +1,98 @@
 -- The six tests, chained as in `header_check`.
+use borrow.Author.Tests.{lt-ltb, le-ltb}
+use Rattle.std.proofs.Common.{sym}
+use Rattle.verdict.specs.Verdict.{◌then◌, refuse_if}
 use Rattle.header_check.specs.Header.{header_check}
-use Rattle.verdict.proofs.Chain.{accepted_then}
-use borrow.Author.Rules.{rules}
 use Rattle.header_check.proofs.check_header.Goals as goal
 
-pub edition_known-unknown-requires : goal.edition_known-unknown-requires
-unfolding header_check
-edition_known-unknown-requires c = search rules
+pub returns-then-s-lt-SHORTEST_HEADER : goal.returns-then-s-lt-SHORTEST_HEADER
+unfolding header_check ◌then◌ refuse_if
+returns-then-s-lt-SHORTEST_HEADER c = rw (lt-ltb _ _ c.if-s-lt-SHORTEST_HEADER.true)
 
-pub header_width-width-requires : goal.header_width-width-requires
-unfolding header_check
-header_width-width-requires c = search rules
+pub returns-then-not-edition_known : goal.returns-then-not-edition_known
+unfolding header_check ◌then◌ refuse_if
+returns-then-not-edition_known c =
+    rw (
+      sym c.requires,
+      le-ltb _ _ c.if-s-lt-SHORTEST_HEADER.false,
+      sym c.edition_known.ensures,
+      c.if-not-edition_known.true,
+    )
 
-pub marks_wrong-marks-requires : goal.marks_wrong-marks-requires
-unfolding header_check
-marks_wrong-marks-requires c = search rules
+pub returns-then-s-width : goal.returns-then-s-width
+unfolding header_check ◌then◌ refuse_if
+returns-then-s-width c =
+    rw (
+      sym c.requires,
+      le-ltb _ _ c.if-s-lt-SHORTEST_HEADER.false,
+      sym c.edition_known.ensures,
+      c.if-not-edition_known.false,
+      sym c.header_width-width.ensures.0,
+      lt-ltb _ _ c.if-s-width.true,
+    )
 
-pub count_too_high-high-requires : goal.count_too_high-high-requires
-unfolding header_check
-count_too_high-high-requires c = search rules
+pub returns-then-marks_wrong : goal.returns-then-marks_wrong
+unfolding header_check ◌then◌ refuse_if
+returns-then-marks_wrong c =
+    rw (
+      sym c.requires,
+      le-ltb _ _ c.if-s-lt-SHORTEST_HEADER.false,
+      sym c.edition_known.ensures,
+      c.if-not-edition_known.false,
+      sym c.header_width-width.ensures.0,
+      le-ltb _ _ c.if-s-width.false,
+      sym c.marks_wrong.ensures,
+      c.if-marks_wrong.true,
+    )
 
-pub layout_agrees-layout-requires : goal.layout_agrees-layout-requires
-unfolding header_check
-layout_agrees-layout-requires c = search rules
+pub returns-then-high : goal.returns-then-high
+unfolding header_check ◌then◌ refuse_if
+returns-then-high c =
+    rw (
+      sym c.requires,
+      le-ltb _ _ c.if-s-lt-SHORTEST_HEADER.false,
+      sym c.edition_known.ensures,
+      c.if-not-edition_known.false,
+      sym c.header_width-width.ensures.0,
+      le-ltb _ _ c.if-s-width.false,
+      sym c.marks_wrong.ensures,
+      c.if-marks_wrong.false,
+      sym c.count_too_high-high.ensures,
+      c.if-high.true,
+    )
 
-pub refuse_if-v-requires : goal.refuse_if-v-requires
-unfolding header_check
-refuse_if-v-requires c = search rules
-
-pub refuse_if-v-requires-2 : goal.refuse_if-v-requires-2
-unfolding header_check
-refuse_if-v-requires-2 c = search rules
-
-pub refuse_if-v-requires-3 : goal.refuse_if-v-requires-3
-unfolding header_check
-refuse_if-v-requires-3 c = search rules
-
-pub refuse_if-v-requires-4 : goal.refuse_if-v-requires-4
-unfolding header_check
-refuse_if-v-requires-4 c = search rules
-
-pub refuse_if-v-requires-5 : goal.refuse_if-v-requires-5
-unfolding header_check
-refuse_if-v-requires-5 c = search rules
-
-pub refuse_if-requires : goal.refuse_if-requires
-unfolding header_check
-refuse_if-requires c = search rules
+pub returns-then-not-agrees : goal.returns-then-not-agrees
+unfolding header_check ◌then◌ refuse_if
+returns-then-not-agrees c =
+    rw (
+      sym c.requires,
+      le-ltb _ _ c.if-s-lt-SHORTEST_HEADER.false,
+      sym c.edition_known.ensures,
+      c.if-not-edition_known.false,
+      sym c.header_width-width.ensures.0,
+      le-ltb _ _ c.if-s-width.false,
+      sym c.marks_wrong.ensures,
+      c.if-marks_wrong.false,
+      sym c.count_too_high-high.ensures,
+      c.if-high.false,
+      sym c.layout_agrees-agrees.ensures,
+      c.if-not-agrees.true,
+    )
 
 pub returns : goal.returns
-unfolding header_check
+unfolding header_check ◌then◌ refuse_if
 returns c =
-    let d = c in
     rw (
-      c.refuse_if.ensures,
-      c.refuse_if-v-5.ensures,
-      c.refuse_if-v-4.ensures,
-      c.refuse_if-v-3.ensures,
-      c.refuse_if-v-2.ensures,
-      c.refuse_if-v.ensures,
-      accepted_then,
-      d.layout_agrees-layout.ensures,
-      d.count_too_high-high.ensures,
-      d.marks_wrong-marks.ensures,
-      d.header_width-width.ensures.0,
-      d.edition_known-unknown.ensures,
-      d.requires,
+      sym c.requires,
+      le-ltb _ _ c.if-s-lt-SHORTEST_HEADER.false,
+      sym c.edition_known.ensures,
+      c.if-not-edition_known.false,
+      sym c.header_width-width.ensures.0,
+      le-ltb _ _ c.if-s-width.false,
+      sym c.marks_wrong.ensures,
+      c.if-marks_wrong.false,
+      sym c.count_too_high-high.ensures,
+      c.if-high.false,
+      sym c.layout_agrees-agrees.ensures,
+      c.if-not-agrees.false,
     )
