@@ -2,7 +2,7 @@
 #![tactic(auto)]
 
 ghost use Rattle.std.specs.Prelude.{◌≡◌, List, ℕ, ◌≤◌, ◌<◌};
-ghost use Rattle.laws.specs.Search.{lowest};
+ghost use Rattle.laws.specs.Search.{first_where};
 ghost use Rattle.job.specs.Laid.{Laid};
 ghost use Rattle.job.specs.Model.{view};
 ghost use Rattle.ranges.specs.Ranges.{fact_ok, level_in_range, level_ok, step_ok, condition_ok, effect_ok, use_ok, goal_ok, timed_ok, need_ok};
@@ -149,17 +149,15 @@ pub fn count_in(job: Job, table: Table) -> u16
     }
 }
 
-// The lowest of the first n records of a table that is broken, or n.
-pub fn first_broken(s: &[u8], job: Job, table: Table, n: u16) -> u16
+// The lowest of the first n records of a table that is broken, if one is.
+pub fn first_broken(s: &[u8], job: Job, table: Table, n: u16) -> Option<u16>
     requires { Laid job s.now × (n ≤ count_in (view job s.now) table) }
-    ensures { result ≡ lowest n (record_broken (view job s.now) table) }
+    ensures { result ≡ first_where n (record_broken (view job s.now) table) }
 {
-    let mut k = 0;
-    while k < n {
+    for k in 0..n {
         if !record_ok(s, job, table, k) {
-            return k;
+            return Some(k);
         }
-        k += 1;
     }
-    k
+    None
 }

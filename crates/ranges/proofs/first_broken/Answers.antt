@@ -1,14 +1,12 @@
 -- A search for the lowest record that is not in order.
-use Prim.Native.Nat.{◌-◌}
 use mathlib.Core.Path.{ap}
 use mathlib.Core.Bool.{not}
 use native.Mathlib.Omega.{arith}
-use Rattle.laws.proofs.Search.{lowest_start, lowest_more, lowest_found, lowest_end}
-use borrow.Author.Rules.{rules}
+use Rattle.laws.proofs.Search.{lowest_start, lowest_more, first_found, first_none}
 use Rattle.ranges.proofs.first_broken.Goals as goal
 
 pub loop-k-init : goal.loop-k-init
-loop-k-init c = (search rules, lowest_start _)
+loop-k-init c = lowest_start _
 
 pub record_ok-requires : goal.record_ok-requires
 record_ok-requires c =
@@ -18,12 +16,12 @@ record_ok-requires c =
 
 pub returns-then-not-record_ok : goal.returns-then-not-record_ok
 returns-then-not-record_ok c =
-    lowest_found _ _ _ c.loop-k.invariant.1 c.loop-k-test.true (ap not c.record_ok.ensures)
+    first_found _ _ _ c.loop-k.invariant c.loop-k-test.true (ap not c.record_ok.ensures)
     (ap not c.if-not-record_ok.true)
 
 pub loop-k-preserved : goal.loop-k-preserved
 loop-k-preserved c =
-    (search rules, lowest_more _ _ c.loop-k.invariant.1 (ap not c.record_ok.ensures) (ap not c.if-not-record_ok.false))
+    lowest_more _ _ c.loop-k.invariant (ap not c.record_ok.ensures) (ap not c.if-not-record_ok.false)
 
 pub returns : goal.returns
-returns c = lowest_end _ _ _ c.loop-k.invariant.1 c.loop-k.invariant.0 c.loop-k-test.false
+returns c = first_none _ _ _ c.loop-k.invariant c.loop-k.auto.k-end c.loop-k-test.false
