@@ -9,13 +9,13 @@ use lib.Dec.{ltb, eqb}
 use lib.ListN.{length}
 use Rattle.little_endian.specs.Bytes.{u32_at}
 use Rattle.laws.proofs.Search.{and_both}
+use Rattle.std.specs.Prelude.{Ok}
 use Rattle.verdict.specs.Verdict.{number, ◌then◌}
 use Rattle.verdict.proofs.Chain.{then_zero, refuse_zero}
 use Rattle.job.specs.declared.layout.Job.{Job}
 use Rattle.job.specs.Layout.{timed_edition, needs_edition, table_at, positions_of, job_of}
 use Rattle.job.specs.Laid.{Laid}
 use Rattle.job.specs.Model.{model_of}
-use Rattle.record_check.specs.declared.Form.{Form}
 use Rattle.header_check.specs.Header.{header_check, layout_agrees}
 use Rattle.record_check.specs.Records.{record_check, RecordsPromise}
 
@@ -37,7 +37,7 @@ agrees_end s j e =
 file_ends : (s : List ℕ) → number (header_check s) ≡ 0 → length s ≡ (job_of s).at.end
 unfolding header_check
 file_ends s e =
-    agrees_end s _ (not-false _ (refuse_zero _ _ (λ z. let y : ◌≡◌ {A = ℕ} 5 0 = z in omega arith) (then_zero _ _ e).1))
+    agrees_end s _ (not-false _ (refuse_zero _ _ (then_zero _ _ e).1))
 
 pub header_laid : (s : List ℕ) → number (header_check s) ≡ 0 → Laid (job_of s) s
 unfolding job_of positions_of table_at
@@ -56,5 +56,5 @@ header_laid s e =
 pub passed_laid : (s : List ℕ) (job : Job) → number (header_check s then record_check (model_of s)) ≡ 0 → job ≡ job_of s → Laid job s
 passed_laid s job e j = subst (λ (x : Job). Laid x s) (sym j) (header_laid s (then_zero _ _ e).0)
 
-pub read_laid : {s : List ℕ} {r : Form} → RecordsPromise s r → number r.verdict ≡ 0 → Laid r.job s
-read_laid p z = passed_laid _ _ (sym (ap number p.verdict) ∙ z) p.job
+pub read_laid : {s : List ℕ} {job : Job} → RecordsPromise s (Ok job) → Laid job s
+read_laid p = passed_laid _ _ (ap number (sym p.verdict)) p.job

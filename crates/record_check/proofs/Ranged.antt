@@ -1,6 +1,6 @@
 -- A file that refusals 1 to 6 pass holds a job whose records are in range.
 use Prim.Native.Nat.{ℕ, ◌≤◌, ◌<◌}
-use mathlib.Core.Path.{◌≡◌, sym, ap, subst, ◌∙◌}
+use mathlib.Core.Path.{◌≡◌, refl, sym, ap, subst, ◌∙◌}
 use mathlib.Core.Bool.{true, false, ◌||◌}
 use mathlib.Core.List.{List}
 use mathlib.Core.Logic.{◌⊎◌, inl, inr, ⊎_elim}
@@ -10,7 +10,8 @@ use lib.Dec.{leb, eqb, lit<}
 use lib.ListN.{get_or}
 use Rattle.little_endian.specs.Bytes.{sign_bias}
 use Rattle.laws.proofs.Search.{either, and_both, any_false}
-use Rattle.verdict.specs.declared.Verdict.TheVariants.{RecordOutOfRange}
+use Rattle.std.specs.Prelude.{Ok}
+use Rattle.verdict.specs.declared.Refusal.TheVariants.{RecordOutOfRange}
 use Rattle.verdict.specs.Verdict.{number, ◌then◌}
 use Rattle.verdict.proofs.Chain.{then_zero, refuse_zero, lowest_zero}
 use Rattle.job.specs.declared.layout.Table.{Table}
@@ -21,7 +22,6 @@ use Rattle.job.specs.Layout.{count_list, highest, job_of, count_too_high}
 use Rattle.job.specs.Model.{Model, view, model_of, last_start, longest, last_deadline, no_deadline, last_timed}
 use Rattle.job.specs.Model.{lowest_level, highest_level, lowest_amount, highest_amount}
 use Rattle.job.specs.WellFormed.{Ranged}
-use Rattle.record_check.specs.declared.Form.{Form}
 use Rattle.header_check.specs.Header.{header_check}
 use Rattle.ranges.specs.Ranges.{level_in_range, fact_ok, level_ok, step_ok, condition_ok, effect_ok, use_ok, goal_ok, timed_ok, need_ok}
 use Rattle.ranges.specs.Ranges.{record_ok, record_broken, count_in}
@@ -31,7 +31,7 @@ use Rattle.record_check.specs.Records.{table_check, record_check, RecordsPromise
 pub table_zero : (m : Model) (t : Table) → number (table_check m t) ≡ 0 → (k : ℕ) → k < count_in m t → record_ok m t k ≡ true
 unfolding table_check
 table_zero m t e k h =
-    not-false (record_ok m t k) (lowest_zero (count_in m t) (record_broken m t) RecordOutOfRange (λ j z. let y : ◌≡◌ {A = ℕ} 6 0 = z in omega arith) e k h)
+    not-false (record_ok m t k) (lowest_zero (count_in m t) (record_broken m t) RecordOutOfRange e k h)
 
 pub tables : (m : Model) → number (record_check m) ≡ 0 → (t : Table) (k : ℕ) → k < count_in m t → record_ok m t k ≡ true
 unfolding record_check
@@ -159,7 +159,7 @@ counts c e t h = ltb-false _ _ (any_false _ 9 e t h)
 pub counted : (s : List ℕ) → number (header_check s) ≡ 0 → count_too_high (job_of s).count ≡ false
 unfolding header_check
 counted s e =
-    let b = then_zero _ _ (then_zero _ _ e).0 in refuse_zero _ _ (λ z. let y : ◌≡◌ {A = ℕ} 4 0 = z in omega arith) b.1
+    let b = then_zero _ _ (then_zero _ _ e).0 in refuse_zero _ _ b.1
 
 -- what refusals 1 to 6 leave
 pub ranged : (s : List ℕ) → number (header_check s then record_check (model_of s)) ≡ 0 → Ranged (model_of s)
@@ -202,5 +202,5 @@ ranged s e =
     }
 
 -- the records that were read are in range
-pub read_ranged : {s : List ℕ} {r : Form} → RecordsPromise s r → number r.verdict ≡ 0 → Ranged (view r.job s)
-read_ranged {s} p z = subst (λ (j : Job). Ranged (view j s)) (sym p.job) (p.ranged z)
+pub read_ranged : {s : List ℕ} {job : Job} → RecordsPromise s (Ok job) → Ranged (view job s)
+read_ranged {s} p = subst (λ (j : Job). Ranged (view j s)) (sym p.job) (p.ranged refl)

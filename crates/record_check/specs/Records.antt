@@ -1,14 +1,14 @@
 -- Refusal 6, and what refusals 1 to 6 promise.
-use Rattle.std.specs.Prelude.{◌≡◌, List, ℕ}
-use Rattle.verdict.specs.declared.Verdict.{Verdict}
-use Rattle.verdict.specs.declared.Verdict.TheVariants.{RecordOutOfRange}
-use Rattle.verdict.specs.Verdict.{number, ◌then◌, refuse_lowest}
+use Rattle.std.specs.Prelude.{◌≡◌, List, ℕ, Result, IfOk}
+use Rattle.verdict.specs.declared.Refusal.{Refusal}
+use Rattle.verdict.specs.declared.Refusal.TheVariants.{RecordOutOfRange}
+use Rattle.verdict.specs.Verdict.{Verdict, verdict_of, number, ◌then◌, refuse_lowest}
+use Rattle.job.specs.declared.layout.Job.{Job}
 use Rattle.job.specs.declared.layout.Table.{Table}
 use Rattle.job.specs.declared.layout.Table.TheVariants.{Facts, Levels, Steps, Conditions, Effects, Uses, Goals, TimedFacts, Needs}
 use Rattle.job.specs.Layout.{job_of}
 use Rattle.job.specs.Model.{Model, model_of}
 use Rattle.job.specs.WellFormed.{Ranged}
-use Rattle.record_check.specs.declared.Form.{Form}
 use Rattle.header_check.specs.Header.{header_check}
 use Rattle.ranges.specs.Ranges.{count_in, record_broken}
 
@@ -26,8 +26,8 @@ record_check m =
     then table_check m TimedFacts
     then table_check m Needs
 
--- what the check of the header and the records promises: its verdict, what it read of the header, and the ranges where it accepts
-pub record RecordsPromise (s : List ℕ) (r : Form) : Type 0 where
-  pub verdict : r.verdict ≡ (header_check s then record_check (model_of s))
-  pub job : r.job ≡ job_of s
-  pub ranged : number r.verdict ≡ 0 → Ranged (model_of s)
+-- what the check of the header and the records promises: its verdict, and where it accepts, what it read of the header, and the ranges
+pub record RecordsPromise (s : List ℕ) (r : Result Job Refusal) : Type 0 where
+  pub verdict : verdict_of r ≡ (header_check s then record_check (model_of s))
+  pub job : IfOk r (λ job. job ≡ job_of s)
+  pub ranged : number (verdict_of r) ≡ 0 → Ranged (model_of s)

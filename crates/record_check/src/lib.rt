@@ -7,24 +7,14 @@ mod tables;
 
 use header_check::check_header;
 use job::layout::Job;
-use verdict::{Verdict, number};
+use verdict::Refusal;
 
-// What a check found, and what it read of the header on the way: for whoever goes on with the file.
-#[derive(Clone, Copy)]
-pub struct Form {
-    pub verdict: Verdict,
-    pub job: Job,
-}
-
-// Reads the header, once for all, and checks it and the records: refusals 1 to 6.
-pub fn read_records(s: &[u8]) -> Form
+// Reads the header, once for all, and checks it and the records: refusals 1 to 6. Who goes on with the file has what was read of the header.
+pub fn read_records(s: &[u8]) -> Result<Job, Refusal>
     ensures { RecordsPromise s.now result }
 {
     let job = Job::read(s);
-    let verdict = check_header(s, job);
-    if number(verdict) != 0 {
-        return Form { verdict, job };
-    }
-    let verdict = tables::check_file(s, job);
-    Form { verdict, job }
+    check_header(s, job)?;
+    tables::check_file(s, job)?;
+    Ok(job)
 }

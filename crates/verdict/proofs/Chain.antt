@@ -1,27 +1,50 @@
 -- Laws of the chain of checks: what an accepted or a refused verdict so far makes of the next check.
 use Prim.Native.Nat.{ℕ, zero, suc, ◌<◌, ◌≤◌}
 use mathlib.Core.Path.{◌≡◌, refl, sym, ap, subst, ◌∙◌}
-use mathlib.Core.Bool.{Bool, true, false}
+use mathlib.Core.Bool.{Bool, true, false, cond}
 use mathlib.Core.Logic.{◌⊎◌, inl, inr, ⊎_elim}
 use native.Mathlib.Nat.{not-suc-le-zero}
 use native.Mathlib.Decide.{ℕ_discrete, dec_lt}
 use native.Mathlib.Omega.{arith}
 use borrow.Author.Tests.{eq-eqb, ne_eqb, lt-ltb, le-ltb}
-use Rattle.std.specs.Prelude.{Err}
-use Rattle.laws.specs.Search.{lowest}
+use Rattle.std.specs.Prelude.{Result, Ok, Err, Option, Some, None}
+use Rattle.std.specs.Result.{IsErrAnd}
+use Rattle.std.proofs.lemmas.Result.{err_from_is_err_and}
+use lib.Dec.{ltb}
+use Rattle.laws.specs.Search.{lowest, first_where}
 use Rattle.laws.proofs.Search.{last_or_below, any_none, any_false, any_lowest, lowest_facts}
 use Rattle.verdict.specs.declared.Refusal.{Refusal}
 use Rattle.verdict.specs.declared.Refusal.TheVariants.{FileTooShort, UnknownEdition, MarkOutOfRange, CountTooHigh, LayoutDisagrees, RecordOutOfRange, StepAgainstItself, StartsMiscounted}
 use Rattle.verdict.specs.declared.Refusal.TheVariants.{FixedStepMoved, EffectsConflict, ConditionFails, LevelOutOfBounds, GoalFails, TimedFactsConflict, NeedUnmet}
 use Rattle.verdict.specs.Verdict.{Verdict, Accepted, number, refusal_number, ◌then◌, refuse_if, refuse_lowest}
 
+-- no refusal has number 0
+pub refusal_nonzero : (r : Refusal) → refusal_number r ≡ 0 → ⊥
+refusal_nonzero FileTooShort e = let z : ◌≡◌ {A = ℕ} 1 0 = e in omega arith
+refusal_nonzero UnknownEdition e = let z : ◌≡◌ {A = ℕ} 2 0 = e in omega arith
+refusal_nonzero MarkOutOfRange e = let z : ◌≡◌ {A = ℕ} 3 0 = e in omega arith
+refusal_nonzero CountTooHigh e = let z : ◌≡◌ {A = ℕ} 4 0 = e in omega arith
+refusal_nonzero LayoutDisagrees e = let z : ◌≡◌ {A = ℕ} 5 0 = e in omega arith
+refusal_nonzero (RecordOutOfRange k) e = let z : ◌≡◌ {A = ℕ} 6 0 = e in omega arith
+refusal_nonzero (StepAgainstItself k) e = let z : ◌≡◌ {A = ℕ} 7 0 = e in omega arith
+refusal_nonzero StartsMiscounted e = let z : ◌≡◌ {A = ℕ} 8 0 = e in omega arith
+refusal_nonzero (FixedStepMoved k) e = let z : ◌≡◌ {A = ℕ} 9 0 = e in omega arith
+refusal_nonzero (EffectsConflict k) e = let z : ◌≡◌ {A = ℕ} 10 0 = e in omega arith
+refusal_nonzero (ConditionFails k) e = let z : ◌≡◌ {A = ℕ} 11 0 = e in omega arith
+refusal_nonzero (LevelOutOfBounds k) e = let z : ◌≡◌ {A = ℕ} 12 0 = e in omega arith
+refusal_nonzero (GoalFails k) e = let z : ◌≡◌ {A = ℕ} 13 0 = e in omega arith
+refusal_nonzero (TimedFactsConflict k) e = let z : ◌≡◌ {A = ℕ} 17 0 = e in omega arith
+refusal_nonzero (NeedUnmet k) e = let z : ◌≡◌ {A = ℕ} 21 0 = e in omega arith
+
 pub then_refused : (v w : Verdict) → (number v ≡ 0 → ⊥) → v ≡ (v then w)
 unfolding ◌then◌
-then_refused v w h = simp (ne_eqb (number v) 0 h)
+then_refused (Ok _) w h = absurd (h refl)
+then_refused (Err _) w h = refl
 
 pub then_accepted : (v w : Verdict) → number v ≡ 0 → w ≡ (v then w)
 unfolding ◌then◌
-then_accepted v w h = simp (eq-eqb (number v) 0 h)
+then_accepted (Ok _) w h = refl
+then_accepted (Err r) w h = absurd (refusal_nonzero r h)
 
 pub refuse_yes : (v : Refusal) {b : Bool} → b ≡ true → Err v ≡ refuse_if b v
 unfolding refuse_if
@@ -43,6 +66,25 @@ pub lowest_passed :
 unfolding refuse_lowest
 lowest_passed n p refusal e h = refuse_no (refusal (lowest n p)) (le-ltb (lowest n p) n (rw e at h))
 
+-- the same of a search's answer that says whether it found one
+module _ (n : ℕ) (p : ℕ → Bool) (refusal : ℕ → Refusal) where
+  abbrev named : Option ℕ → Verdict
+  named (Some k) = Err (refusal k)
+  named None = Accepted
+
+  either_way : (b : Bool) → named (cond b (Some (lowest n p)) None) ≡ refuse_if b (refusal (lowest n p))
+  unfolding refuse_if
+  either_way true = refl
+  either_way false = refl
+
+  pub some_refused : {k : ℕ} → Some k ≡ first_where n p → Err (refusal k) ≡ refuse_lowest n p refusal
+  unfolding first_where refuse_lowest
+  some_refused e = ap named e ∙ either_way (ltb (lowest n p) n)
+
+  pub none_refused : None ≡ first_where n p → Accepted ≡ refuse_lowest n p refusal
+  unfolding first_where refuse_lowest
+  none_refused e = ap named e ∙ either_way (ltb (lowest n p) n)
+
 pub accepted_then : (w : Verdict) → (Accepted then w) ≡ w
 unfolding ◌then◌
 accepted_then w = refl
@@ -58,24 +100,6 @@ then_zero v w e =
       | yes z ↦ (z, ap number (then_accepted v w z) ∙ e)
       | no n ↦ absurd (n (ap number (then_refused v w n) ∙ e))
     ]
-
--- no refusal has number 0
-pub refusal_nonzero : (r : Refusal) → refusal_number r ≡ 0 → ⊥
-refusal_nonzero FileTooShort e = let z : ◌≡◌ {A = ℕ} 1 0 = e in omega arith
-refusal_nonzero UnknownEdition e = let z : ◌≡◌ {A = ℕ} 2 0 = e in omega arith
-refusal_nonzero MarkOutOfRange e = let z : ◌≡◌ {A = ℕ} 3 0 = e in omega arith
-refusal_nonzero CountTooHigh e = let z : ◌≡◌ {A = ℕ} 4 0 = e in omega arith
-refusal_nonzero LayoutDisagrees e = let z : ◌≡◌ {A = ℕ} 5 0 = e in omega arith
-refusal_nonzero (RecordOutOfRange k) e = let z : ◌≡◌ {A = ℕ} 6 0 = e in omega arith
-refusal_nonzero (StepAgainstItself k) e = let z : ◌≡◌ {A = ℕ} 7 0 = e in omega arith
-refusal_nonzero StartsMiscounted e = let z : ◌≡◌ {A = ℕ} 8 0 = e in omega arith
-refusal_nonzero (FixedStepMoved k) e = let z : ◌≡◌ {A = ℕ} 9 0 = e in omega arith
-refusal_nonzero (EffectsConflict k) e = let z : ◌≡◌ {A = ℕ} 10 0 = e in omega arith
-refusal_nonzero (ConditionFails k) e = let z : ◌≡◌ {A = ℕ} 11 0 = e in omega arith
-refusal_nonzero (LevelOutOfBounds k) e = let z : ◌≡◌ {A = ℕ} 12 0 = e in omega arith
-refusal_nonzero (GoalFails k) e = let z : ◌≡◌ {A = ℕ} 13 0 = e in omega arith
-refusal_nonzero (TimedFactsConflict k) e = let z : ◌≡◌ {A = ℕ} 17 0 = e in omega arith
-refusal_nonzero (NeedUnmet k) e = let z : ◌≡◌ {A = ℕ} 21 0 = e in omega arith
 
 pub refuse_zero : (b : Bool) (v : Refusal) → number (refuse_if b v) ≡ 0 → b ≡ false
 unfolding refuse_if
@@ -103,6 +127,10 @@ pub zero_lowest :
     (n : ℕ) (p : ℕ → Bool) (refusal : ℕ → Refusal) → ((k : ℕ) → k < n → p k ≡ false) → number (refuse_lowest n p refusal) ≡ 0
 unfolding refuse_lowest
 zero_lowest n p refusal h = zero_refuse _ (refusal (lowest n p)) (sym (any_lowest p n) ∙ any_none p n h)
+
+-- what `?` hands back of a check that refuses: its refusal
+pub handed : {A : Type 0} (result : Result A Refusal) {r : Refusal} → IsErrAnd result (λ x. x ≡ r) → result ≡ Err r
+handed result e = let p = err_from_is_err_and result e in p.1 ∙ ap (λ x. Err x) p.2
 
 -- v is the code's verdict so far and n its number as the code read it: it stands, or the next check w decides
 pub stands : {v a : Verdict} {n : ℕ} (b : Verdict) → v ≡ a → n ≡ number v → (n ≡ 0 → ⊥) → v ≡ (a then b)

@@ -1,5 +1,5 @@
 -- The numbers and places of "Refusals", and a chain of checks in checking order.
-use Rattle.std.specs.Prelude.{ℕ, Bool, cond, ltb, eqb, Result, Ok, Err}
+use Rattle.std.specs.Prelude.{ℕ, Bool, cond, ltb, Result, Ok, Err}
 use Rattle.laws.specs.Search.{lowest}
 use Rattle.verdict.specs.declared.Refusal.{Refusal}
 use Rattle.verdict.specs.declared.Refusal.TheVariants.{FileTooShort, UnknownEdition, MarkOutOfRange, CountTooHigh, LayoutDisagrees}
@@ -53,6 +53,11 @@ refusal_place (GoalFails k) = k
 refusal_place (TimedFactsConflict k) = k
 refusal_place (NeedUnmet k) = k
 
+-- an answer as a verdict: accepted where there is one
+abbrev pub verdict_of : {A : Type 0} → Result A Refusal → Verdict
+verdict_of (Ok _) = Accepted
+verdict_of (Err refusal) = Err refusal
+
 -- the number of a verdict, 0 for accepted
 abbrev pub number : Verdict → ℕ
 number (Ok _) = 0
@@ -66,7 +71,8 @@ place (Err refusal) = refusal_place refusal
 infixl 20 ◌then◌
 -- a check, and where it accepts the next one
 unfoldable pub ◌then◌ : Verdict → Verdict → Verdict
-v then w = cond (eqb (number v) 0) w v
+(Ok _) then w = w
+(Err refusal) then w = Err refusal
 
 -- a refusal where a test says so
 unfoldable pub refuse_if : Bool → Refusal → Verdict

@@ -1,37 +1,42 @@
 -- The header, then the records, chained; what passes is in range.
-use mathlib.Core.Path.{◌≡◌, sym, ap, subst, ◌∙◌}
-use mathlib.Core.List.{List}
-use Prim.Native.Nat.{ℕ}
+use Rattle.std.proofs.Common.{◌≡◌, refl, sym, ap, subst, ◌∙◌, List, ℕ, Result, Ok, Err}
 use Rattle.job.specs.declared.layout.Job.{Job}
 use Rattle.job.specs.Laid.{Laid}
 use Rattle.job.specs.Layout.{job_of}
 use Rattle.job.specs.Model.{view, model_of}
-use Rattle.record_check.specs.declared.Form.{Form}
 use Rattle.header_check.specs.Header.{header_check}
 use Rattle.record_check.specs.Records.{record_check, RecordsPromise}
-use Rattle.verdict.specs.Verdict.{number, ◌then◌}
-use Rattle.verdict.proofs.Chain.{stands, decides}
+use Rattle.verdict.specs.declared.Refusal.{Refusal}
+use Rattle.verdict.specs.Verdict.{Verdict, Accepted, verdict_of, number, ◌then◌}
+use Rattle.verdict.proofs.Chain.{handed}
 use Rattle.record_check.proofs.Ranged.{ranged}
 use Rattle.record_check.proofs.Laid.{header_laid}
 use Rattle.record_check.proofs.read_records.Goals as goal
 
--- the ranges follow from the verdict
-promise : (s : List ℕ) {r : Form} → r.verdict ≡ (header_check s then record_check (model_of s)) → r.job ≡ job_of s → RecordsPromise s r
-promise s v j = record { verdict = v; job = j; ranged = λ z. ranged s (sym (ap number v) ∙ z) }
+-- what a refusal promises
+refused : (s : List ℕ) {x : Refusal} → Err x ≡ (header_check s then record_check (model_of s)) → RecordsPromise s (Err x)
+refused s v = record { verdict = v; job = tt; ranged = λ z. ranged s (sym (ap number v) ∙ z) }
 
-pub check_header-verdict-requires : goal.check_header-verdict-requires
-check_header-verdict-requires c = c.read-job.ensures
+-- and what was checked of the records
+checked :
+    (s : List ℕ) {job : Job} {v : Verdict} → job ≡ job_of s → Accepted ≡ header_check s → (Laid job s → v ≡ record_check (view job s))
+    → v ≡ (header_check s then record_check (model_of s))
+unfolding ◌then◌
+checked s {job} {v} j h r =
+    rw (sym h)
+    (r (subst (λ (x : Job). Laid x s) (sym j) (header_laid s (sym (ap number h)))) ∙ ap (λ (x : Job). record_check (view x s)) j)
 
-pub returns-then-number-ne0 : goal.returns-then-number-ne0
-returns-then-number-ne0 c = promise _ (stands _ c.check_header-verdict.ensures c.number.ensures c.if-number-ne0.true) c.read-job.ensures
+pub returns-in_err-check_header : goal.returns-in_err-check_header
+unfolding ◌then◌
+returns-in_err-check_header c =
+    rw (handed _ c.from_residual.ensures.1) (refused _ (rw (sym c.in_err-check_header.ensures) refl))
+
+pub returns-in_err-check_file : goal.returns-in_err-check_file
+returns-in_err-check_file c =
+    rw (handed _ c.from_residual-in_err-check_file.ensures.1)
+    (refused _ (checked _ c.read-job.ensures c.in_ok-check_header.ensures c.in_err-check_file.ensures))
 
 pub returns : goal.returns
 returns c =
-    let j = c.read-job.ensures in
-    promise _
-    (decides c.check_header-verdict.ensures c.number.ensures c.if-number-ne0.false
-    (c.check_file-verdict.ensures
-    (subst (λ (x : Job). Laid x c.args.s.now) (sym j)
-    (header_laid _ (sym (ap number c.check_header-verdict.ensures) ∙ sym c.number.ensures ∙ c.if-number-ne0.false)))
-    ∙ ap (λ (x : Job). record_check (view x c.args.s.now)) j))
-    j
+    let q = checked _ c.read-job.ensures c.in_ok-check_header.ensures c.in_ok-check_file.ensures in
+    record { verdict = q; job = c.read-job.ensures; ranged = λ z. ranged _ (sym (ap number q)) }

@@ -1,69 +1,59 @@
 -- The nine tables, chained as in `record_check`.
+use Rattle.std.proofs.Common.{sym}
+use Rattle.verdict.specs.Verdict.{◌then◌}
+use Rattle.verdict.proofs.Chain.{handed}
 use Rattle.record_check.specs.Records.{record_check}
-use Rattle.verdict.proofs.Chain.{accepted_then}
-use Rattle.laws.proofs.Search.{contrary}
-use borrow.Author.Tests.{not-true, not-false}
-use borrow.Author.Rules.{rules}
-use mathlib.Core.Path.{ap}
-use mathlib.Core.Bool.{not}
 use Rattle.record_check.proofs.tables.check_records.Goals as goal
 
-pub is_laid-requires : goal.is_laid-requires
-unfolding record_check
-is_laid-requires c = search rules
+pub returns-in_err-check_table : goal.returns-in_err-check_table
+unfolding record_check ◌then◌
+returns-in_err-check_table c l =
+    rw (sym c.in_err-check_table.ensures) (handed _ c.from_residual.ensures.1)
 
-pub returns-then-not-is_laid : goal.returns-then-not-is_laid
-unfolding record_check
-returns-then-not-is_laid c = λ l. contrary (c.is_laid.ensures.1 l) (not-true _ (ap not c.if-not-is_laid.true))
+pub returns-in_err-check_table-2 : goal.returns-in_err-check_table-2
+unfolding record_check ◌then◌
+returns-in_err-check_table-2 c l =
+    rw (sym c.in_ok-check_table.ensures, sym c.in_err-check_table-2.ensures)
+    (handed _ c.from_residual-in_err-check_table-2.ensures.1)
 
-pub table_after-v-requires : goal.table_after-v-requires
-unfolding record_check
-table_after-v-requires c = c.is_laid.ensures.0 (not-false _ (ap not c.if-not-is_laid.false))
+pub returns-in_err-check_table-3 : goal.returns-in_err-check_table-3
+unfolding record_check ◌then◌
+returns-in_err-check_table-3 c l =
+    rw (sym c.in_ok-check_table.ensures, sym c.in_ok-check_table-2.ensures, sym c.in_err-check_table-3.ensures)
+    (handed _ c.from_residual-in_err-check_table-3.ensures.1)
 
-pub table_after-v-requires-2 : goal.table_after-v-requires-2
-unfolding record_check
-table_after-v-requires-2 c = c.is_laid.ensures.0 (not-false _ (ap not c.if-not-is_laid.false))
+pub returns-in_err-check_table-4 : goal.returns-in_err-check_table-4
+unfolding record_check ◌then◌
+returns-in_err-check_table-4 c l =
+    rw (sym c.in_ok-check_table.ensures, sym c.in_ok-check_table-2.ensures, sym c.in_ok-check_table-3.ensures, sym c.in_err-check_table-4.ensures)
+    (handed _ c.from_residual-in_err-check_table-4.ensures.1)
 
-pub table_after-v-requires-3 : goal.table_after-v-requires-3
-unfolding record_check
-table_after-v-requires-3 c = c.is_laid.ensures.0 (not-false _ (ap not c.if-not-is_laid.false))
+pub returns-in_err-check_table-5 : goal.returns-in_err-check_table-5
+unfolding record_check ◌then◌
+returns-in_err-check_table-5 c l =
+    rw (sym c.in_ok-check_table.ensures, sym c.in_ok-check_table-2.ensures, sym c.in_ok-check_table-3.ensures, sym c.in_ok-check_table-4.ensures, sym c.in_err-check_table-5.ensures)
+    (handed _ c.from_residual-in_err-check_table-5.ensures.1)
 
-pub table_after-v-requires-4 : goal.table_after-v-requires-4
-unfolding record_check
-table_after-v-requires-4 c = c.is_laid.ensures.0 (not-false _ (ap not c.if-not-is_laid.false))
+pub returns-in_err-check_table-6 : goal.returns-in_err-check_table-6
+unfolding record_check ◌then◌
+returns-in_err-check_table-6 c l =
+    rw (sym c.in_ok-check_table.ensures, sym c.in_ok-check_table-2.ensures, sym c.in_ok-check_table-3.ensures, sym c.in_ok-check_table-4.ensures, sym c.in_ok-check_table-5.ensures, sym c.in_err-check_table-6.ensures)
+    (handed _ c.from_residual-in_err-check_table-6.ensures.1)
 
-pub table_after-v-requires-5 : goal.table_after-v-requires-5
-unfolding record_check
-table_after-v-requires-5 c = c.is_laid.ensures.0 (not-false _ (ap not c.if-not-is_laid.false))
+pub returns-in_err-check_table-7 : goal.returns-in_err-check_table-7
+unfolding record_check ◌then◌
+returns-in_err-check_table-7 c l =
+    rw (sym c.in_ok-check_table.ensures, sym c.in_ok-check_table-2.ensures, sym c.in_ok-check_table-3.ensures, sym c.in_ok-check_table-4.ensures, sym c.in_ok-check_table-5.ensures, sym c.in_ok-check_table-6.ensures, sym c.in_err-check_table-7.ensures)
+    (handed _ c.from_residual-in_err-check_table-7.ensures.1)
 
-pub table_after-v-requires-6 : goal.table_after-v-requires-6
-unfolding record_check
-table_after-v-requires-6 c = c.is_laid.ensures.0 (not-false _ (ap not c.if-not-is_laid.false))
-
-pub table_after-v-requires-7 : goal.table_after-v-requires-7
-unfolding record_check
-table_after-v-requires-7 c = c.is_laid.ensures.0 (not-false _ (ap not c.if-not-is_laid.false))
-
-pub table_after-v-requires-8 : goal.table_after-v-requires-8
-unfolding record_check
-table_after-v-requires-8 c = c.is_laid.ensures.0 (not-false _ (ap not c.if-not-is_laid.false))
-
-pub table_after-requires : goal.table_after-requires
-unfolding record_check
-table_after-requires c = c.is_laid.ensures.0 (not-false _ (ap not c.if-not-is_laid.false))
+pub returns-in_err-check_table-8 : goal.returns-in_err-check_table-8
+unfolding record_check ◌then◌
+returns-in_err-check_table-8 c l =
+    rw (sym c.in_ok-check_table.ensures, sym c.in_ok-check_table-2.ensures, sym c.in_ok-check_table-3.ensures, sym c.in_ok-check_table-4.ensures, sym c.in_ok-check_table-5.ensures, sym c.in_ok-check_table-6.ensures, sym c.in_ok-check_table-7.ensures, sym c.in_err-check_table-8.ensures)
+    (handed _ c.from_residual-in_err-check_table-8.ensures.1)
 
 pub returns : goal.returns
-unfolding record_check
-returns c =
-    λ l. rw (
-      c.table_after.ensures,
-      c.table_after-v-8.ensures,
-      c.table_after-v-7.ensures,
-      c.table_after-v-6.ensures,
-      c.table_after-v-5.ensures,
-      c.table_after-v-4.ensures,
-      c.table_after-v-3.ensures,
-      c.table_after-v-2.ensures,
-      c.table_after-v.ensures,
-      accepted_then,
-    )
+unfolding record_check ◌then◌
+returns c l =
+    rw (sym c.in_ok-check_table.ensures, sym c.in_ok-check_table-2.ensures, sym c.in_ok-check_table-3.ensures, sym c.in_ok-check_table-4.ensures, sym c.in_ok-check_table-5.ensures, sym c.in_ok-check_table-6.ensures, sym c.in_ok-check_table-7.ensures, sym c.in_ok-check_table-8.ensures)
+    c.check_table-9.ensures
