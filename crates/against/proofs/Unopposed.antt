@@ -8,7 +8,7 @@ use borrow.Author.Tests.{ltb-true, leb-true, eqb-true, eq-eqb, le-ltb}
 use lib.Dec.{eqb}
 use Rattle.laws.specs.Search.{any, lowest_owner}
 use Rattle.laws.proofs.Search.{either, contrary, and_both, any_none, lowest_is}
-use Rattle.verdict.specs.declared.Verdict.TheVariants.{StepAgainstItself, TimedFactsConflict}
+use Rattle.verdict.specs.declared.Refusal.TheVariants.{StepAgainstItself, TimedFactsConflict}
 use Rattle.verdict.specs.Verdict.{number}
 use Rattle.verdict.proofs.Chain.{zero_refuse, zero_lowest}
 use Rattle.job.specs.Model.{Model}

@@ -1,9 +1,8 @@
 -- Refusal 7, a step against itself, in three parts.
 use Rattle.std.specs.Prelude.{ℕ, min, Bool, ◌&&◌, not, ltb, leb, eqb}
 use Rattle.laws.specs.Search.{any, lowest_owner}
-use Rattle.verdict.specs.declared.Verdict.{Verdict}
-use Rattle.verdict.specs.declared.Verdict.TheVariants.{StepAgainstItself}
-use Rattle.verdict.specs.Verdict.{refuse_if}
+use Rattle.verdict.specs.declared.Refusal.TheVariants.{StepAgainstItself}
+use Rattle.verdict.specs.Verdict.{Verdict, refuse_if}
 use Rattle.job.specs.Model.{Model}
 
 -- two effects of one step set a fact both ways at one tick

@@ -1,9 +1,8 @@
 -- Refusal 17, the clock against itself.
 use Rattle.std.specs.Prelude.{ℕ, Bool, ◌&&◌, not, eqb}
 use Rattle.laws.specs.Search.{any}
-use Rattle.verdict.specs.declared.Verdict.{Verdict}
-use Rattle.verdict.specs.declared.Verdict.TheVariants.{TimedFactsConflict}
-use Rattle.verdict.specs.Verdict.{refuse_lowest}
+use Rattle.verdict.specs.declared.Refusal.TheVariants.{TimedFactsConflict}
+use Rattle.verdict.specs.Verdict.{Verdict, refuse_lowest}
 use Rattle.job.specs.Model.{Model}
 
 -- two timed facts set one fact both ways at one tick

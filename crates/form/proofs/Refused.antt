@@ -12,10 +12,9 @@ use lib.ListN.{length, get_or}
 use Rattle.laws.specs.Search.{any, all, lowest_owner}
 use Rattle.laws.proofs.Search.{contrary, by_order, and_both, or_both, or_out, any_intro, any_elim, all_elim, lowest_facts}
 use Rattle.little_endian.specs.Bytes.{u16_at}
-use Rattle.verdict.specs.declared.Verdict.{Verdict}
-use Rattle.verdict.specs.declared.Verdict.TheVariants.{Accepted, FileTooShort, UnknownEdition, MarkOutOfRange, CountTooHigh, LayoutDisagrees}
-use Rattle.verdict.specs.declared.Verdict.TheVariants.{RecordOutOfRange, StepAgainstItself, TimedFactsConflict}
-use Rattle.verdict.specs.Verdict.{number, place, ◌then◌, refuse_if, refuse_lowest}
+use Rattle.verdict.specs.declared.Refusal.TheVariants.{FileTooShort, UnknownEdition, MarkOutOfRange, CountTooHigh, LayoutDisagrees}
+use Rattle.verdict.specs.declared.Refusal.TheVariants.{RecordOutOfRange, StepAgainstItself, TimedFactsConflict}
+use Rattle.verdict.specs.Verdict.{Verdict, Accepted, number, place, ◌then◌, refuse_if, refuse_lowest}
 use Rattle.verdict.proofs.Chain.{accepted_then, refuse_yes, refuse_zero, refuse_says, refuse_either, lowest_outcome, in_turn, FirstRefuses, in_turn_lem}
 use Rattle.verdict.proofs.Unplaced.{unplaced}
 use Rattle.job.specs.declared.layout.Table.{Table}

@@ -8,7 +8,7 @@ use native.Mathlib.Omega.{arith}
 use borrow.Author.Tests.{ltb-false, eqb-true, not-false, eq-eqb, le-leb, lt-ltb}
 use lib.Dec.{eqb, lit<}
 use Rattle.laws.proofs.Search.{either, contrary, by_order, any_false, owner_none}
-use Rattle.verdict.specs.declared.Verdict.TheVariants.{TimedFactsConflict}
+use Rattle.verdict.specs.declared.Refusal.TheVariants.{TimedFactsConflict}
 use Rattle.verdict.specs.Verdict.{number}
 use Rattle.verdict.proofs.Chain.{then_zero, refuse_zero, lowest_zero}
 use Rattle.job.specs.declared.layout.Table.{Table}

@@ -1,7 +1,6 @@
 -- All of the form check, refusals 1 to 7 and 17 in checking order.
 use Rattle.std.specs.Prelude.{ℕ, ◌≡◌, List}
-use Rattle.verdict.specs.declared.Verdict.{Verdict}
-use Rattle.verdict.specs.Verdict.{number, ◌then◌}
+use Rattle.verdict.specs.Verdict.{Verdict, number, ◌then◌}
 use Rattle.job.specs.Layout.{job_of}
 use Rattle.job.specs.Model.{model_of}
 use Rattle.job.specs.WellFormed.{WellFormed}

@@ -1,8 +1,7 @@
 -- Part of the promise: what refusals 1 to 7 and 17 say, in plain words.
 use Rattle.std.specs.Prelude.{ℕ, ◌≤◌, ◌<◌, ◌≡◌, true, false, List, ◌⊎◌, length, get_or}
 use Rattle.little_endian.specs.Bytes.{u16_at}
-use Rattle.verdict.specs.declared.Verdict.{Verdict}
-use Rattle.verdict.specs.Verdict.{number, place, nowhere}
+use Rattle.verdict.specs.Verdict.{Verdict, number, place, nowhere}
 use Rattle.job.specs.declared.layout.Table.{Table}
 use Rattle.job.specs.declared.layout.Table.TheVariants.{Facts, Levels, Steps, Conditions, Effects, Uses, Goals, TimedFacts, Needs}
 use Rattle.job.specs.Layout.{latest_edition, timed_edition, needs_edition, shortest_header, header_width, serial_mark, highest, counts_of, count_list, job_of}

@@ -27,7 +27,7 @@ use Rattle.naming.specs.declared.Names.{Names}
 use Rattle.naming.specs.Named.{Readable, AllNamed}
 use Rattle.job_from_notes.specs.Counted.{tables_in, Walked}
 use Rattle.plan_check.specs.Checked.{Checked}
-use Rattle.verdict.specs.declared.Verdict.TheVariants.{CountTooHigh}
+use Rattle.verdict.specs.declared.Refusal.TheVariants.{CountTooHigh}
 use Rattle.texts_answer.specs.declared.TextsAnswer.{TextsAnswer}
 use Rattle.texts_answer.specs.declared.TextsAnswer.TheVariants.{PlanOutside, PlanDiffers, Refused}
 use Rattle.texts_answer.specs.FromTexts.{job_bytes, counted, plan_answer, bytes_of, written}

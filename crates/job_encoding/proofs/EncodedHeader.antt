@@ -10,7 +10,7 @@ use lib.Dec.{ltb, eqb}
 use lib.ListN.{length}
 use Rattle.little_endian.specs.Bytes.{u32_values, u32_at, u16_at, u16_bytes, u32_bytes}
 use Rattle.little_endian.proofs.Stands.{stands_u32}
-use Rattle.verdict.specs.declared.Verdict.TheVariants.{FileTooShort, UnknownEdition, MarkOutOfRange, CountTooHigh, LayoutDisagrees}
+use Rattle.verdict.specs.declared.Refusal.TheVariants.{FileTooShort, UnknownEdition, MarkOutOfRange, CountTooHigh, LayoutDisagrees}
 use Rattle.verdict.specs.Verdict.{◌then◌, refuse_if}
 use Rattle.job.specs.Layout.{latest_edition, timed_edition, needs_edition, shortest_header, timed_header, longest_header, header_width, table_at}
 use Rattle.job.specs.Layout.{positions_of, count_too_high}

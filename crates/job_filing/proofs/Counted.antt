@@ -18,7 +18,7 @@ use Rattle.job.specs.Layout.{most_facts, most_levels, most_steps, most_condition
 use Rattle.job.specs.Model.{Model}
 use Rattle.job_encoding.specs.Encode.{counts_in, encode}
 use Rattle.order_file.specs.Held.{over}
-use Rattle.verdict.specs.declared.Verdict.TheVariants.{CountTooHigh}
+use Rattle.verdict.specs.declared.Refusal.TheVariants.{CountTooHigh}
 use Rattle.supplied.specs.Job.{level_from, model_in}
 use Rattle.job_notes.specs.Tables.{joined, initial_noted, amount_noted, step_noted, tables_noted}
 use Rattle.job_from_notes.specs.Counted.{tables_in, Walked, Counted}

@@ -8,8 +8,7 @@ use native.Mathlib.Omega.{arith}
 use borrow.Author.Tests.{le-ltb}
 use lib.Dec.{eqb}
 use Rattle.little_endian.specs.Bytes.{byte_at, u16_at, u32_at, biased_at}
-use Rattle.verdict.specs.declared.Verdict.{Verdict}
-use Rattle.verdict.specs.Verdict.{◌then◌}
+use Rattle.verdict.specs.Verdict.{Verdict, ◌then◌}
 use Rattle.job.specs.declared.layout.Counts.{Counts}
 use Rattle.job.specs.declared.layout.Job.{Job}
 use Rattle.job.specs.Layout.{timed_edition, needs_edition, header_width, serial_mark, counts_of, table_at, positions_of, job_of}

@@ -19,12 +19,11 @@ use Rattle.laws.specs.Nth.{count, nth}
 use Rattle.laws.specs.Search.{any, all, lowest, lowest_owner}
 use Rattle.laws.proofs.Search.{either, last_or_below}
 use Rattle.laws.proofs.Nth.{nth_facts, nth_is}
-use Rattle.verdict.specs.declared.Verdict.TheVariants.{Accepted}
 use Rattle.job.specs.Layout.{header_width, counts_of, table_at, positions_of, job_of, count_too_high}
 use Rattle.header_check.specs.Header.{edition_known, marks_wrong, layout_agrees, header_check}
 use Rattle.job.specs.Model.{Model, model_of}
 use Rattle.job.specs.Clocked.{clocked}
-use Rattle.verdict.specs.Verdict.{◌then◌, refuse_if, refuse_lowest}
+use Rattle.verdict.specs.Verdict.{Accepted, ◌then◌, refuse_if, refuse_lowest}
 use Rattle.ranges.specs.Ranges.{fact_ok, level_ok, step_ok, condition_ok, effect_ok, use_ok, goal_ok, timed_ok}
 use Rattle.record_check.specs.Records.{table_check, record_check}
 use Rattle.against.specs.Against.{both_ways, uses_twice, opposes_own, set_before, used_before, opposes_any, both_ways_step, uses_twice_step, opposes_own_step}

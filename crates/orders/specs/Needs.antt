@@ -1,6 +1,6 @@
 -- Between crates: cases of the orders that needs give, one a sentence, each a job with needs and what is filed of it.
 use Rattle.std.specs.Prelude.{ℕ, ◌≡◌, List, [], ◌∷◌}
-use Rattle.verdict.specs.declared.Verdict.TheVariants.{Accepted}
+use Rattle.verdict.specs.Verdict.{Accepted}
 use Rattle.job.specs.Model.{Model}
 use Rattle.job.specs.Clocked.{clocked}
 use Rattle.validity.specs.Ticks.{planned}

@@ -3,9 +3,9 @@
 use Rattle.std.specs.Prelude.{ℕ, ◌+◌, ◌*◌, ◌-◌, ◌≡◌, length, get_or}
 use mathlib.Core.List.{List, [], ◌∷◌, ◌++◌, foldr}
 use Rattle.little_endian.specs.Bytes.{u16_bytes, u32_bytes}
-use Rattle.verdict.specs.declared.Verdict.{Verdict}
-use Rattle.verdict.specs.declared.Verdict.TheVariants.{Accepted, RecordOutOfRange, StepAgainstItself, EffectsConflict, ConditionFails, LevelOutOfBounds}
-use Rattle.verdict.specs.declared.Verdict.TheVariants.{GoalFails, TimedFactsConflict}
+use Rattle.verdict.specs.Verdict.{Verdict, Accepted}
+use Rattle.verdict.specs.declared.Refusal.TheVariants.{RecordOutOfRange, StepAgainstItself, EffectsConflict, ConditionFails, LevelOutOfBounds}
+use Rattle.verdict.specs.declared.Refusal.TheVariants.{GoalFails, TimedFactsConflict}
 use Rattle.job.specs.Model.{model_of}
 use Rattle.validity.specs.Ticks.{planned}
 use Rattle.validity.specs.Checks.{job_check}

@@ -1,6 +1,6 @@
 -- An answer as one number: the length, the count or the yes, then the number of the refusal, then its place.
 use Rattle.std.specs.Prelude.{ℕ, ◌+◌, ◌*◌, ◌^◌, cond}
-use Rattle.verdict.specs.declared.Verdict.{Verdict}
+use Rattle.verdict.specs.Verdict.{Verdict}
 use Rattle.verdict.specs.Verdict as verdict
 use Rattle.order_answers.specs.declared.HeaderRead.{HeaderRead}
 use Rattle.order_answers.specs.declared.RecordRead.{RecordRead}

@@ -58,10 +58,12 @@ module _ {m : Model} {compared step : ℕ} (w : PassedSteps m compared step) whe
               ∙ rw (← e, t) (ap (λ (n : ℕ). record { compared = n; step = b.step }) q);
         })
 
-  pub steps_end : m.steps ≤ step → record { compared = compared; step = step } ≡ pair_search m
+  pub steps_end : m.steps ≤ step → record { compared = compared; step = m.steps } ≡ pair_search m
   unfolding through_steps
   steps_end l =
       let z : m.steps - step ≡ 0 = omega arith in
       let q : compared + 0 ≡ compared = omega arith in
+      let n : step ≡ m.steps = omega (arith, w.most) in
       sym
-      (w.rest ∙ ap (λ (n : ℕ). after compared (through_steps m step n)) z ∙ ap (λ (n : ℕ). record { compared = n; step = step }) q)
+      (w.rest ∙ ap (λ (n : ℕ). after compared (through_steps m step n)) z ∙ ap (λ (n : ℕ). record { compared = n; step = step }) q
+      ∙ ap (λ (n : ℕ). record { compared = compared; step = n }) n)

@@ -1,8 +1,8 @@
 -- What the search by pairs answers of a file, and what is promised of it.
-use Rattle.std.specs.Prelude.{ℕ, ◌<◌, ◌≡◌, cond, List, ltb, eqb}
-use Rattle.verdict.specs.declared.Verdict.{Verdict}
+use Rattle.std.specs.Prelude.{ℕ, ◌<◌, ◌≡◌, cond, List, ltb, Ok, Err}
+use Rattle.verdict.specs.declared.Refusal.{Refusal}
 use Rattle.verdict.specs.Verdict as verdict
-use Rattle.verdict.specs.Verdict.{nowhere, ◌then◌}
+use Rattle.verdict.specs.Verdict.{Verdict, nowhere, ◌then◌}
 use Rattle.job.specs.Model.{Model, model_of}
 use Rattle.header_check.specs.Header.{header_check}
 use Rattle.record_check.specs.Records.{record_check}
@@ -16,23 +16,27 @@ use Rattle.pair_search.specs.declared.answer.PairsAnswer.TheVariants.{NoneFound,
 unfoldable pub found_in : Model → StepSearch → PairsAnswer
 found_in m r = cond (ltb r.step m.steps) (Found r.compared r.step) (NoneFound r.compared)
 
+-- an answer, unless a check refuses
+abbrev pub refused_or : PairsAnswer → Verdict → PairsAnswer
+refused_or a (Ok _) = a
+refused_or a (Err refusal) = Refused refusal
+
 -- refusals 1 to 6, then the search
 unfoldable pub pairs_answer : List ℕ → PairsAnswer
 pairs_answer s =
-    let v = header_check s then record_check (model_of s) in
-    cond (eqb (verdict.number v) 0) (found_in (model_of s) (pair_search (model_of s))) (Refused v)
+    refused_or (found_in (model_of s) (pair_search (model_of s))) (header_check s then record_check (model_of s))
 
 -- the number of a refusal, 0 for a search
 abbrev pub number : PairsAnswer → ℕ
 number (NoneFound n) = 0
 number (Found n step) = 0
-number (Refused v) = verdict.number v
+number (Refused r) = verdict.refusal_number r
 
 -- the step of the pair found, or the place of a refusal
 abbrev pub place : PairsAnswer → ℕ
 place (NoneFound n) = nowhere
 place (Found n step) = step
-place (Refused v) = verdict.place v
+place (Refused r) = verdict.refusal_place r
 
 -- how many pairs were compared, 0 for a refusal
 abbrev pub compared : PairsAnswer → ℕ
@@ -45,4 +49,4 @@ pub record PairsPromise (s : List ℕ) (r : PairsAnswer) : Type 0 where
   pub answer : r ≡ pairs_answer s
   pub found : (n step : ℕ) → r ≡ Found n step → FirstBothWays (model_of s) step
   pub none : (n : ℕ) → r ≡ NoneFound n → (step e f : ℕ) → step < (model_of s).steps → SetsBothWays (model_of s) step e f → ⊥
-  pub refused : (v : Verdict) → r ≡ Refused v → (v ≡ (header_check s then record_check (model_of s))) × (verdict.number v ≡ 0 → ⊥)
+  pub refused : (v : Refusal) → r ≡ Refused v → Err v ≡ (header_check s then record_check (model_of s))

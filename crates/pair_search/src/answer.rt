@@ -2,16 +2,16 @@
 ghost use Rattle.std.specs.Prelude.{◌≡◌};
 ghost use Rattle.pair_search.specs.Answer as spec;
 
-use verdict::{NOWHERE, Verdict};
+use verdict::{NOWHERE, Refusal};
 
-#[derive(Clone, Copy)]
+#[derive(Clone, Copy, Debug, PartialEq, Eq)]
 pub enum PairsAnswer {
     // How many pairs were compared: all, as no step sets a fact both ways.
     NoneFound(u32),
     // How many pairs were compared, and the step of the last one, which sets a fact both ways.
     Found(u32, u16),
     // A refusal of the header or the records.
-    Refused(Verdict),
+    Refused(Refusal),
 }
 
 // The number of a refusal, 0 for a search.
@@ -21,7 +21,7 @@ pub fn number(a: PairsAnswer) -> u16
     match a {
         PairsAnswer::NoneFound(_) => 0,
         PairsAnswer::Found(_, _) => 0,
-        PairsAnswer::Refused(v) => verdict::number(v),
+        PairsAnswer::Refused(refusal) => refusal.number(),
     }
 }
 
@@ -32,7 +32,7 @@ pub fn place(a: PairsAnswer) -> u16
     match a {
         PairsAnswer::NoneFound(_) => NOWHERE,
         PairsAnswer::Found(_, step) => step,
-        PairsAnswer::Refused(v) => verdict::place(v),
+        PairsAnswer::Refused(refusal) => refusal.place(),
     }
 }
 

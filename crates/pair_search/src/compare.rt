@@ -20,15 +20,13 @@ fn with_higher(keys: &[u32], p: usize) -> Search
 {
     let n = keys.len();
     let other = opposite_of(keys[p]);
-    let mut q = p + 1;
-    while q < n {
+    for q in p + 1..n {
         if keys[q] == other {
             return Search {
                 compared: (q - p) as u32,
                 found: true,
             };
         }
-        q += 1;
     }
     Search {
         compared: (n - p - 1) as u32,
@@ -43,8 +41,7 @@ pub fn through_pairs(keys: &[u32]) -> Search
 {
     let n = keys.len();
     let mut compared = 0;
-    let mut p = 0;
-    while p < n {
+    for p in 0..n {
         let search = with_higher(keys, p);
         compared += search.compared;
         if search.found {
@@ -53,7 +50,6 @@ pub fn through_pairs(keys: &[u32]) -> Search
                 found: true,
             };
         }
-        p += 1;
     }
     Search {
         compared,

@@ -36,10 +36,8 @@ pub fn link_effects(s: &[u8], job: Job, index: &mut [u16; INDEX_SIZE])
     ensures { Growing (view job s.now).effect_step job.count.effects index.new }
 {
     let n = job.count.effects;
-    let mut k = 0;
-    while k < n {
+    for k in 0..n {
         link(effect_step(s, job, k) as usize, k, index);
-        k += 1;
     }
 }
 
@@ -55,6 +53,7 @@ pub fn list_keys(s: &[u8], job: Job, index: &[u16], step: u16, keys: &mut [u32])
     let n = job.count.effects;
     let mut low = MOST_KEYS;
     let mut k = last_of(index, step as usize);
+    // A walk along links has no range to go through.
     while k < n {
         low -= 1;
         let e = effect_of(s, job, k);

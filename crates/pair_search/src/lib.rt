@@ -21,7 +21,6 @@ use job::layout::Job;
 use keys::{MOST_KEYS, link_effects, list_keys};
 use record_check::read_records;
 use timeline::index::{INDEX_SIZE, UNLINKED};
-use verdict::number;
 
 // Through all pairs of a step's effects, by the lower, then the higher, up to the first that sets a fact both ways.
 fn search_step(s: &[u8], job: Job, index: &[u16], step: u16, keys: &mut [u32]) -> Search
@@ -44,16 +43,14 @@ pub fn search_pairs(s: &[u8], job: Job) -> StepSearch
     let mut keys = [0u32; MOST_KEYS];
     let n = job.count.steps;
     let mut compared = 0;
-    let mut step = 0;
-    while step < n {
+    for step in 0..n {
         let search = search_step(s, job, &index, step, &mut keys);
         compared += search.compared;
         if search.found {
             return StepSearch { compared, step };
         }
-        step += 1;
     }
-    StepSearch { compared, step }
+    StepSearch { compared, step: n }
 }
 
 // What the search found: a pair, if its step is one of the job's.
@@ -73,12 +70,8 @@ fn found_in(search: StepSearch, job: Job) -> PairsAnswer
 pub fn compare_pairs(s: &[u8]) -> PairsAnswer
     ensures { PairsPromise s.now result }
 {
-    let form = read_records(s);
-    let v = form.verdict;
-    if number(v) != 0 {
-        return PairsAnswer::Refused(v);
+    match read_records(s) {
+        Ok(job) => found_in(search_pairs(s, job), job),
+        Err(refusal) => PairsAnswer::Refused(refusal),
     }
-    let job = form.job;
-    let search = search_pairs(s, job);
-    found_in(search, job)
 }

@@ -12,7 +12,7 @@ use lib.Dec.{leb, eqb}
 use lib.Seq.{take-append_seam}
 use Rattle.laws.proofs.Search.{either, contrary}
 use Rattle.laws.proofs.Listed.{length_tabulate, get_d_tabulate}
-use Rattle.verdict.specs.declared.Verdict.{Verdict}
+use Rattle.verdict.specs.Verdict.{Verdict}
 use Rattle.verdict.specs.Verdict as verdict
 use Rattle.job.specs.Model.{Model, model_of, last_start}
 use Rattle.job.specs.WellFormed.{WellFormed}

@@ -1,7 +1,7 @@
 -- What loosening promises of the file that it wrote, one field a clause of the user's demands.
 use Rattle.std.specs.Prelude.{ℕ, suc, ◌≤◌, ◌<◌, ◌≡◌, Bool, true, false, cond, ◌&&◌, List, ◌⊎◌, eqb, length, take}
 use Rattle.laws.specs.Fold.{largest}
-use Rattle.verdict.specs.declared.Verdict.{Verdict}
+use Rattle.verdict.specs.Verdict.{Verdict}
 use Rattle.verdict.specs.Verdict as verdict
 use Rattle.job.specs.Model.{model_of}
 use Rattle.job.specs.Clocked.{clocked, with_clock}

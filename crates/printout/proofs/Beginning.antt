@@ -13,9 +13,8 @@ use lib.Dec.{ltb, eqb}
 use lib.Seq.{take_all, get_or-take, length-take-le}
 use Rattle.laws.proofs.Search.{either, and_l, and_r, any_false}
 use Rattle.little_endian.specs.Bytes.{u16_at}
-use Rattle.verdict.specs.declared.Verdict.{Verdict}
-use Rattle.verdict.specs.declared.Verdict.TheVariants.{FileTooShort, UnknownEdition, MarkOutOfRange, CountTooHigh, LayoutDisagrees}
-use Rattle.verdict.specs.Verdict.{number, place, ◌then◌, refuse_if}
+use Rattle.verdict.specs.declared.Refusal.TheVariants.{FileTooShort, UnknownEdition, MarkOutOfRange, CountTooHigh, LayoutDisagrees}
+use Rattle.verdict.specs.Verdict.{Verdict, number, place, ◌then◌, refuse_if}
 use Rattle.verdict.proofs.Chain.{then_refused, first_refused, then_zero, refuse_zero}
 use Rattle.job.specs.declared.layout.Counts.{Counts}
 use Rattle.job.specs.Layout.{timed_edition, needs_edition, shortest_header, longest_header, header_width, counts_of, count_list, highest, table_at}

@@ -10,9 +10,7 @@ use lib.ListN.{length}
 use lib.Dec.{eqb}
 use Rattle.laws.specs.Listed.{concatenate}
 use Rattle.little_endian.specs.Bytes.{u16_at, u16_bytes, u32_bytes}
-use Rattle.verdict.specs.declared.Verdict.{Verdict}
-use Rattle.verdict.specs.declared.Verdict.TheVariants.{Accepted}
-use Rattle.verdict.specs.Verdict.{number, place, nowhere}
+use Rattle.verdict.specs.Verdict.{Verdict, Accepted, number, place, nowhere}
 use Rattle.job.specs.Model.{model_of}
 use Rattle.validity.specs.Ticks.{planned}
 use Rattle.validity.specs.Checks.{job_check}

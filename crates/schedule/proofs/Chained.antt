@@ -6,9 +6,8 @@ use native.Mathlib.Omega.{arith}
 use lib.Dec.{ltb}
 use Rattle.laws.specs.Search.{lowest}
 use Rattle.laws.proofs.Search.{lowest_facts}
-use Rattle.verdict.specs.declared.Verdict.{Verdict}
-use Rattle.verdict.specs.declared.Verdict.TheVariants.{Accepted, EffectsConflict}
-use Rattle.verdict.specs.Verdict.{number, ◌then◌, refuse_if, refuse_lowest}
+use Rattle.verdict.specs.declared.Refusal.TheVariants.{EffectsConflict}
+use Rattle.verdict.specs.Verdict.{Verdict, Accepted, number, ◌then◌, refuse_if, refuse_lowest}
 use Rattle.verdict.proofs.Chain.{first_refused, lowest_refused, lowest_passed}
 use Rattle.job.specs.Model.{Model}
 use Rattle.job.specs.Clocked.{ClockedForm}

@@ -1,8 +1,7 @@
 -- Inner: what the timing check knows of a file, its job and the points of a schedule, from step to step.
 use Rattle.std.specs.Prelude.{ℕ, ◌≤◌, ◌<◌, ◌≡◌, List}
 use Rattle.laws.specs.Search.{lowest}
-use Rattle.verdict.specs.declared.Verdict.{Verdict}
-use Rattle.verdict.specs.Verdict.{◌then◌}
+use Rattle.verdict.specs.Verdict.{Verdict, ◌then◌}
 use Rattle.job.specs.declared.layout.Job.{Job}
 use Rattle.job.specs.Model.{Model, view}
 use Rattle.job.specs.WellFormed.{WellFormed}

@@ -2,7 +2,7 @@
 use mathlib.Core.Path.{◌≡◌, refl}
 use Rattle.spelling.specs.Keywords.{codes}
 use Rattle.text.specs.Decimal.{digits, decimal}
-use Rattle.verdict.specs.declared.Verdict.TheVariants.{ConditionFails}
+use Rattle.verdict.specs.declared.Refusal.TheVariants.{ConditionFails}
 use Rattle.texts_answer.specs.declared.TextsAnswer.TheVariants.{Made, PlanDiffers, Refused}
 use Rattle.telling.specs.Told.{at_line, of_record, unsound, fault, made_line, refused_line, told}
 

@@ -1,10 +1,10 @@
 -- The line that `pddl` prints of what two texts are answered. Bytes are ASCII codes, and the line ends with a newline.
 use Rattle.std.specs.Prelude.{ℕ, ◌+◌, cond, List, [], ◌++◌, eqb}
 use Rattle.spelling.specs.Keywords.{codes}
-use Rattle.verdict.specs.declared.Verdict.{Verdict}
-use Rattle.verdict.specs.declared.Verdict.TheVariants.{Accepted, FileTooShort, UnknownEdition, MarkOutOfRange, CountTooHigh, LayoutDisagrees}
-use Rattle.verdict.specs.declared.Verdict.TheVariants.{RecordOutOfRange, StepAgainstItself, StartsMiscounted, FixedStepMoved, EffectsConflict}
-use Rattle.verdict.specs.declared.Verdict.TheVariants.{ConditionFails, LevelOutOfBounds, GoalFails, TimedFactsConflict, NeedUnmet}
+use Rattle.verdict.specs.Verdict.{Verdict, Accepted}
+use Rattle.verdict.specs.declared.Refusal.TheVariants.{FileTooShort, UnknownEdition, MarkOutOfRange, CountTooHigh, LayoutDisagrees}
+use Rattle.verdict.specs.declared.Refusal.TheVariants.{RecordOutOfRange, StepAgainstItself, StartsMiscounted, FixedStepMoved, EffectsConflict}
+use Rattle.verdict.specs.declared.Refusal.TheVariants.{ConditionFails, LevelOutOfBounds, GoalFails, TimedFactsConflict, NeedUnmet}
 use Rattle.texts_answer.specs.declared.TextsAnswer.{TextsAnswer}
 use Rattle.texts_answer.specs.declared.TextsAnswer.TheVariants.{Made, ActionsOutside, ActionsTooDeep, PlanOutside, PlanDiffers}
 use Rattle.texts_answer.specs.declared.TextsAnswer.TheVariants.{Refused, BufferTooShort}

@@ -6,8 +6,7 @@ use native.Mathlib.Nat.{zero-add}
 use borrow.Author.Tests.{eq-eqb, ne_eqb, le-leb, lt-leb}
 use lib.ListN.{length, take, drop}
 use lib.Seq.{sets-eq, take-length}
-use Rattle.verdict.specs.declared.Verdict.{Verdict}
-use Rattle.verdict.specs.Verdict.{number}
+use Rattle.verdict.specs.Verdict.{Verdict, number}
 use Rattle.validity.specs.Checks.{job_check}
 use Rattle.texts_answer.specs.declared.TextsAnswer.TheVariants.{Made, Refused, BufferTooShort}
 use Rattle.texts_answer.specs.FromTexts.{checked, written}

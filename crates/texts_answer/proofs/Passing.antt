@@ -9,7 +9,7 @@ use borrow.Author.Tests.{eqb-true, eqb-false, eq-eqb, leb-true}
 use lib.Dec.{eqb, leb}
 use lib.ListN.{length}
 use Rattle.verdict.specs.Verdict as verdict
-use Rattle.verdict.specs.declared.Verdict.TheVariants.{CountTooHigh}
+use Rattle.verdict.specs.declared.Refusal.TheVariants.{CountTooHigh}
 use Rattle.grammar.specs.Said.{Item}
 use Rattle.grammar.specs.Reader.{Outcome, read, refused}
 use Rattle.job.specs.Layout.{count_too_high}

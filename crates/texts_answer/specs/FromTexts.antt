@@ -2,7 +2,7 @@
 use Rattle.std.specs.Prelude.{ℕ, cond, List, [], ◌∷◌, eqb, leb, length}
 use Rattle.std.proofs.lemmas.List.Edits.{sets}
 use Rattle.verdict.specs.Verdict.{number}
-use Rattle.verdict.specs.declared.Verdict.TheVariants.{CountTooHigh}
+use Rattle.verdict.specs.declared.Refusal.TheVariants.{CountTooHigh}
 use Rattle.grammar.specs.Said.{Item}
 use Rattle.grammar.specs.Reader.{Outcome, read, refused}
 use Rattle.grammar.specs.Reading.{action_reading, plan_reading}

@@ -10,9 +10,8 @@ use borrow.Author.Tests.{eqb-true, eq-eqb, not-false}
 use lib.Dec.{eqb}
 use lib.ListN.{length}
 use Rattle.laws.proofs.Listed.{get_d_tabulate}
-use Rattle.verdict.specs.declared.Verdict.{Verdict}
-use Rattle.verdict.specs.declared.Verdict.TheVariants.{StartsMiscounted}
-use Rattle.verdict.specs.Verdict.{number, place, ◌then◌}
+use Rattle.verdict.specs.declared.Refusal.TheVariants.{StartsMiscounted}
+use Rattle.verdict.specs.Verdict.{Verdict, number, place, ◌then◌}
 use Rattle.job.specs.Model.{Model, model_of}
 use Rattle.job.specs.Clocked.{clocked, ClockedForm}
 use Rattle.job.proofs.Clocked.{clocked_form}

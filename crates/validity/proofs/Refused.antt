@@ -8,9 +8,7 @@ use native.Mathlib.Decide.{ℕ_discrete, dec_le}
 use native.Mathlib.Omega.{arith}
 use lib.Dec.{ltb, eqb}
 use Rattle.laws.specs.Search.{lowest}
-use Rattle.verdict.specs.declared.Verdict.{Verdict}
-use Rattle.verdict.specs.declared.Verdict.TheVariants.{Accepted}
-use Rattle.verdict.specs.Verdict.{number, place, ◌then◌, refuse_lowest}
+use Rattle.verdict.specs.Verdict.{Verdict, Accepted, number, place, ◌then◌, refuse_lowest}
 use Rattle.verdict.proofs.Chain.{then_refused, then_accepted, then_either, refuse_either, lowest_outcome}
 use Rattle.job.specs.Model.{Model}
 use Rattle.job.specs.Clocked.{ClockedForm}

@@ -1,10 +1,9 @@
 -- Refusals 8 to 13 and 21, in checking order: 21 comes after 12. Rules that speak of every tick are tested at the ticks where something happens.
 use Rattle.std.specs.Prelude.{ℕ, suc, Bool, ◌&&◌, ◌||◌, not, List, length, ltb, leb, eqb}
 use Rattle.laws.specs.Search.{any}
-use Rattle.verdict.specs.declared.Verdict.{Verdict}
-use Rattle.verdict.specs.declared.Verdict.TheVariants.{StartsMiscounted, FixedStepMoved, EffectsConflict, ConditionFails, LevelOutOfBounds}
-use Rattle.verdict.specs.declared.Verdict.TheVariants.{GoalFails, NeedUnmet}
-use Rattle.verdict.specs.Verdict.{◌then◌, refuse_if, refuse_lowest}
+use Rattle.verdict.specs.declared.Refusal.TheVariants.{StartsMiscounted, FixedStepMoved, EffectsConflict, ConditionFails, LevelOutOfBounds}
+use Rattle.verdict.specs.declared.Refusal.TheVariants.{GoalFails, NeedUnmet}
+use Rattle.verdict.specs.Verdict.{Verdict, ◌then◌, refuse_if, refuse_lowest}
 use Rattle.job.specs.Model.{Model, model_of}
 use Rattle.job.specs.Clocked.{clocked}
 use Rattle.job.specs.Model.{no_deadline}

@@ -2,8 +2,8 @@
 -- counts against a need by the same definitions, so only these pin what that is.
 use Rattle.std.specs.Prelude.{ℕ, ◌+◌, ◌-◌, ◌≡◌, cond, List, [], ◌∷◌, length, get_or, eqb}
 use Rattle.little_endian.specs.Bytes.{sign_bias}
-use Rattle.verdict.specs.declared.Verdict.{Verdict}
-use Rattle.verdict.specs.declared.Verdict.TheVariants.{Accepted, LevelOutOfBounds, GoalFails, NeedUnmet}
+use Rattle.verdict.specs.Verdict.{Verdict, Accepted}
+use Rattle.verdict.specs.declared.Refusal.TheVariants.{LevelOutOfBounds, GoalFails, NeedUnmet}
 use Rattle.job.specs.declared.records.Use.{Use}
 use Rattle.job.specs.declared.records.Need.{Need}
 use Rattle.job.specs.Model.{Model, no_deadline}

@@ -1,7 +1,6 @@
 -- The sound-timing promise: accepted means exactly that the file is well formed and the timing sound, and each refusal says what fails.
 use Rattle.std.specs.Prelude.{ℕ, ◌<◌, ◌≡◌, List, length}
-use Rattle.verdict.specs.declared.Verdict.{Verdict}
-use Rattle.verdict.specs.Verdict.{number}
+use Rattle.verdict.specs.Verdict.{Verdict, number}
 use Rattle.job.specs.Model.{model_of}
 use Rattle.job.specs.Clocked.{clocked}
 use Rattle.form.specs.Refusals.{form_check}

@@ -1,7 +1,6 @@
 -- Part of the promise: what each refusal says. One plain predicate a rule, 9 to 13 and 21, of one record, in the words of `Valid`.
 use Rattle.std.specs.Prelude.{ℕ, suc, ◌+◌, ◌≤◌, ◌<◌, ◌≡◌, List, ◌⊎◌}
-use Rattle.verdict.specs.declared.Verdict.{Verdict}
-use Rattle.verdict.specs.Verdict.{number, place, nowhere}
+use Rattle.verdict.specs.Verdict.{Verdict, number, place, nowhere}
 use Rattle.job.specs.Model.{Model, model_of, no_deadline}
 use Rattle.job.specs.WellFormed.{WellFormed}
 use Rattle.job.specs.Clocked.{clocked}

@@ -32,12 +32,6 @@ pub returns-then-search : goal.returns-then-search
 returns-then-search c =
     steps_found c.loop-step.invariant.1 c.loop-step-test.true c.search_step-search.ensures.value.0 c.if-search.true
 
-pub overflow_add-step : goal.overflow_add-step
-overflow_add-step c = omega (arith, c.loop-step-test.true, c.requires.1.step_count)
-
-pub loop-step-smaller : goal.loop-step-smaller
-loop-step-smaller c = omega (arith, c.loop-step-test.true)
-
 pub loop-step-preserved : goal.loop-step-preserved
 loop-step-preserved c =
     let r = c.search_step-search.ensures in

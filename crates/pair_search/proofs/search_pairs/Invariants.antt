@@ -8,6 +8,3 @@ use Rattle.pair_search.proofs.search_pairs.Given as goal
 
 abbrev pub invariant-loop-step : goal.invariant-loop-step
 invariant-loop-step l = (length l.keys ≡ most_effects) × PassedSteps (view l.job l.s) l.compared l.step
-
-abbrev pub decreases-loop-step : goal.decreases-loop-step
-decreases-loop-step l = l.n - l.step

@@ -18,12 +18,6 @@ returns-then-search c =
     let a = c.with_higher-search.ensures in
     (pairs_found c.loop-p.invariant c.loop-p-test.true a.0 c.if-search.true, omega arith)
 
-pub overflow_add-p : goal.overflow_add-p
-overflow_add-p c = omega arith
-
-pub loop-p-smaller : goal.loop-p-smaller
-loop-p-smaller c = omega arith
-
 pub loop-p-preserved : goal.loop-p-preserved
 loop-p-preserved c =
     let a = c.with_higher-search.ensures in

@@ -11,9 +11,6 @@ offset_bounds-keys-p c = omega arith
 pub bounds-keys-p : goal.bounds-keys-p
 bounds-keys-p c = omega arith
 
-pub overflow_add-q : goal.overflow_add-q
-overflow_add-q c = omega arith
-
 pub loop-q-init : goal.loop-q-init
 loop-q-init c = (c.opposite_of-other.ensures, passed_start c.requires.0)
 
@@ -33,12 +30,6 @@ pub returns-then-keys-q : goal.returns-then-keys-q
 returns-then-keys-q c =
     let i = c.loop-q.invariant in
     (passed_found i.1 c.loop-q-test.true (c.if-keys-q.true ∙ i.0), omega arith)
-
-pub overflow_add-q-in-loop-q : goal.overflow_add-q-in-loop-q
-overflow_add-q-in-loop-q c = omega arith
-
-pub loop-q-smaller : goal.loop-q-smaller
-loop-q-smaller c = omega arith
 
 pub loop-q-preserved : goal.loop-q-preserved
 loop-q-preserved c =

@@ -7,6 +7,3 @@ use Rattle.pair_search.proofs.compare.with_higher.Given as goal
 
 abbrev pub invariant-loop-q : goal.invariant-loop-q
 invariant-loop-q l = (l.other ≡ opposite (get_or l.keys l.p 0)) × Passed l.keys l.p l.q
-
-abbrev pub decreases-loop-q : goal.decreases-loop-q
-decreases-loop-q l = l.n - l.q

@@ -6,7 +6,7 @@ use borrow.Author.Rules.{rules}
 use Rattle.pair_search.proofs.keys.link_effects.Goals as goal
 
 pub loop-k-init : goal.loop-k-init
-loop-k-init c = (search rules, c.requires.1)
+loop-k-init c = c.requires.1
 
 pub link-requires : goal.link-requires
 link-requires c =
@@ -18,11 +18,9 @@ pub loop-k-preserved : goal.loop-k-preserved
 loop-k-preserved c =
     let p = c.requires.0 in
     let low = p.effect_step _ c.loop-k-test.true in
-    let e = c.effect_step.ensures in (
-      search rules,
-      growing_more _ _ _ _ (omega (arith, c.loop-k-test.true, p.effect_count)) e (omega (arith, e, low, p.step_count))
-          c.loop-k.invariant.1 c.link.ensures,
-    )
+    let e = c.effect_step.ensures in
+    growing_more _ _ _ _ (omega (arith, c.loop-k-test.true, p.effect_count)) e (omega (arith, e, low, p.step_count)) c.loop-k.invariant
+    c.link.ensures
 
 pub returns : goal.returns
-returns c = growing_end _ _ _ _ c.loop-k.invariant.0 c.loop-k-test.false c.loop-k.invariant.1
+returns c = growing_end _ _ _ _ c.loop-k.auto.k-end c.loop-k-test.false c.loop-k.invariant
