@@ -8,7 +8,7 @@ ghost use Rattle.against.specs.Clock.{timed_conflicts, timed_check};
 use job::layout::Job;
 use job::records::TimedFact;
 use job_reader::laid::timed_of;
-use verdict::Verdict;
+use verdict::{Refusal, Verdict};
 
 // Whether two timed facts set one fact both ways at one tick.
 fn both_ways(a: TimedFact, b: TimedFact) -> bool
@@ -24,13 +24,11 @@ fn conflicts(s: &[u8], job: Job, j: u16) -> bool
 {
     let own = timed_of(s, job, j);
     let n = job.count.timed;
-    let mut k = 0;
-    while k < n {
+    for k in 0..n {
         let other = timed_of(s, job, k);
         if both_ways(own, other) {
             return true;
         }
-        k += 1;
     }
     false
 }
@@ -41,12 +39,10 @@ pub fn check_clock(s: &[u8], job: Job) -> Verdict
     ensures { result ≡ timed_check (view job s.now) }
 {
     let n = job.count.timed;
-    let mut j = 0;
-    while j < n {
+    for j in 0..n {
         if conflicts(s, job, j) {
-            return Verdict::TimedFactsConflict(j);
+            return Err(Refusal::TimedFactsConflict(j));
         }
-        j += 1;
     }
-    Verdict::Accepted
+    Ok(())
 }

@@ -4,7 +4,7 @@
 // first. Refusal 17, the clock against itself, is in `clock`.
 #![tactic(auto)]
 
-ghost use Rattle.std.specs.Prelude.{◌≡◌, ◌&&◌, cond, ℕ, min, ◌≤◌, ◌<◌, ltb};
+ghost use Rattle.std.specs.Prelude.{◌≡◌, ◌&&◌, cond, ℕ, ◌≤◌, ◌<◌, ltb};
 ghost use Rattle.job.specs.Model.{view, effect_of};
 ghost use Rattle.job.specs.Laid.{Laid};
 ghost use Rattle.job.specs.WellFormed.{Ranged};
@@ -20,7 +20,7 @@ use job_fields::*;
 use job_reader::laid::effect_of;
 use pair_search::search_pairs;
 use timeline::index::{INDEX_SIZE, KEYS, UNLINKED, before_of, last_of, link};
-use verdict::{Verdict, refuse_if};
+use verdict::{Refusal, Verdict};
 
 // The key of a step with a fact or level.
 fn step_key(step: u16, what: u16) -> usize
@@ -59,6 +59,7 @@ fn used_before(s: &[u8], job: Job, index: &[u16], key: usize, u: u16) -> bool
     ensures { result ≡ used_before (view job s.now) u }
 {
     let mut v = last_of(index, key);
+    // A walk along links has no range to go through.
     while v < u {
         if uses_twice(s, job, u, v) {
             return true;
@@ -75,6 +76,7 @@ fn opposes_any(s: &[u8], job: Job, index: &[u16], key: usize, e: Effect) -> bool
 {
     let n = job.count.conditions;
     let mut c = last_of(index, key);
+    // A walk along links has no range to go through.
     while c < n {
         if opposes_own(s, job, e, c) {
             return true;
@@ -90,23 +92,15 @@ fn lower_if(found: bool, step: u16, best: u16) -> u16
     if found & (step < best) { step } else { best }
 }
 
-fn lower(a: u16, b: u16) -> u16
-    ensures { result ≡ min a b }
-{
-    if a < b { a } else { b }
-}
-
 // Links the conditions by their step and fact.
 fn link_conditions(s: &[u8], job: Job, index: &mut [u16; INDEX_SIZE])
     requires { Growing (condition_key (view job s.now)) 0 index.old × (job.count.conditions ≤ capacity) }
     ensures { Growing (condition_key (view job s.now)) job.count.conditions index.new }
 {
     let n = job.count.conditions;
-    let mut c = 0;
-    while c < n {
+    for c in 0..n {
         let key = step_key(condition_step(s, job, c), condition_fact(s, job, c));
         link(key, c, index);
-        c += 1;
     }
 }
 
@@ -119,13 +113,11 @@ fn effects_against(s: &[u8], job: Job) -> u16
     link_conditions(s, job, &mut index);
     let mut best = job.count.steps;
     let n = job.count.effects;
-    let mut k = 0;
-    while k < n {
+    for k in 0..n {
         let e = effect_of(s, job, k);
         let key = step_key(e.step, e.fact);
         let found = opposes_any(s, job, &index, key, e);
         best = lower_if(found, e.step, best);
-        k += 1;
     }
     best
 }
@@ -141,14 +133,12 @@ fn uses_against(s: &[u8], job: Job) -> u16
     }
     let mut index = [UNLINKED; INDEX_SIZE];
     let mut best = job.count.steps;
-    let mut u = 0;
-    while u < n {
+    for u in 0..n {
         let step = use_step(s, job, u);
         let key = step_key(step, use_level(s, job, u));
         let found = used_before(s, job, &index, key, u);
         best = lower_if(found, step, best);
         link(key, u, &mut index);
-        u += 1;
     }
     best
 }
@@ -161,11 +151,10 @@ pub fn check_steps(s: &[u8], job: Job) -> Verdict
     let pairs = search_pairs(s, job);
     let uses = uses_against(s, job);
     let effects = effects_against(s, job);
-    let step = lower(lower(pairs.step, uses), effects);
+    let step = pairs.step.min(uses).min(effects);
     let n = job.count.steps;
-    refuse_if(
-        Verdict::Accepted,
-        step < n,
-        Verdict::StepAgainstItself(step),
-    )
+    if step < n {
+        return Err(Refusal::StepAgainstItself(step));
+    }
+    Ok(())
 }

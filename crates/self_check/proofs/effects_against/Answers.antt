@@ -15,7 +15,7 @@ link_conditions-requires c = (growing_start _, c.requires.1.condition_count)
 
 pub loop-k-init : goal.loop-k-init
 unfolding opposes_own_step
-loop-k-init c = (search rules, sym (owner_start _ _ _))
+loop-k-init c = sym (owner_start _ _ _)
 
 pub effect_of-e-requires : goal.effect_of-e-requires
 unfolding opposes_own_step
@@ -39,22 +39,12 @@ pub lower_if-best-requires : goal.lower_if-best-requires
 unfolding opposes_own_step
 lower_if-best-requires c = search rules
 
-pub overflow_add-k : goal.overflow_add-k
-unfolding opposes_own_step
-overflow_add-k c = omega (arith, c.loop-k-test.true, c.requires.1.effect_count)
-
-pub loop-k-smaller : goal.loop-k-smaller
-unfolding opposes_own_step
-loop-k-smaller c = search rules
-
 pub loop-k-preserved : goal.loop-k-preserved
 unfolding opposes_own_step
 loop-k-preserved c =
-    let r = c.effect_of-e.ensures in (
-      omega (arith, c.loop-k-test.true),
-      owner_more _ _ _ _ c.loop-k.invariant.1 (c.opposes_any-found.ensures _ r) (ap (λ (x : Effect). x.step) r) c.lower_if-best.ensures,
-    )
+    let r = c.effect_of-e.ensures in
+    owner_more _ _ _ _ c.loop-k.invariant (c.opposes_any-found.ensures _ r) (ap (λ (x : Effect). x.step) r) c.lower_if-best.ensures
 
 pub returns : goal.returns
 unfolding opposes_own_step
-returns c = let i = c.loop-k.invariant in owner_end _ _ _ _ _ i.1 i.0 c.loop-k-test.false
+returns c = owner_end _ _ _ _ _ c.loop-k.invariant c.loop-k.auto.k-end c.loop-k-test.false

@@ -7,7 +7,4 @@ use Rattle.self_check.proofs.effects_against.Given as goal
 
 abbrev pub invariant-loop-k : goal.invariant-loop-k
 invariant-loop-k l =
-    (l.k ≤ l.n) × (l.best ≡ lowest_owner l.job.count.steps l.k (view l.job l.s).effect_step (opposes_any (view l.job l.s)))
-
-abbrev pub decreases-loop-k : goal.decreases-loop-k
-decreases-loop-k l = l.n - l.k
+    (l.best ≡ lowest_owner l.job.count.steps l.k (view l.job l.s).effect_step (opposes_any (view l.job l.s)))

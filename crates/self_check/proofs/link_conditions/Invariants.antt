@@ -5,7 +5,4 @@ use Rattle.timeline.specs.Indexed.{Growing}
 use Rattle.self_check.proofs.link_conditions.Given as goal
 
 abbrev pub invariant-loop-c : goal.invariant-loop-c
-invariant-loop-c l = (l.c ≤ l.n) × Growing (condition_key (view l.job l.s)) l.c l.index
-
-abbrev pub decreases-loop-c : goal.decreases-loop-c
-decreases-loop-c l = l.n - l.c
+invariant-loop-c l = Growing (condition_key (view l.job l.s)) l.c l.index

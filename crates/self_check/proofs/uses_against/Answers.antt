@@ -15,7 +15,7 @@ returns-then-n-eq0 c = owner_end _ _ _ _ 0 (sym (owner_start _ _ _)) (omega arit
 
 pub loop-u-init : goal.loop-u-init
 unfolding uses_twice_step
-loop-u-init c = (search rules, growing_start _, sym (owner_start _ _ _))
+loop-u-init c = (growing_start _, sym (owner_start _ _ _))
 
 pub use_step-step-requires : goal.use_step-step-requires
 unfolding uses_twice_step
@@ -31,13 +31,13 @@ step_key-key-requires c = search rules
 
 pub slice_bounds-used_before-end : goal.slice_bounds-used_before-end
 unfolding uses_twice_step
-slice_bounds-used_before-end c = sym c.loop-u.invariant.1.size
+slice_bounds-used_before-end c = sym c.loop-u.invariant.0.size
 
 pub used_before-found-requires : goal.used_before-found-requires
 unfolding uses_twice_step
 used_before-found-requires c =
     let k = c.step_key-key.ensures in record {
-      growing = c.loop-u.invariant.1;
+      growing = c.loop-u.invariant.0;
       few = omega (arith, c.loop-u-test.true, c.requires.use_count);
       same = k.0 ∙ ap₂ step_key c.use_step-step.ensures c.use_level.ensures;
       low = k.1;
@@ -51,26 +51,17 @@ pub link-requires : goal.link-requires
 unfolding uses_twice_step
 link-requires c = (c.step_key-key.ensures.1, omega (arith, c.loop-u-test.true, c.requires.use_count))
 
-pub overflow_add-u : goal.overflow_add-u
-unfolding uses_twice_step
-overflow_add-u c = search rules
-
-pub loop-u-smaller : goal.loop-u-smaller
-unfolding uses_twice_step
-loop-u-smaller c = search rules
-
 pub loop-u-preserved : goal.loop-u-preserved
 unfolding uses_twice_step
 loop-u-preserved c =
     let k = c.step_key-key.ensures in (
-      search rules,
       growing_more _ _ _ _ (omega (arith, c.loop-u-test.true, c.requires.use_count))
           (k.0 ∙ ap₂ step_key c.use_step-step.ensures
-          c.use_level.ensures) k.1 c.loop-u.invariant.1 c.link.ensures,
-      owner_more _ _ _ _ c.loop-u.invariant.2 c.used_before-found.ensures
+          c.use_level.ensures) k.1 c.loop-u.invariant.0 c.link.ensures,
+      owner_more _ _ _ _ c.loop-u.invariant.1 c.used_before-found.ensures
           c.use_step-step.ensures c.lower_if-best.ensures,
     )
 
 pub returns : goal.returns
 unfolding uses_twice_step
-returns c = owner_end _ _ _ _ _ c.loop-u.invariant.2 c.loop-u.invariant.0 c.loop-u-test.false
+returns c = owner_end _ _ _ _ _ c.loop-u.invariant.1 c.loop-u.auto.u-end c.loop-u-test.false

@@ -9,7 +9,4 @@ use Rattle.self_check.proofs.uses_against.Given as goal
 
 abbrev pub invariant-loop-u : goal.invariant-loop-u
 invariant-loop-u l =
-    (l.u ≤ l.n) × Growing (use_key (view l.job l.s)) l.u l.index × (l.best ≡ lowest_owner l.job.count.steps l.u (view l.job l.s).use_step (used_before (view l.job l.s)))
-
-abbrev pub decreases-loop-u : goal.decreases-loop-u
-decreases-loop-u l = l.n - l.u
+    Growing (use_key (view l.job l.s)) l.u l.index × (l.best ≡ lowest_owner l.job.count.steps l.u (view l.job l.s).use_step (used_before (view l.job l.s)))

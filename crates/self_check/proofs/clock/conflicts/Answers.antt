@@ -30,7 +30,7 @@ timed_of-own-requires c = search rules
 
 pub loop-k-init : goal.loop-k-init
 unfolding timed_conflicts
-loop-k-init c = (search rules, lowest_start _)
+loop-k-init c = lowest_start _
 
 pub timed_of-other-requires : goal.timed_of-other-requires
 unfolding timed_conflicts
@@ -47,23 +47,13 @@ returns-then-both_ways c =
     (of_records _ _ _ c.timed_of-own.ensures c.timed_of-other.ensures c.both_ways.ensures)
     c.if-both_ways.true
 
-pub overflow_add-k : goal.overflow_add-k
-unfolding timed_conflicts
-overflow_add-k c = record { fits = omega (arith, c.loop-k-test.true, c.requires.1.timed_count) }
-
-pub loop-k-smaller : goal.loop-k-smaller
-unfolding timed_conflicts
-loop-k-smaller c = search rules
-
 pub loop-k-preserved : goal.loop-k-preserved
 unfolding timed_conflicts
-loop-k-preserved c = (
-  search rules,
-  lowest_more _ _ c.loop-k.invariant.1
-      (of_records _ _ _ c.timed_of-own.ensures c.timed_of-other.ensures c.both_ways.ensures)
-      c.if-both_ways.false,
-)
+loop-k-preserved c =
+    lowest_more _ _ c.loop-k.invariant
+    (of_records _ _ _ c.timed_of-own.ensures c.timed_of-other.ensures c.both_ways.ensures)
+    c.if-both_ways.false
 
 pub returns : goal.returns
 unfolding timed_conflicts
-returns c = none_found _ _ _ c.loop-k.invariant.1 c.loop-k-test.false
+returns c = none_found _ _ _ c.loop-k.invariant c.loop-k-test.false

@@ -6,7 +6,4 @@ use Rattle.against.specs.Clock.{timed_both_ways}
 use Rattle.self_check.proofs.clock.conflicts.Given as goal
 
 abbrev pub invariant-loop-k : goal.invariant-loop-k
-invariant-loop-k l = (l.k ≤ l.n) × (lowest l.k (timed_both_ways (view l.job l.s) l.j) ≡ l.k)
-
-abbrev pub decreases-loop-k : goal.decreases-loop-k
-decreases-loop-k l = l.n - l.k
+invariant-loop-k l = (lowest l.k (timed_both_ways (view l.job l.s) l.j) ≡ l.k)
