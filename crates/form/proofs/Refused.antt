@@ -12,6 +12,7 @@ use lib.ListN.{length, get_or}
 use Rattle.laws.specs.Search.{any, all, lowest_owner}
 use Rattle.laws.proofs.Search.{contrary, by_order, and_both, or_both, or_out, any_intro, any_elim, all_elim, lowest_facts}
 use Rattle.little_endian.specs.Bytes.{u16_at}
+use Rattle.std.specs.Prelude.{Err}
 use Rattle.verdict.specs.declared.Refusal.TheVariants.{FileTooShort, UnknownEdition, MarkOutOfRange, CountTooHigh, LayoutDisagrees}
 use Rattle.verdict.specs.declared.Refusal.TheVariants.{RecordOutOfRange, StepAgainstItself, TimedFactsConflict}
 use Rattle.verdict.specs.Verdict.{Verdict, Accepted, number, place, ◌then◌, refuse_if, refuse_lowest}
@@ -133,7 +134,7 @@ module _ (m : Model) where
       ⊎_elim
       (λ (a : (table_check m t ≡ Accepted) × ((k : ℕ) → k < count_in m t → record_broken m t k ≡ false)). absurd (n (ap number a.0)))
       (λ (a : (k : ℕ) × (k < count_in m t) × (record_broken m t k ≡ true) × ((j : ℕ) → j < k → record_broken m t j ≡ false)
-      × (table_check m t ≡ RecordOutOfRange k)).
+      × (table_check m t ≡ Err (RecordOutOfRange k))).
       subst (FirstOutOfRange m t) (sym (ap place a.4))
       (record {
         counted = a.1;
@@ -401,7 +402,7 @@ module _ (m : Model) where
       ⊎_elim
       (λ (a : (timed_check m ≡ Accepted) × ((k : ℕ) → k < m.timed → timed_conflicts m k ≡ false)). absurd (n (ap number a.0)))
       (λ (a : (k : ℕ) × (k < m.timed) × (timed_conflicts m k ≡ true) × ((j : ℕ) → j < k → timed_conflicts m j ≡ false)
-      × (timed_check m ≡ TimedFactsConflict k)).
+      × (timed_check m ≡ Err (TimedFactsConflict k))).
       subst (FirstOfTwo m) (sym (ap place a.4)) (first_of_two a.0 a.1 a.2 a.3))
       (lowest_outcome m.timed (timed_conflicts m) TimedFactsConflict)
 
@@ -542,19 +543,19 @@ module _ (s : List ℕ) {r : Verdict} (e : r ≡ form_check s) where
       let m = model_of s in
       record {
         short = too_short;
-        long = λ h. ltb-false _ _ (refuse_zero _ _ (λ z. let y : ◌≡◌ {A = ℕ} 1 0 = z in omega arith) (lower_pass 0 1 refl h));
-        long_enough = λ h. ltb-false _ _ (refuse_zero _ _ (λ z. let y : ◌≡◌ {A = ℕ} 1 0 = z in omega arith) (lower_pass 2 2 refl h));
+        long = λ h. ltb-false _ _ (refuse_zero _ _ (lower_pass 0 1 refl h));
+        long_enough = λ h. ltb-false _ _ (refuse_zero _ _ (lower_pass 2 2 refl h));
         other_edition = λ q a b.
             contrary (ap₂ ◌&&◌ (le-leb _ _ a) (le-leb _ _ b)) (not-true _ (refuse_says _ _ (comes_from 1 1 refl q).1));
         known_edition = λ h.
-            let b = and_both _ _ (not-false _ (refuse_zero _ _ (λ z. let y : ◌≡◌ {A = ℕ} 2 0 = z in omega arith) (lower_pass 1 2 refl h))) in
+            let b = and_both _ _ (not-false _ (refuse_zero _ _ (lower_pass 1 2 refl h))) in
             (leb-true _ _ b.0, leb-true _ _ b.1);
         mark_out = λ q. mark_out_lem s (refuse_says _ _ (comes_from 3 2 refl q).1);
-        marks_in = λ h. marks_in_lem s (refuse_zero _ _ (λ z. let y : ◌≡◌ {A = ℕ} 3 0 = z in omega arith) (lower_pass 3 3 refl h));
+        marks_in = λ h. marks_in_lem s (refuse_zero _ _ (lower_pass 3 3 refl h));
         count_out = λ q. count_out_lem (counts_of s) (refuse_says _ _ (comes_from 4 3 refl q).1);
-        counts_in = λ h. counts (counts_of s) (refuse_zero _ _ (λ z. let y : ◌≡◌ {A = ℕ} 4 0 = z in omega arith) (lower_pass 4 4 refl h));
+        counts_in = λ h. counts (counts_of s) (refuse_zero _ _ (lower_pass 4 4 refl h));
         layout_out = λ q. not-true _ (refuse_says _ _ (comes_from 5 4 refl q).1);
-        layout_in = λ h. not-false _ (refuse_zero _ _ (λ z. let y : ◌≡◌ {A = ℕ} 5 0 = z in omega arith) (lower_pass 5 5 refl h));
+        layout_in = λ h. not-false _ (refuse_zero _ _ (lower_pass 5 5 refl h));
         record_out = λ q.
             let g = comes_from 6 5 refl q in
             let o = record_out_lem m g.1 in

@@ -30,7 +30,7 @@ fourth a b c d e x y z = not-false d (sym (ap (λ t. t && b && c && not d) x ∙
 -- refusal 7 passes: in each of the three parts no step is found
 pub steps_zero : (m : Model) → number (step_check m) ≡ 0 → m.steps ≤ against_step m
 unfolding step_check
-steps_zero m e = ltb-false _ _ (refuse_zero _ _ (λ z. let y : ◌≡◌ {A = ℕ} 7 0 = z in omega arith) e)
+steps_zero m e = ltb-false _ _ (refuse_zero _ _ e)
 
 -- refusal 17 passes: no two timed facts set a fact both ways at one tick
 timed_one_way_lem :
@@ -39,7 +39,7 @@ timed_one_way_lem :
     → m.timed_value j ≡ m.timed_value k
 unfolding timed_check timed_conflicts timed_both_ways
 timed_one_way_lem m e j k h g f t =
-    let no = lowest_zero m.timed (timed_conflicts m) TimedFactsConflict (λ i z. let y : ◌≡◌ {A = ℕ} 17 0 = z in omega arith) e j h in
+    let no = lowest_zero m.timed (timed_conflicts m) TimedFactsConflict e j h in
     eqb-true _ _ (fourth true _ _ _ (any_false (timed_both_ways m j) m.timed no k g) refl (eq-eqb _ _ f) (eq-eqb _ _ t))
 
 module _ (m : Model) (ok : (t : Table) (k : ℕ) → k < count_in m t → record_ok m t k ≡ true) (no : m.steps ≤ against_step m) where

@@ -8,28 +8,20 @@ ghost use Rattle.form.specs.Refused.{FormRefusal};
 ghost use Rattle.verdict.specs.Verdict.{number as number_of};
 ghost use Rattle.job.specs.WellFormed.{WellFormed};
 
-use record_check::{Form, read_records};
+use job::layout::Job;
+use record_check::read_records;
 use self_check::check_steps;
 use self_check::clock::check_clock;
-use verdict::{Verdict, number};
+use verdict::{Refusal, Verdict};
 
-// Reads the header, once for all, and checks the form.
-pub fn read_form(s: &[u8]) -> Form
+// Reads the header, once for all, and checks the form. Who goes on with the file has what was read of the header.
+pub fn read_form(s: &[u8]) -> Result<Job, Refusal>
     ensures { FormPromise s.now result }
 {
-    let form = read_records(s);
-    let records = form.verdict;
-    let is_refused = number(records) != 0;
-    if is_refused {
-        return form;
-    }
-    let job = form.job;
-    let verdict = check_steps(s, job);
-    if number(verdict) != 0 {
-        return Form { verdict, job };
-    }
-    let verdict = check_clock(s, job);
-    Form { verdict, job }
+    let job = read_records(s)?;
+    check_steps(s, job)?;
+    check_clock(s, job)?;
+    Ok(job)
 }
 
 // Whether a file is well formed: accepted, or the first of refusals 1 to 7 and 17 that fits. Of an accepted file every record is in
@@ -39,6 +31,6 @@ pub fn check_form(s: &[u8]) -> Verdict
     ensures well_formed { number_of result ≡ 0 → WellFormed (model_of s.now) }
     ensures form_refusal { FormRefusal s.now result }
 {
-    let form = read_form(s);
-    form.verdict
+    read_form(s)?;
+    Ok(())
 }

@@ -86,7 +86,7 @@ module _ (s : List ℕ) (long : most_job < length s) where
   header_long =
       elim (ℕ_discrete (number (front s)) 0) [
         | yes z ↦
-            let e = refuse_zero (count_too_high (job_of s).count) CountTooHigh (λ y. let q : ◌≡◌ {A = ℕ} 4 0 = y in omega arith) (then_zero _ _ z).1 in
+            let e = refuse_zero (count_too_high (job_of s).count) CountTooHigh (then_zero _ _ z).1 in
             ap (λ (b : Bool). front s then refuse_if (not b) LayoutDisagrees) (disagrees e)
         | no n ↦ sym (then_refused _ _ n) ∙ then_refused _ _ n
       ]

@@ -185,7 +185,7 @@ schedule_promise s starts {r} e =
       answer = e;
       one_each = λ z.
           let b = then_zero _ _ (then_zero _ _ (then_zero _ _ (sym (ap number e) ∙ z)).1).0 in
-          eqb-true _ _ (not-false _ (refuse_zero _ _ (λ y. let q : ◌≡◌ {A = ℕ} 8 0 = y in omega arith) b.0));
+          eqb-true _ _ (not-false _ (refuse_zero _ _ b.0));
       sound = λ z.
           let b = then_zero _ _ (sym (ap number e) ∙ z) in
           record { form = b.0; well_formed = well_formed_lem s b.0; valid = passed_valid m x (c b.0) b.1 };

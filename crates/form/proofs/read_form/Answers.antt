@@ -2,10 +2,10 @@
 use Prim.Native.Nat.{ℕ}
 use mathlib.Core.Path.{◌≡◌, sym, ap, ◌∙◌}
 use mathlib.Core.List.{List}
-use Rattle.verdict.specs.Verdict.{number}
-use Rattle.verdict.proofs.Chain.{stands, decides}
-use Rattle.job.specs.Layout.{job_of}
-use Rattle.record_check.specs.declared.Form.{Form}
+use Rattle.std.specs.Prelude.{Err}
+use Rattle.verdict.specs.declared.Refusal.{Refusal}
+use Rattle.verdict.specs.Verdict.{number, ◌then◌}
+use Rattle.verdict.proofs.Chain.{handed}
 use Rattle.record_check.proofs.Ranged.{read_ranged}
 use Rattle.record_check.proofs.Laid.{read_laid}
 use Rattle.form.specs.Refusals.{form_check, FormPromise}
@@ -13,39 +13,34 @@ use Rattle.form.proofs.WellFormed.{well_formed_lem}
 use Rattle.form.proofs.Decides.{read_refused, read_passed}
 use Rattle.form.proofs.read_form.Goals as goal
 
--- what is well formed follows from the verdict
-promise : (s : List ℕ) {r : Form} → r.verdict ≡ form_check s → r.job ≡ job_of s → FormPromise s r
-promise s v j = record { verdict = v; job = j; well_formed = λ z. well_formed_lem s (sym (ap number v) ∙ z) }
+-- what a refusal promises
+refused : (s : List ℕ) {x : Refusal} → Err x ≡ form_check s → FormPromise s (Err x)
+refused s v = record { verdict = v; job = tt; well_formed = λ z. well_formed_lem s (sym (ap number v) ∙ z) }
 
-pub returns-then-is_refused : goal.returns-then-is_refused
-returns-then-is_refused c =
-    let p = c.read_records-form.ensures in
-    promise _ (read_refused p (λ z. c.if-is_refused.true (c.number-is_refused.ensures ∙ z))) p.job
+pub returns-in_err-job : goal.returns-in_err-job
+returns-in_err-job c = rw (handed _ c.from_residual.ensures.1) (refused _ (read_refused c.in_err-job.ensures))
 
-pub check_steps-verdict-requires : goal.check_steps-verdict-requires
-check_steps-verdict-requires c =
-    let p = c.read_records-form.ensures in
-    let z = sym c.number-is_refused.ensures ∙ c.if-is_refused.false in
-    (read_laid p z, read_ranged p z)
+pub check_steps-requires : goal.check_steps-requires
+check_steps-requires c = let p = c.in_ok-job.ensures in (read_laid p, read_ranged p)
 
-pub returns-then-number-ne0 : goal.returns-then-number-ne0
-returns-then-number-ne0 c =
-    let p = c.read_records-form.ensures in
-    promise _
-    (stands _ c.check_steps-verdict.ensures c.number.ensures c.if-number-ne0.true
-    ∙ read_passed p (sym c.number-is_refused.ensures ∙ c.if-is_refused.false))
-    p.job
+pub returns-in_err-check_steps : goal.returns-in_err-check_steps
+unfolding ◌then◌
+returns-in_err-check_steps c =
+    rw (handed _ c.from_residual-in_err-check_steps.ensures.1)
+    (refused _ (rw (sym c.in_err-check_steps.ensures) at (read_passed c.in_ok-job.ensures)))
 
-pub check_clock-verdict-requires : goal.check_clock-verdict-requires
-check_clock-verdict-requires c =
-    let p = c.read_records-form.ensures in
-    let z = sym c.number-is_refused.ensures ∙ c.if-is_refused.false in
-    (read_laid p z, read_ranged p z)
+pub check_clock-requires : goal.check_clock-requires
+check_clock-requires c = let p = c.in_ok-job.ensures in (read_laid p, read_ranged p)
+
+pub returns-in_err-check_clock : goal.returns-in_err-check_clock
+unfolding ◌then◌
+returns-in_err-check_clock c =
+    rw (handed _ c.from_residual-in_err-check_clock.ensures.1)
+    (refused _ (rw (sym c.in_ok-check_steps.ensures, sym c.in_err-check_clock.ensures) at (read_passed c.in_ok-job.ensures)))
 
 pub returns : goal.returns
+unfolding ◌then◌
 returns c =
-    let p = c.read_records-form.ensures in
-    promise _
-    (decides c.check_steps-verdict.ensures c.number.ensures c.if-number-ne0.false c.check_clock-verdict.ensures
-    ∙ read_passed p (sym c.number-is_refused.ensures ∙ c.if-is_refused.false))
-    p.job
+    let p = c.in_ok-job.ensures in
+    let q = rw (sym c.in_ok-check_steps.ensures, sym c.in_ok-check_clock.ensures) at (read_passed p) in
+    record { verdict = q; job = p.job; well_formed = λ z. well_formed_lem _ (sym (ap number q)) }
