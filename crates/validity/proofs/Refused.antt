@@ -8,7 +8,8 @@ use native.Mathlib.Decide.{ℕ_discrete, dec_le}
 use native.Mathlib.Omega.{arith}
 use lib.Dec.{ltb, eqb}
 use Rattle.laws.specs.Search.{lowest}
-use Rattle.verdict.specs.Verdict.{Verdict, Accepted, number, place, ◌then◌, refuse_lowest}
+use Rattle.std.specs.Prelude.{Err}
+use Rattle.verdict.specs.Verdict.{Verdict, Accepted, number, place, refusal_number, refusal_place, ◌then◌, refuse_lowest}
 use Rattle.verdict.proofs.Chain.{then_refused, then_accepted, then_either, refuse_either, lowest_outcome}
 use Rattle.job.specs.Model.{Model}
 use Rattle.job.specs.Clocked.{ClockedForm}
@@ -20,7 +21,7 @@ use Rattle.validity.specs.Refused.{Kept, rule_number, turn, FirstViolation}
 use Rattle.validity.proofs.Kept.{unbroken_keeps, broken_violates}
 
 -- a rule refuses with its number at the record's place
-numbered : (rule : Rule) (k : ℕ) → number (refusal_of rule k) ≡ rule_number rule
+numbered : (rule : Rule) (k : ℕ) → refusal_number (refusal_of rule k) ≡ rule_number rule
 numbered FixedSteps k = refl
 numbered Effects k = refl
 numbered Conditions k = refl
@@ -28,7 +29,7 @@ numbered Levels k = refl
 numbered Needs k = refl
 numbered Goals k = refl
 
-placed : (rule : Rule) (k : ℕ) → place (refusal_of rule k) ≡ k
+placed : (rule : Rule) (k : ℕ) → refusal_place (refusal_of rule k) ≡ k
 placed FixedSteps k = refl
 placed Effects k = refl
 placed Conditions k = refl
@@ -141,13 +142,13 @@ module _ (m : Model) (x : ℕ → ℕ) where
         named = λ other e. absurd (omega (arith, (from_nine other).0));
       }))
       (λ (a : (k : ℕ) × (k < count_under m rule) × (broken m x rule k ≡ true) × ((j : ℕ) → j < k → broken m x rule j ≡ false)
-      × (rule_check m x rule ≡ refusal_of rule k)).
+      × (rule_check m x rule ≡ Err (refusal_of rule k))).
       subst (CheckedTo m x (suc n)) (sym a.4)
       (record {
         only = inr (rule, numbered rule a.0);
         kept = λ z. absurd (omega (arith, numbered rule a.0, (from_nine rule).0));
         named = λ other e.
-            subst (λ (r : Rule). FirstViolation m x r (place (refusal_of rule a.0))) (same_rule rule other (sym (numbered rule a.0) ∙ e))
+            subst (λ (r : Rule). FirstViolation m x r (refusal_place (refusal_of rule a.0))) (same_rule rule other (sym (numbered rule a.0) ∙ e))
             (subst (FirstViolation m x rule) (sym (placed rule a.0))
             (record {
               counted = a.1;

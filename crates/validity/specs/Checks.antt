@@ -1,6 +1,7 @@
 -- Refusals 8 to 13 and 21, in checking order: 21 comes after 12. Rules that speak of every tick are tested at the ticks where something happens.
 use Rattle.std.specs.Prelude.{ℕ, suc, Bool, ◌&&◌, ◌||◌, not, List, length, ltb, leb, eqb}
 use Rattle.laws.specs.Search.{any}
+use Rattle.verdict.specs.declared.Refusal.{Refusal}
 use Rattle.verdict.specs.declared.Refusal.TheVariants.{StartsMiscounted, FixedStepMoved, EffectsConflict, ConditionFails, LevelOutOfBounds}
 use Rattle.verdict.specs.declared.Refusal.TheVariants.{GoalFails, NeedUnmet}
 use Rattle.verdict.specs.Verdict.{Verdict, ◌then◌, refuse_if, refuse_lowest}
@@ -82,7 +83,7 @@ count_under m Needs = m.needs
 count_under m Goals = m.goals
 
 -- what a rule refuses
-abbrev pub refusal_of : Rule → ℕ → Verdict
+abbrev pub refusal_of : Rule → ℕ → Refusal
 refusal_of FixedSteps k = FixedStepMoved k
 refusal_of Effects k = EffectsConflict k
 refusal_of Conditions k = ConditionFails k

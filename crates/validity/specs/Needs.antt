@@ -1,6 +1,6 @@
 -- Between crates: cases of needs, one a sentence, each a job with the verdict on its written starts. `Valid` and the check speak of what
 -- counts against a need by the same definitions, so only these pin what that is.
-use Rattle.std.specs.Prelude.{ℕ, ◌+◌, ◌-◌, ◌≡◌, cond, List, [], ◌∷◌, length, get_or, eqb}
+use Rattle.std.specs.Prelude.{ℕ, ◌+◌, ◌-◌, ◌≡◌, cond, List, [], ◌∷◌, length, get_or, eqb, Err}
 use Rattle.little_endian.specs.Bytes.{sign_bias}
 use Rattle.verdict.specs.Verdict.{Verdict, Accepted}
 use Rattle.verdict.specs.declared.Refusal.TheVariants.{LevelOutOfBounds, GoalFails, NeedUnmet}
@@ -95,27 +95,27 @@ unfoldable pub need_cases : List NeedCase
 need_cases =
     -- "reaches its least": it is as much, and not one less
     need_case (calibrated [] 2) Accepted
-    ∷ need_case (calibrated [] 3) (NeedUnmet 0)
+    ∷ need_case (calibrated [] 3) (Err (NeedUnmet 0))
     -- "the level from earlier ticks": what any step put there or took before counts, the own one too
     ∷ need_case (calibrated (usage 1 0 1 (above 1) ∷ []) 3) Accepted
     ∷ need_case (calibrated (usage 0 0 3 (above 1) ∷ []) 3) Accepted
-    ∷ need_case (calibrated (usage 1 0 1 (below 1) ∷ []) 2) (NeedUnmet 0)
-    ∷ need_case (calibrated (usage 0 0 3 (below 1) ∷ []) 2) (NeedUnmet 0)
+    ∷ need_case (calibrated (usage 1 0 1 (below 1) ∷ []) 2) (Err (NeedUnmet 0))
+    ∷ need_case (calibrated (usage 0 0 3 (below 1) ∷ []) 2) (Err (NeedUnmet 0))
     -- "plus all other steps' falls at its tick": another step's, and not the own
-    ∷ need_case (calibrated (usage 1 0 2 (below 1) ∷ []) 2) (NeedUnmet 0)
+    ∷ need_case (calibrated (usage 1 0 2 (below 1) ∷ []) 2) (Err (NeedUnmet 0))
     ∷ need_case (calibrated (usage 0 0 4 (below 1) ∷ []) 2) Accepted
     -- rises at its tick come too late, another step's and the own
-    ∷ need_case (calibrated (usage 1 0 2 (above 1) ∷ []) 3) (NeedUnmet 0)
-    ∷ need_case (calibrated (usage 0 0 4 (above 1) ∷ []) 3) (NeedUnmet 0)
+    ∷ need_case (calibrated (usage 1 0 2 (above 1) ∷ []) 3) (Err (NeedUnmet 0))
+    ∷ need_case (calibrated (usage 0 0 4 (above 1) ∷ []) 3) (Err (NeedUnmet 0))
     -- and so do falls after it
     ∷ need_case (calibrated (usage 1 0 3 (below 1) ∷ []) 2) Accepted
     -- what is taken from the other shelf, or put there, does not count
     ∷ need_case (calibrated (usage 1 1 1 (below 1) ∷ []) 2) Accepted
-    ∷ need_case (calibrated (usage 1 1 1 (above 1) ∷ []) 3) (NeedUnmet 0)
+    ∷ need_case (calibrated (usage 1 1 1 (above 1) ∷ []) 3) (Err (NeedUnmet 0))
     -- "place: need", the lowest unmet one
-    ∷ need_case (shelves [] (calibration 2 ∷ calibration 3 ∷ calibration 3 ∷ []) 0) (NeedUnmet 1)
+    ∷ need_case (shelves [] (calibration 2 ∷ calibration 3 ∷ calibration 3 ∷ []) 0) (Err (NeedUnmet 1))
     -- "after 12": a level out of its bounds is named first, and a goal that fails later
-    ∷ need_case (calibrated (usage 1 0 1 (below 3) ∷ []) 2) (LevelOutOfBounds 0)
-    ∷ need_case (shelves [] (calibration 3 ∷ []) 1) (NeedUnmet 0)
-    ∷ need_case (shelves [] (calibration 2 ∷ []) 1) (GoalFails 0)
+    ∷ need_case (calibrated (usage 1 0 1 (below 3) ∷ []) 2) (Err (LevelOutOfBounds 0))
+    ∷ need_case (shelves [] (calibration 3 ∷ []) 1) (Err (NeedUnmet 0))
+    ∷ need_case (shelves [] (calibration 2 ∷ []) 1) (Err (GoalFails 0))
     ∷ []
