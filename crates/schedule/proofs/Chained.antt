@@ -20,7 +20,7 @@ use Rattle.schedule.specs.Timed.{settled_check}
 
 -- a refusal by the lowest that was found
 pub by_lowest :
-    (n : ℕ) (p : ℕ → Bool) (refusal : ℕ → Verdict) {k : ℕ} → k ≡ lowest n p → refuse_if (ltb k n) (refusal k) ≡ refuse_lowest n p refusal
+    (n : ℕ) (p : ℕ → Bool) (refusal : ℕ → Refusal) {k : ℕ} → k ≡ lowest n p → refuse_if (ltb k n) (refusal k) ≡ refuse_lowest n p refusal
 unfolding refuse_lowest
 by_lowest n p refusal e = ap (λ j. refuse_if (ltb j n) (refusal j)) e
 
