@@ -23,6 +23,7 @@ use Rattle.job.specs.Layout.{header_width, counts_of, table_at, positions_of, jo
 use Rattle.header_check.specs.Header.{edition_known, marks_wrong, layout_agrees, header_check}
 use Rattle.job.specs.Model.{Model, model_of}
 use Rattle.job.specs.Clocked.{clocked}
+use Rattle.std.specs.Prelude.{Err}
 use Rattle.verdict.specs.Verdict.{Accepted, ◌then◌, refuse_if, refuse_lowest}
 use Rattle.ranges.specs.Ranges.{fact_ok, level_ok, step_ok, condition_ok, effect_ok, use_ok, goal_ok, timed_ok}
 use Rattle.record_check.specs.Records.{table_check, record_check}
@@ -182,7 +183,7 @@ module _ (c : Contents) {rounds : ℕ} {windows : List Window} {orders : List Or
 
 -- what is computed of a job
 AnswersBy : List ℕ → Expected → Type 0
-AnswersBy s (refused v) = job_check s ≡ v
+AnswersBy s (refused r) = job_check s ≡ Err r
 AnswersBy s (accepted rounds windows orders links) =
     let m = model_of s in
     let c = file_of m (planned m) in

@@ -1,9 +1,10 @@
 -- Between crates: the starred cases of "A small job, and edges", and cases of timed facts: tables of jobs, each with the verdict of the
 -- job check or what is filed.
-use Rattle.std.specs.Prelude.{ℕ, ◌+◌, ◌*◌, ◌-◌, ◌≡◌, length, get_or}
+use Rattle.std.specs.Prelude.{ℕ, ◌+◌, ◌*◌, ◌-◌, ◌≡◌, length, get_or, Err}
 use mathlib.Core.List.{List, [], ◌∷◌, ◌++◌, foldr}
 use Rattle.little_endian.specs.Bytes.{u16_bytes, u32_bytes}
-use Rattle.verdict.specs.Verdict.{Verdict, Accepted}
+use Rattle.verdict.specs.declared.Refusal.{Refusal}
+use Rattle.verdict.specs.Verdict.{Accepted}
 use Rattle.verdict.specs.declared.Refusal.TheVariants.{RecordOutOfRange, StepAgainstItself, EffectsConflict, ConditionFails, LevelOutOfBounds}
 use Rattle.verdict.specs.declared.Refusal.TheVariants.{GoalFails, TimedFactsConflict}
 use Rattle.job.specs.Model.{model_of}
@@ -131,12 +132,12 @@ contents_with rounds windows orders links =
 
 -- what the paper expects of a job: a refusal; or rounds, windows, orders and links
 pub data Expected : Type 0 where
-  refused : Verdict → Expected
+  refused : Refusal → Expected
   accepted : ℕ → List Window → List Order → List ℕ → Expected
 
 -- the job check refuses it so; or it accepts, and what is filed by the planned starts says this
 abbrev pub Answers : List ℕ → Expected → Type 0
-Answers s (refused v) = job_check s ≡ v
+Answers s (refused r) = job_check s ≡ Err r
 Answers s (accepted rounds windows orders links) =
     (job_check s ≡ Accepted) × Agree (file_of (model_of s) (planned (model_of s))) (contents_with rounds windows orders links)
 

@@ -36,6 +36,10 @@ refusal_nonzero (GoalFails k) e = let z : ◌≡◌ {A = ℕ} 13 0 = e in omega 
 refusal_nonzero (TimedFactsConflict k) e = let z : ◌≡◌ {A = ℕ} 17 0 = e in omega arith
 refusal_nonzero (NeedUnmet k) e = let z : ◌≡◌ {A = ℕ} 21 0 = e in omega arith
 
+pub number_zero : (v : Verdict) → number v ≡ 0 → v ≡ Accepted
+number_zero (Ok _) e = refl
+number_zero (Err r) e = absurd (refusal_nonzero r e)
+
 pub then_refused : (v w : Verdict) → (number v ≡ 0 → ⊥) → v ≡ (v then w)
 unfolding ◌then◌
 then_refused (Ok _) w h = absurd (h refl)
