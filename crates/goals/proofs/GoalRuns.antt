@@ -9,7 +9,7 @@ use native.Mathlib.Omega.{arith}
 use borrow.Author.Tests.{eqb-true, eqb-false, not-true, eq-eqb, ne_eqb, ltb-true, lt-ltb, le-ltb}
 use lib.Dec.{ltb, eqb}
 use lib.ListN.{length, get_or}
-use Rattle.laws.specs.Search.{any, lowest}
+use Rattle.laws.specs.Search.{any}
 use Rattle.laws.proofs.Search.{either, contrary, and_both, any_none}
 use Rattle.job.specs.Model.{Model, no_deadline}
 use Rattle.job.specs.Clocked.{ClockedForm}
@@ -319,9 +319,3 @@ module _ {m : Model} {points begins : List ℕ} (given : GoalsKnown m points beg
       → r ≡ goal_fails m x g
   goal_by_run some reached due so x known one =
       by_run m x known one given.form g h read.from read.to read.wanted some reached read.kept due so
-
--- a search through the goals
-pub record GoalsTried (m : Model) (points begins : List ℕ) (g : ℕ) : Type 0 where
-  pub known : GoalsKnown m points begins
-  pub within : g ≤ m.goals
-  pub none : (x : ℕ → ℕ) → PointsKnown m x points begins → OneValue m x → lowest g (goal_fails m x) ≡ g

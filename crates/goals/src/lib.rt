@@ -2,7 +2,7 @@
 #![tactic(auto)]
 
 ghost use Rattle.std.specs.Prelude.{◌≡◌, ℕ, ◌≤◌, ◌<◌, length};
-ghost use Rattle.laws.specs.Search.{lowest};
+ghost use Rattle.laws.specs.Search.{first_where};
 ghost use Rattle.job.specs.Clocked.{clocked};
 ghost use Rattle.job.specs.Model.{view};
 ghost use Rattle.validity.specs.Checks.{goal_fails};
@@ -49,19 +49,17 @@ fn goal_fails(s: &[u8], job: Job, points: &[u64], begins: &[u16], g: u16) -> boo
     late(points, low, high, kept, deadline)
 }
 
-// The lowest goal that fails or comes after its deadline, or the count of goals.
-pub fn first_missed(s: &[u8], job: Job, points: &[u64], begins: &[u16]) -> u16
+// The lowest goal that fails or comes after its deadline, if one does.
+pub fn first_missed(s: &[u8], job: Job, points: &[u64], begins: &[u16]) -> Option<u16>
     requires { GoalsKnown (clocked (view job s.now)) points.now begins.now }
     ensures { (x : ℕ → ℕ) → PointsKnown (clocked (view job s.now)) x points.now begins.now
-        → OneValue (clocked (view job s.now)) x → result ≡ lowest job.count.goals (goal_fails (clocked (view job s.now)) x) }
+        → OneValue (clocked (view job s.now)) x
+        → result ≡ first_where job.count.goals (goal_fails (clocked (view job s.now)) x) }
 {
-    let n = job.count.goals;
-    let mut g = 0;
-    while g < n {
+    for g in 0..job.count.goals {
         if goal_fails(s, job, points, begins, g) {
-            return g;
+            return Some(g);
         }
-        g += 1;
     }
-    g
+    None
 }

@@ -11,7 +11,6 @@ use borrow.Author.Tests.{eqb-true, eq-eqb, ltb-true, lt-ltb, le-leb, lt-leb}
 use lib.Dec.{ltb, leb, eqb}
 use lib.ListN.{get_or}
 use Rattle.laws.specs.Fold.{sum}
-use Rattle.laws.specs.Search.{lowest}
 use Rattle.laws.proofs.Search.{and_both, and_l, either, any_found, any_none}
 use Rattle.laws.proofs.Fold.{sum_zero}
 use Rattle.little_endian.specs.Bytes.{u32_values, biased_at}
@@ -296,12 +295,6 @@ module _ {m : Model} {l : ℕ} {points : List ℕ} {low high : ℕ} {sums : Sums
 
   pub sweeping_end : high ≤ sums.place → (x : ℕ → ℕ) → UsesPlaced m x l points low high → false ≡ level_fails m x l
   sweeping_end past x known = swept_end m x known (so.swept x known) past
-
--- a search through the levels
-pub record LevelsTried (m : Model) (points begins : List ℕ) (l : ℕ) : Type 0 where
-  pub known : (x : ℕ → ℕ) × PointsKnown m x points begins
-  pub within : l ≤ m.levels
-  pub none : (x : ℕ → ℕ) → PointsKnown m x points begins → lowest l (level_fails m x) ≡ l
 
 -- the uses of level l stand where its group does
 module _ {m : Model} {points begins : List ℕ} (l : ℕ) (h : l < m.levels) {low high : ℕ} (from : low ≡ get_or begins (used_group m l) 0)

@@ -1,6 +1,6 @@
 // Refusal 12: a sweep along the uses of each level, tick by tick.
 ghost use Rattle.std.specs.Prelude.{◌≡◌, ℕ, ◌≤◌, ◌<◌};
-ghost use Rattle.laws.specs.Search.{lowest};
+ghost use Rattle.laws.specs.Search.{first_where};
 ghost use Rattle.job.specs.Clocked.{clocked};
 ghost use Rattle.job.specs.Model.{view};
 ghost use Rattle.validity.specs.Checks.{level_fails};
@@ -55,6 +55,7 @@ fn sums_at(s: &[u8], job: Job, points: &[u64], high: usize, before: Sums) -> Sum
     let first = before.place;
     let tick = tick_of(points[first]);
     let mut sums = before;
+    // The sums hold the place: a range would count it a second time.
     while sums.place < high {
         let place = sums.place;
         let word = points[place];
@@ -91,6 +92,7 @@ fn level_fails(s: &[u8], job: Job, points: &[u64], low: usize, high: usize, l: u
         rises: 0,
         falls: 0,
     };
+    // A turn goes on by a whole tick, so no range counts the turns.
     while sums.place < high {
         let next = sums_at(s, job, points, high, sums);
         if !in_bounds(s, job, l, sums, next) {
@@ -101,22 +103,19 @@ fn level_fails(s: &[u8], job: Job, points: &[u64], low: usize, high: usize, l: u
     false
 }
 
-// The lowest level that passes a bound, or the count of levels.
-pub fn first_out_of_bounds(s: &[u8], job: Job, points: &[u64], begins: &[u16]) -> u16
+// The lowest level that passes a bound, if one does.
+pub fn first_out_of_bounds(s: &[u8], job: Job, points: &[u64], begins: &[u16]) -> Option<u16>
     requires { (x : ℕ → ℕ) × PointsKnown (clocked (view job s.now)) x points.now begins.now }
     ensures { (x : ℕ → ℕ) → PointsKnown (clocked (view job s.now)) x points.now begins.now
-        → result ≡ lowest job.count.levels (level_fails (clocked (view job s.now)) x) }
+        → result ≡ first_where job.count.levels (level_fails (clocked (view job s.now)) x) }
 {
-    let n = job.count.levels;
-    let mut l = 0;
-    while l < n {
+    for l in 0..job.count.levels {
         let group = job.count.facts as usize + job.count.facts as usize + l as usize;
         let low = begin_at(begins, group);
         let high = begin_at(begins, group + 1);
         if level_fails(s, job, points, low, high, l) {
-            return l;
+            return Some(l);
         }
-        l += 1;
     }
-    l
+    None
 }

@@ -12,15 +12,13 @@ fn repeated(points: &[u64], low: usize, q: usize) -> bool
 {
     let tick = tick_of(points[q]);
     let step = step_of(points[q]);
-    let mut p = q;
-    while low < p {
-        if tick_of(points[p - 1]) < tick {
+    for p in (low..q).rev() {
+        if tick_of(points[p]) < tick {
             return false;
         }
-        if step_of(points[p - 1]) == step {
+        if step_of(points[p]) == step {
             return true;
         }
-        p -= 1;
     }
     false
 }
@@ -30,12 +28,10 @@ fn twice(points: &[u64], low: usize, high: usize) -> bool
     requires { (high ≤ length points.now) × Rising points.now low high }
     ensures { result ≡ false → StepsApart points.now low high }
 {
-    let mut q = low;
-    while q < high {
+    for q in low..high {
         if repeated(points, low, q) {
             return true;
         }
-        q += 1;
     }
     false
 }
@@ -45,15 +41,13 @@ pub fn any_twice(facts: u16, levels: u16, points: &[u64], begins: &[u16]) -> boo
     requires { LevelsListed facts levels points.now begins.now }
     ensures { result ≡ false → LevelsApart facts levels points.now begins.now }
 {
-    let mut l = 0;
-    while l < levels {
+    for l in 0..levels {
         let group = facts as usize + facts as usize + l as usize;
         let low = begin_at(begins, group);
         let high = begin_at(begins, group + 1);
         if twice(points, low, high) {
             return true;
         }
-        l += 1;
     }
     false
 }

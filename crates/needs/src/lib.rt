@@ -2,7 +2,7 @@
 #![tactic(auto)]
 
 ghost use Rattle.std.specs.Prelude.{◌≡◌, cond, ℕ, min, ◌+◌, ◌≤◌, ◌<◌};
-ghost use Rattle.laws.specs.Search.{lowest};
+ghost use Rattle.laws.specs.Search.{first_where};
 ghost use Rattle.little_endian.specs.Bytes.{sign_bias};
 ghost use Rattle.job.specs.Clocked.{clocked};
 ghost use Rattle.job.specs.Laid.{Laid};
@@ -31,6 +31,7 @@ fn sums_before(s: &[u8], job: Job, points: &[u64], high: usize, from: Sums, word
 {
     let tick = tick_of(word);
     let mut sums = from;
+    // The sums hold the place: a range would count it a second time.
     while sums.place < high {
         let place = sums.place;
         let used = points[place];
@@ -66,8 +67,7 @@ fn falls_against(s: &[u8], job: Job, points: &[u64], high: usize, before: Sums, 
     let tick = tick_of(word);
     let step = step_of(word);
     let mut falls = before.falls;
-    let mut q = before.place;
-    while q < high {
+    for q in before.place..high {
         let used = points[q];
         let at = tick_of(used);
         if tick < at {
@@ -75,7 +75,6 @@ fn falls_against(s: &[u8], job: Job, points: &[u64], high: usize, before: Sums, 
         }
         let others = step_of(used) != step;
         falls += fall_of(s, job, number_of(used), others);
-        q += 1;
     }
     falls
 }
@@ -90,16 +89,6 @@ fn is_unmet(s: &[u8], job: Job, points: &[u64], high: usize, before: Sums, word:
     let initial = level_initial(s, job, need.level);
     let falls = falls_against(s, job, points, high, before, word);
     initial + before.rises < need.least + falls
-}
-
-// The lowest so far with one more number, if that one is found.
-fn noted(best: u16, found: bool, number: u16) -> u16
-    ensures { result ≡ cond found (min best number) best }
-{
-    if !found {
-        return best;
-    }
-    if number < best { number } else { best }
 }
 
 // The lowest unmet need of level l and of those below it, whose own is given; the count of needs stands for none.
@@ -120,31 +109,29 @@ fn with_level(s: &[u8], job: Job, points: &[u64], begins: &[u16], l: u16, below:
         falls: 0,
     };
     let mut best = below;
-    let mut q = begin_at(begins, needed);
-    while q < end {
+    for q in begin_at(begins, needed)..end {
         let word = points[q];
         sums = sums_before(s, job, points, high, sums, word);
-        let found = is_unmet(s, job, points, high, sums, word);
-        best = noted(best, found, number_of(word));
-        q += 1;
+        if is_unmet(s, job, points, high, sums, word) {
+            best = best.min(number_of(word));
+        }
     }
     best
 }
 
-// The lowest need that is not met, or the count of needs.
-pub fn first_unmet(s: &[u8], job: Job, points: &[u64], begins: &[u16]) -> u16
+// The lowest need that is not met, if one is not.
+pub fn first_unmet(s: &[u8], job: Job, points: &[u64], begins: &[u16]) -> Option<u16>
     requires { Ranged (view job s.now) × Laid job s.now × ((x : ℕ → ℕ) × PointsKnown (clocked (view job s.now)) x points.now begins.now) }
     ensures { (x : ℕ → ℕ) → PointsKnown (clocked (view job s.now)) x points.now begins.now
-        → result ≡ lowest job.count.needs (unmet (clocked (view job s.now)) x) }
+        → result ≡ first_where job.count.needs (unmet (clocked (view job s.now)) x) }
 {
-    let mut best = job.count.needs;
-    if best == 0 {
-        return best;
+    let n = job.count.needs;
+    if n == 0 {
+        return None;
     }
-    let mut l = 0;
-    while l < job.count.levels {
+    let mut best = n;
+    for l in 0..job.count.levels {
         best = with_level(s, job, points, begins, l, best);
-        l += 1;
     }
-    best
+    if best < n { Some(best) } else { None }
 }

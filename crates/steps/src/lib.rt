@@ -2,7 +2,7 @@
 #![tactic(auto)]
 
 ghost use Rattle.std.specs.Prelude.{◌≡◌};
-ghost use Rattle.laws.specs.Search.{lowest};
+ghost use Rattle.laws.specs.Search.{first_where};
 ghost use Rattle.job.specs.Clocked.{clocked};
 ghost use Rattle.job.specs.Model.{view};
 ghost use Rattle.validity.specs.Ticks.{schedule_of};
@@ -18,17 +18,14 @@ fn moved(s: &[u8], job: Job, starts: &[u32], k: u16) -> bool
     (step_fixed(s, job, k) == 1) & (start_of(starts, k) != step_start(s, job, k))
 }
 
-// The lowest fixed step that has another start, or the count of steps.
-pub fn first_moved(s: &[u8], job: Job, starts: &[u32]) -> u16
-    ensures { result ≡ lowest job.count.steps (spec.moved (clocked (view job s.now)) (schedule_of starts.now)) }
+// The lowest fixed step that has another start, if one has.
+pub fn first_moved(s: &[u8], job: Job, starts: &[u32]) -> Option<u16>
+    ensures { result ≡ first_where job.count.steps (spec.moved (clocked (view job s.now)) (schedule_of starts.now)) }
 {
-    let n = job.count.steps;
-    let mut k = 0;
-    while k < n {
+    for k in 0..job.count.steps {
         if moved(s, job, starts, k) {
-            return k;
+            return Some(k);
         }
-        k += 1;
     }
-    k
+    None
 }

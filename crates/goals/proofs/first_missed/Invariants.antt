@@ -1,11 +1,13 @@
-use Prim.Native.Nat.{◌-◌}
+use Prim.Native.Nat.{ℕ}
+use mathlib.Core.Path.{◌≡◌}
+use Rattle.laws.specs.Search.{lowest}
 use Rattle.job.specs.Clocked.{clocked}
 use Rattle.job.specs.Model.{view}
-use Rattle.goals.proofs.GoalRuns.{GoalsTried}
+use Rattle.validity.specs.Checks.{goal_fails}
+use Rattle.points.specs.Points.{PointsKnown, OneValue}
 use Rattle.goals.proofs.first_missed.Given as goal
 
 abbrev pub invariant-loop-g : goal.invariant-loop-g
-invariant-loop-g l = GoalsTried (clocked (view l.job l.s)) l.points l.begins l.g
-
-abbrev pub decreases-loop-g : goal.decreases-loop-g
-decreases-loop-g l = l.n - l.g
+invariant-loop-g l =
+    (x : ℕ → ℕ) → PointsKnown (clocked (view l.job l.s)) x l.points l.begins → OneValue (clocked (view l.job l.s)) x
+    → lowest l.g (goal_fails (clocked (view l.job l.s)) x) ≡ l.g

@@ -1,5 +1,4 @@
 -- Use by use, from the need's tick on while it lasts.
-use Prim.Native.Nat.{◌-◌}
 use mathlib.Core.Path.{refl}
 use native.Mathlib.Omega.{arith}
 use Rattle.needs.proofs.LevelNeeds.{counting_start, counting_more, counting_low, counting_ends}
@@ -23,9 +22,6 @@ pub overflow_add-falls : goal.overflow_add-falls
 overflow_add-falls c =
     let start = c.requires in
     omega (arith, counting_low c.loop-q.invariant start.0, c.fall_of-falls.ensures.1)
-
-pub loop-q-smaller : goal.loop-q-smaller
-loop-q-smaller c = omega (arith, c.loop-q-test.true)
 
 pub loop-q-preserved : goal.loop-q-preserved
 loop-q-preserved c =

@@ -1,11 +1,7 @@
-use Prim.Native.Nat.{◌-◌}
 use Rattle.job.specs.Clocked.{clocked}
 use Rattle.job.specs.Model.{view}
 use Rattle.needs.proofs.LevelNeeds.{Counting}
 use Rattle.needs.proofs.falls_against.Given as goal
 
 abbrev pub invariant-loop-q : goal.invariant-loop-q
-invariant-loop-q l = Counting (clocked (view l.job l.s)) l.points l.high l.word l.initial.falls l.initial.q l.falls l.q
-
-abbrev pub decreases-loop-q : goal.decreases-loop-q
-decreases-loop-q l = l.high - l.q
+invariant-loop-q l = Counting (clocked (view l.job l.s)) l.points l.high l.word l.initial.falls l.fn.before.place l.falls l.q

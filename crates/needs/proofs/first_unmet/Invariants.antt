@@ -1,4 +1,4 @@
-use Prim.Native.Nat.{ℕ, ◌-◌}
+use Prim.Native.Nat.{ℕ}
 use Rattle.job.specs.Clocked.{clocked}
 use Rattle.job.specs.Model.{view}
 use Rattle.points.specs.Points.{PointsKnown}
@@ -8,6 +8,3 @@ use Rattle.needs.proofs.first_unmet.Given as goal
 abbrev pub invariant-loop-l : goal.invariant-loop-l
 invariant-loop-l l =
     (x : ℕ → ℕ) → PointsKnown (clocked (view l.job l.s)) x l.points l.begins → NeedsOfLevels (clocked (view l.job l.s)) x l.l l.best
-
-abbrev pub decreases-loop-l : goal.decreases-loop-l
-decreases-loop-l l = l.job.count.levels - l.l

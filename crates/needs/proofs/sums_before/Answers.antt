@@ -1,5 +1,4 @@
 -- Use by use, up to the need's tick.
-use Prim.Native.Nat.{◌-◌}
 use native.Mathlib.Omega.{arith}
 use Rattle.levels.proofs.LevelSweeps.{summed_low}
 use Rattle.needs.proofs.LevelNeeds.{behind_more, behind_ends}

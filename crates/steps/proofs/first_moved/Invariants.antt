@@ -1,4 +1,3 @@
-use Prim.Native.Nat.{◌≤◌, ◌-◌}
 use mathlib.Core.Path.{◌≡◌}
 use Rattle.laws.specs.Search.{lowest}
 use Rattle.job.specs.Clocked.{clocked}
@@ -8,7 +7,4 @@ use Rattle.validity.specs.Checks.{moved}
 use Rattle.steps.proofs.first_moved.Given as goal
 
 abbrev pub invariant-loop-k : goal.invariant-loop-k
-invariant-loop-k l = (l.k ≤ l.n) × (lowest l.k (moved (clocked (view l.job l.s)) (schedule_of l.starts)) ≡ l.k)
-
-abbrev pub decreases-loop-k : goal.decreases-loop-k
-decreases-loop-k l = l.n - l.k
+invariant-loop-k l = lowest l.k (moved (clocked (view l.job l.s)) (schedule_of l.starts)) ≡ l.k

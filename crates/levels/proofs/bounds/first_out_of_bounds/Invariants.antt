@@ -1,11 +1,13 @@
-use Prim.Native.Nat.{◌-◌}
+use Prim.Native.Nat.{ℕ}
+use mathlib.Core.Path.{◌≡◌}
+use Rattle.laws.specs.Search.{lowest}
 use Rattle.job.specs.Clocked.{clocked}
 use Rattle.job.specs.Model.{view}
-use Rattle.levels.proofs.LevelSweeps.{LevelsTried}
+use Rattle.validity.specs.Checks.{level_fails}
+use Rattle.points.specs.Points.{PointsKnown}
 use Rattle.levels.proofs.bounds.first_out_of_bounds.Given as goal
 
 abbrev pub invariant-loop-l : goal.invariant-loop-l
-invariant-loop-l l = LevelsTried (clocked (view l.job l.s)) l.points l.begins l.l
-
-abbrev pub decreases-loop-l : goal.decreases-loop-l
-decreases-loop-l l = l.n - l.l
+invariant-loop-l l =
+    (x : ℕ → ℕ) → PointsKnown (clocked (view l.job l.s)) x l.points l.begins
+    → lowest l.l (level_fails (clocked (view l.job l.s)) x) ≡ l.l

@@ -1,5 +1,4 @@
 -- Tick by tick, with what the level's uses at earlier ticks add and take.
-use Prim.Native.Nat.{◌-◌}
 use native.Mathlib.Omega.{arith}
 use Rattle.levels.proofs.LevelSweeps.{summed_low, sweeping_start, sweeping_more, sweeping_fails, sweeping_end}
 use borrow.Author.Tests.{not-true, not-false}

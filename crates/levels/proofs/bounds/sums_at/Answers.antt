@@ -1,5 +1,4 @@
 -- Use by use, while the tick is the first one's.
-use Prim.Native.Nat.{◌-◌}
 use native.Mathlib.Omega.{arith}
 use Rattle.levels.proofs.LevelSweeps.{summed_low, gathering_start, gathering_more, gathering_ends}
 use Rattle.levels.proofs.bounds.sums_at.Goals as goal

@@ -1,5 +1,4 @@
 -- Level by level.
-use Prim.Native.Nat.{◌-◌}
 use mathlib.Core.Path.{refl}
 use native.Mathlib.Omega.{arith}
 use Rattle.laws.proofs.Search.{contrary}
@@ -25,9 +24,6 @@ twice-requires c =
 
 pub returns-then-twice : goal.returns-then-twice
 returns-then-twice c e = contrary refl e
-
-pub loop-l-smaller : goal.loop-l-smaller
-loop-l-smaller c = omega (arith, c.loop-l-test.true)
 
 pub loop-l-preserved : goal.loop-l-preserved
 loop-l-preserved c =

@@ -28,9 +28,6 @@ bounds-points-p-in-loop-p c = let i = c.loop-p.invariant in omega (arith, i.to, 
 pub returns-then-step_of-step : goal.returns-then-step_of-step
 returns-then-step_of-step c e = contrary refl e
 
-pub loop-p-smaller : goal.loop-p-smaller
-loop-p-smaller c = omega (arith, c.loop-p-test.true)
-
 pub loop-p-preserved : goal.loop-p-preserved
 loop-p-preserved c =
     let i = c.loop-p.invariant in

@@ -3,6 +3,3 @@ use Rattle.levels.proofs.uses.repeated.Given as goal
 
 abbrev pub invariant-loop-p : goal.invariant-loop-p
 invariant-loop-p l = Others l.points l.low l.q l.tick l.step l.p
-
-abbrev pub decreases-loop-p : goal.decreases-loop-p
-decreases-loop-p l = l.p

@@ -1,5 +1,4 @@
 -- Place by place.
-use Prim.Native.Nat.{◌-◌}
 use mathlib.Core.Path.{refl}
 use native.Mathlib.Omega.{arith}
 use Rattle.laws.proofs.Search.{contrary}
@@ -16,9 +15,6 @@ repeated-requires c =
 
 pub returns-then-repeated : goal.returns-then-repeated
 returns-then-repeated c e = contrary refl e
-
-pub loop-q-smaller : goal.loop-q-smaller
-loop-q-smaller c = omega (arith, c.loop-q-test.true)
 
 pub loop-q-preserved : goal.loop-q-preserved
 loop-q-preserved c =
