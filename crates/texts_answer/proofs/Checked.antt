@@ -3,32 +3,41 @@ use Prim.Native.Nat.{ℕ, ◌≤◌, ◌<◌}
 use mathlib.Core.Path.{◌≡◌, refl, sym, ap, ◌∙◌}
 use mathlib.Core.List.{List, ◌++◌}
 use native.Mathlib.Nat.{zero-add}
-use borrow.Author.Tests.{eq-eqb, ne_eqb, le-leb, lt-leb}
+use borrow.Author.Tests.{le-leb, lt-leb}
 use lib.ListN.{length, take, drop}
 use lib.Seq.{sets-eq, take-length}
-use Rattle.verdict.specs.Verdict.{Verdict, number}
+use Rattle.std.specs.Prelude.{Result, Ok, Err}
+use Rattle.std.specs.Result.{IsErrAnd}
+use Rattle.std.proofs.lemmas.Result.{err_from_is_err_and}
+use Rattle.texts_answer.specs.declared.TextsRefusal.{TextsRefusal}
+use Rattle.verdict.specs.declared.Refusal.{Refusal}
+use Rattle.verdict.specs.Verdict.{Accepted}
 use Rattle.validity.specs.Checks.{job_check}
-use Rattle.texts_answer.specs.declared.TextsAnswer.TheVariants.{Made, Refused, BufferTooShort}
+use Rattle.texts_answer.specs.declared.TextsRefusal.TheVariants.{Refused, BufferTooShort}
 use Rattle.texts_answer.specs.FromTexts.{checked, written}
 
-module _ (job out : List ℕ) (v : Verdict) (e : v ≡ job_check job) where
-  pub refuses :
-      (number v ≡ 0 → ⊥) → (Refused v ≡ checked job (length out)) × (out ≡ written (Refused v) job out)
+-- what `?` hands back of a check that refuses
+pub handed : {A : Type 0} (result : Result A TextsRefusal) {r : Refusal} → IsErrAnd result (λ x. x ≡ Refused r) → result ≡ Err (Refused r)
+handed result e = let p = err_from_is_err_and result e in p.1 ∙ ap (λ x. Err x) p.2
+
+module _ (job out : List ℕ) where
+  pub refuses : {r : Refusal} → Err r ≡ job_check job → (Err (Refused r) ≡ checked job (length out)) × (out ≡ written (Err (Refused r)) job out)
   unfolding checked written
-  refuses h = (rw (e, ne_eqb (number (job_check job)) 0 (λ z. h (ap number e ∙ z))), refl)
+  refuses e = (rw (sym e) refl, refl)
 
   pub too_short :
-      number v ≡ 0 → length out < length job → (BufferTooShort ≡ checked job (length out)) × (out ≡ written BufferTooShort job out)
+      Accepted ≡ job_check job → length out < length job
+      → (Err BufferTooShort ≡ checked job (length out)) × (out ≡ written (Err BufferTooShort) job out)
   unfolding checked written
-  too_short h l = (rw (eq-eqb (number (job_check job)) 0 (sym (ap number e) ∙ h), lt-leb (length job) (length out) l), refl)
+  too_short e l = (rw (sym e, lt-leb (length job) (length out) l), refl)
 
   pub makes :
-      {after : List ℕ} (n : ℕ) → number v ≡ 0 → length job ≤ length out → n ≡ length job
+      {after : List ℕ} (n : ℕ) → Accepted ≡ job_check job → length job ≤ length out → n ≡ length job
       → after ≡ take (length job) job ++ drop (length job) out
-      → (Made n ≡ checked job (length out)) × (after ≡ written (Made n) job out)
+      → (Ok n ≡ checked job (length out)) × (after ≡ written (Ok n) job out)
   unfolding checked written
-  makes n h l p q = (
-    rw (p, eq-eqb (number (job_check job)) 0 (sym (ap number e) ∙ h), le-leb (length job) (length out) l),
+  makes n e l p q = (
+    rw (p, sym e, le-leb (length job) (length out) l),
     q ∙ ap (λ k. k ++ drop (length job) out) (take-length job)
         ∙ sym (sets-eq job out 0 (rw (zero-add (length job)) l) ∙ rw (zero-add (length job))),
   )

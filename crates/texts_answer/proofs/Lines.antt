@@ -5,18 +5,19 @@ use mathlib.Core.Bool.{true, false}
 use mathlib.Core.List.{List, [], ◌∷◌}
 use native.Mathlib.Omega.{arith}
 use lib.ListN.{length, get_or}
+use Rattle.std.specs.Prelude.{Err}
 use Rattle.grammar.specs.Said.{Item}
 use Rattle.supplied.specs.Plan.{Line, differs}
 use Rattle.job_notes.specs.Resolved.{no_line}
-use Rattle.texts_answer.specs.declared.TextsAnswer.{TextsAnswer}
-use Rattle.texts_answer.specs.declared.TextsAnswer.TheVariants.{PlanDiffers}
+use Rattle.texts_answer.specs.Answer.{TextsAnswer}
+use Rattle.texts_answer.specs.declared.TextsRefusal.TheVariants.{PlanDiffers}
 use Rattle.texts_answer.specs.FromTexts.{lined}
 
 module _ (is : List Item) (a : TextsAnswer) where
   pub line_differs :
       (ls : List Line) (k : ℕ) → k < length ls → ((j : ℕ) → j < k → differs is (get_or ls j no_line) ≡ false)
       → differs is (get_or ls k no_line) ≡ true
-      → lined is ls a ≡ PlanDiffers (get_or ls k no_line).line
+      → lined is ls a ≡ Err (PlanDiffers (get_or ls k no_line).line)
   unfolding lined
   line_differs [] k l before e = absurd (omega arith)
   line_differs (x ∷ ls) zero l before e = rw e

@@ -8,7 +8,10 @@ use native.Mathlib.Omega.{arith}
 use borrow.Author.Tests.{eqb-true, eqb-false, eq-eqb, leb-true}
 use lib.Dec.{eqb, leb}
 use lib.ListN.{length}
+use Rattle.std.specs.Prelude.{Ok, Err}
 use Rattle.verdict.specs.Verdict as verdict
+use Rattle.verdict.specs.Verdict.{Verdict}
+use Rattle.verdict.proofs.Chain.{refusal_nonzero, number_zero}
 use Rattle.verdict.specs.declared.Refusal.TheVariants.{CountTooHigh}
 use Rattle.grammar.specs.Said.{Item}
 use Rattle.grammar.specs.Reader.{Outcome, read, refused}
@@ -18,31 +21,27 @@ use Rattle.job_encoding.specs.Encode.{counts_in, encode}
 use Rattle.validity.specs.Checks.{job_check}
 use Rattle.supplied.specs.Plan.{Line, lines_of, differs}
 use Rattle.supplied.specs.Job.{supplied_job}
-use Rattle.texts_answer.specs.declared.TextsAnswer.{TextsAnswer}
-use Rattle.texts_answer.specs.declared.TextsAnswer.TheVariants.{Made, ActionsOutside, ActionsTooDeep, PlanDiffers, Refused, BufferTooShort}
-use Rattle.texts_answer.specs.Answer.{number}
-use Rattle.texts_answer.specs.FromTexts.{job_bytes, checked, counted, lined, plan_answer, texts_answer}
+use Rattle.texts_answer.specs.declared.TextsRefusal.TheVariants.{ActionsOutside, ActionsTooDeep, PlanDiffers, Refused, BufferTooShort}
+use Rattle.texts_answer.specs.Answer.{TextsAnswer, number}
+use Rattle.texts_answer.specs.FromTexts.{job_bytes, unless_refused, checked, counted, lined, plan_answer, texts_answer}
 use Rattle.texts_answer.specs.Promise.{Matching}
 
 -- a job that the check passes and that finds room
 pub record Fitting (job : List ℕ) (room : ℕ) : Type 0 where
   pub passes : verdict.number (job_check job) ≡ 0
   pub fits : length job ≤ room
-  pub answers : checked job room ≡ Made (length job)
+  pub answers : checked job room ≡ Ok (length job)
 
 checked_passes : (job : List ℕ) (room : ℕ) → number (checked job room) ≡ 0 → Fitting job room
 unfolding checked
-checked_passes job room = go (eqb n 0) (leb (length job) room) refl refl
+checked_passes job room = go (job_check job) (leb (length job) room) refl refl
   where
-    n : ℕ
-    n = verdict.number (job_check job)
-
     go :
-        (a b : Bool) → eqb n 0 ≡ a → leb (length job) room ≡ b
-        → number (cond a (cond b (Made (length job)) BufferTooShort) (Refused (job_check job))) ≡ 0 → Fitting job room
-    go true true p q e = record { passes = eqb-true n 0 p; fits = leb-true (length job) room q; answers = rw (p, q) }
-    go true false p q e = absurd (omega (arith, e))
-    go false b p q e = absurd (eqb-false n 0 p e)
+        (v : Verdict) (b : Bool) → job_check job ≡ v → leb (length job) room ≡ b
+        → number (unless_refused v (cond b (Ok (length job)) (Err BufferTooShort))) ≡ 0 → Fitting job room
+    go (Ok _) true p q e = record { passes = ap verdict.number p; fits = leb-true (length job) room q; answers = rw (p, q) }
+    go (Ok _) false p q e = absurd (omega (arith, e))
+    go (Err r) b p q e = absurd (refusal_nonzero r e)
 
 counted_passes :
     (m : Model) (room : ℕ) → number (counted m room) ≡ 0
@@ -51,12 +50,12 @@ unfolding counted
 counted_passes m room = go (count_too_high (counts_in m))
   where
     go :
-        (b : Bool) → number (cond b (Refused CountTooHigh) (checked (encode 1 m) room)) ≡ 0
-        → (b ≡ false) × (cond b (Refused CountTooHigh) (checked (encode 1 m) room) ≡ checked (encode 1 m) room)
+        (b : Bool) → number (cond b (Err (Refused CountTooHigh)) (checked (encode 1 m) room)) ≡ 0
+        → (b ≡ false) × (cond b (Err (Refused CountTooHigh)) (checked (encode 1 m) room) ≡ checked (encode 1 m) room)
     go true e = absurd (omega (arith, e))
     go false e = (refl, refl)
 
-same_line : (b : Bool) (line : ℕ) (a : TextsAnswer) → number (cond b (PlanDiffers line) a) ≡ 0 → b ≡ false
+same_line : (b : Bool) (line : ℕ) (a : TextsAnswer) → number (cond b (Err (PlanDiffers line)) a) ≡ 0 → b ≡ false
 same_line true line a e = absurd (omega (arith, e))
 same_line false line a e = refl
 
@@ -83,12 +82,12 @@ pub record Passed (o p : Outcome) (room : ℕ) : Type 0 where
   pub counts : count_too_high (counts_in (supplied_job is plan)) ≡ false
   pub passes : verdict.number (job_check (job_bytes is plan)) ≡ 0
   pub fits : length (job_bytes is plan) ≤ room
-  pub answers : texts_answer o p room ≡ Made (length (job_bytes is plan))
+  pub answers : texts_answer o p room ≡ Ok (length (job_bytes is plan))
 
-no_refusal : (n line : ℕ) → number (cond (eqb n 19) (ActionsTooDeep line) (ActionsOutside line)) ≡ 0 → ⊥
+no_refusal : (n line : ℕ) → number (cond (eqb n 19) (Err (ActionsTooDeep line)) (Err (ActionsOutside line))) ≡ 0 → ⊥
 no_refusal n line = go (eqb n 19)
   where
-    go : (b : Bool) → number (cond b (ActionsTooDeep line) (ActionsOutside line)) ≡ 0 → ⊥
+    go : (b : Bool) → number (cond b (Err (ActionsTooDeep line)) (Err (ActionsOutside line))) ≡ 0 → ⊥
     go true e = omega (arith, e)
     go false e = omega (arith, e)
 
@@ -117,15 +116,15 @@ passed (read is) (read plan) room e =
 pub accepted_or_short :
     (is plan : List Item) (room : ℕ) → Matching is (lines_of plan) → count_too_high (counts_in (supplied_job is plan)) ≡ false
     → verdict.number (job_check (job_bytes is plan)) ≡ 0
-    → (number (texts_answer (read is) (read plan) room) ≡ 0) ⊎ (texts_answer (read is) (read plan) room ≡ BufferTooShort)
+    → (number (texts_answer (read is) (read plan) room) ≡ 0) ⊎ (texts_answer (read is) (read plan) room ≡ Err BufferTooShort)
 unfolding texts_answer plan_answer counted checked job_bytes
 accepted_or_short is plan room h c z =
     let m = supplied_job is plan in
     let b = leb (length (encode 1 m)) room in
-    let e : texts_answer (read is) (read plan) room ≡ cond b (Made (length (encode 1 m))) BufferTooShort =
-    matching_lined is (lines_of plan) (counted m room) h ∙ rw (c, eq-eqb (verdict.number (job_check (encode 1 m))) 0 z) in
+    let e : texts_answer (read is) (read plan) room ≡ cond b (Ok (length (encode 1 m))) (Err BufferTooShort) =
+    matching_lined is (lines_of plan) (counted m room) h ∙ rw (c, number_zero (job_check (encode 1 m)) z) in
     rw e (either b (length (encode 1 m)))
   where
-    either : (b : Bool) (n : ℕ) → (number (cond b (Made n) BufferTooShort) ≡ 0) ⊎ (cond b (Made n) BufferTooShort ≡ BufferTooShort)
+    either : (b : Bool) (n : ℕ) → (number (cond b (Ok n) (Err BufferTooShort)) ≡ 0) ⊎ (cond b (Ok n) (Err BufferTooShort) ≡ Err BufferTooShort)
     either true n = inl refl
     either false n = inr refl

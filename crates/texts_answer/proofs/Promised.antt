@@ -7,6 +7,7 @@ use mathlib.Core.Logic.{◌⊎◌}
 use native.Mathlib.Decide.{ℕ_discrete}
 use lib.ListN.{length, take, drop}
 use Rattle.spelling.specs.Tokens.{text_most}
+use Rattle.std.specs.Prelude.{Ok, Err}
 use Rattle.verdict.specs.Verdict as verdict
 use Rattle.grammar.specs.Said.{Said, Item, on_line, said_of}
 use Rattle.grammar.specs.Tree.{Text, Plan}
@@ -30,9 +31,8 @@ use Rattle.supplied.specs.Clash.{NoClash}
 use Rattle.supplied.proofs.Numbering.{numbering}
 use Rattle.supplied.proofs.Clash.{names_promise}
 use Rattle.supplied.proofs.Fits.{fits}
-use Rattle.texts_answer.specs.declared.TextsAnswer.{TextsAnswer}
-use Rattle.texts_answer.specs.declared.TextsAnswer.TheVariants.{Made, BufferTooShort}
-use Rattle.texts_answer.specs.Answer.{number, length_of}
+use Rattle.texts_answer.specs.declared.TextsRefusal.TheVariants.{BufferTooShort}
+use Rattle.texts_answer.specs.Answer.{TextsAnswer, number, length_of}
 use Rattle.texts_answer.specs.FromTexts.{actions_read, job_bytes, answer_to, bytes_of, written, buffer_after}
 use Rattle.texts_answer.specs.Derived.{derived_job}
 use Rattle.texts_answer.specs.Promise.{Matching, Derives, JobOfTexts, TextsPromise}
@@ -100,7 +100,7 @@ module _ (actions plan : List ℕ) where
   accepted :
       (room : ℕ) → length actions ≤ text_most → length plan ≤ text_most → (t : Text) (p : Plan) → Derives t p actions plan
       → count_too_high (counts_in (derived_job t p)) ≡ false → verdict.number (job_check (encode 1 (derived_job t p))) ≡ 0
-      → (number (answer_to actions plan room) ≡ 0) ⊎ (answer_to actions plan room ≡ BufferTooShort)
+      → (number (answer_to actions plan room) ≡ 0) ⊎ (answer_to actions plan room ≡ Err BufferTooShort)
   unfolding answer_to actions_read job_bytes
   accepted room h g t p d c z =
       let x = (action_demands actions).every h t d.writes in
@@ -117,11 +117,11 @@ module _ (actions plan before : List ℕ) (k : Passed (actions_read actions) (pl
   abbrev job : List ℕ
   job = job_bytes k.is k.plan
 
-  made_answer : answer_to actions plan (length before) ≡ Made (length job)
+  made_answer : answer_to actions plan (length before) ≡ Ok (length job)
   unfolding answer_to
   made_answer = k.answers
 
-  made_buffer : buffer_after actions plan before ≡ written (Made (length job)) job before
+  made_buffer : buffer_after actions plan before ≡ written (Ok (length job)) job before
   unfolding buffer_after bytes_of
   made_buffer =
       ap₂ (λ (r : TextsAnswer) (s : List ℕ). written r s before) made_answer (ap₂ bytes_of k.reads k.reads_plan)

@@ -1,5 +1,5 @@
 -- What is promised of two texts, one field a clause of the request.
-use Rattle.std.specs.Prelude.{ℕ, ◌≤◌, ◌≡◌, false, List, [], ◌∷◌, ◌⊎◌, length, take, drop}
+use Rattle.std.specs.Prelude.{ℕ, ◌≤◌, ◌≡◌, false, List, [], ◌∷◌, ◌⊎◌, length, take, drop, Err}
 use Rattle.little_endian.specs.Bytes.{u16_at}
 use Rattle.spelling.specs.Tokens.{text_most}
 use Rattle.verdict.specs.Verdict as verdict
@@ -20,9 +20,8 @@ use Rattle.validity.specs.Promise.{Sound}
 use Rattle.supplied.specs.Plan.{Line, lines_of, differs}
 use Rattle.supplied.specs.Names.{Kind}
 use Rattle.supplied.specs.Clash.{NoClash, NamesPromise, Numbering}
-use Rattle.texts_answer.specs.declared.TextsAnswer.{TextsAnswer}
-use Rattle.texts_answer.specs.declared.TextsAnswer.TheVariants.{BufferTooShort}
-use Rattle.texts_answer.specs.Answer.{number, length_of}
+use Rattle.texts_answer.specs.declared.TextsRefusal.TheVariants.{BufferTooShort}
+use Rattle.texts_answer.specs.Answer.{TextsAnswer, number, length_of}
 use Rattle.texts_answer.specs.FromTexts.{answer_to, buffer_after}
 use Rattle.texts_answer.specs.Derived.{derived_job}
 
@@ -69,6 +68,6 @@ pub record TextsPromise (actions plan before after : List ℕ) (r : TextsAnswer)
   pub complete :
       length actions ≤ text_most → length plan ≤ text_most → (t : Text) (p : Plan) → Derives t p actions plan
       → count_too_high (counts_in (derived_job t p)) ≡ false → verdict.number (job_check (encode 1 (derived_job t p))) ≡ 0
-      → (number r ≡ 0) ⊎ (r ≡ BufferTooShort)
+      → (number r ≡ 0) ⊎ (r ≡ Err BufferTooShort)
   -- a refusal changes no byte
   pub kept : (number r ≡ 0 → ⊥) → after ≡ before

@@ -2,14 +2,14 @@
 #![tactic(auto)]
 
 ghost use Rattle.std.specs.Prelude.{◌≡◌};
+ghost use Rattle.texts_answer.specs.declared.TextsRefusal.TheVariants.{Refused};
 ghost use Rattle.texts_answer.specs.Answer as spec;
 
-use verdict::{NOWHERE, Verdict};
+use verdict::{NOWHERE, Refusal};
 
-#[derive(Clone, Copy)]
-pub enum TextsAnswer {
-    // The job's length.
-    Made(u32),
+// Why no job is made of two texts.
+#[derive(Clone, Copy, Debug, PartialEq, Eq)]
+pub enum TextsRefusal {
     // The line where the action text leaves the grammar, or is nested too deep.
     ActionsOutside(u16),
     ActionsTooDeep(u16),
@@ -17,37 +17,68 @@ pub enum TextsAnswer {
     PlanOutside(u16),
     PlanDiffers(u16),
     // A refusal of the job check.
-    Refused(Verdict),
+    Refused(Refusal),
     BufferTooShort,
 }
 
-// The number of a refusal, 0 for accepted.
+// The job's length, or why none is made.
+pub type TextsAnswer = Result<u32, TextsRefusal>;
+
+impl From<Refusal> for TextsRefusal {
+    ghost from_gives = { λ refusal e. e ≡ Refused refusal };
+
+    fn from(refusal: Refusal) -> TextsRefusal {
+        TextsRefusal::Refused(refusal)
+    }
+}
+
+impl TextsRefusal {
+    // The number of a refusal.
+    pub fn number(self) -> u16
+        ensures { result ≡ spec.refusal_number self }
+    {
+        match self {
+            TextsRefusal::ActionsOutside(_) => 18,
+            TextsRefusal::ActionsTooDeep(_) => 19,
+            TextsRefusal::PlanOutside(_) => 18,
+            TextsRefusal::PlanDiffers(_) => 20,
+            TextsRefusal::Refused(refusal) => refusal.number(),
+            TextsRefusal::BufferTooShort => 15,
+        }
+    }
+
+    // The place of a refusal: a line of its text, or the record that the job check names.
+    pub fn place(self) -> u16
+        ensures { result ≡ spec.refusal_place self }
+    {
+        match self {
+            TextsRefusal::ActionsOutside(line) => line,
+            TextsRefusal::ActionsTooDeep(line) => line,
+            TextsRefusal::PlanOutside(line) => line,
+            TextsRefusal::PlanDiffers(line) => line,
+            TextsRefusal::Refused(refusal) => refusal.place(),
+            TextsRefusal::BufferTooShort => NOWHERE,
+        }
+    }
+}
+
+// The number of an answer's refusal, 0 for accepted.
 pub fn number(a: TextsAnswer) -> u16
     ensures { result ≡ spec.number a }
 {
     match a {
-        TextsAnswer::Made(_) => 0,
-        TextsAnswer::ActionsOutside(_) => 18,
-        TextsAnswer::ActionsTooDeep(_) => 19,
-        TextsAnswer::PlanOutside(_) => 18,
-        TextsAnswer::PlanDiffers(_) => 20,
-        TextsAnswer::Refused(v) => verdict::number(v),
-        TextsAnswer::BufferTooShort => 15,
+        Ok(_) => 0,
+        Err(refusal) => refusal.number(),
     }
 }
 
-// The place of a refusal: a line of its text, or the record that the job check names.
+// The place of an answer's refusal.
 pub fn place(a: TextsAnswer) -> u16
     ensures { result ≡ spec.place a }
 {
     match a {
-        TextsAnswer::Made(_) => NOWHERE,
-        TextsAnswer::ActionsOutside(line) => line,
-        TextsAnswer::ActionsTooDeep(line) => line,
-        TextsAnswer::PlanOutside(line) => line,
-        TextsAnswer::PlanDiffers(line) => line,
-        TextsAnswer::Refused(v) => verdict::place(v),
-        TextsAnswer::BufferTooShort => NOWHERE,
+        Ok(_) => NOWHERE,
+        Err(refusal) => refusal.place(),
     }
 }
 
@@ -55,13 +86,5 @@ pub fn place(a: TextsAnswer) -> u16
 pub fn length(a: TextsAnswer) -> u32
     ensures { result ≡ spec.length_of a }
 {
-    match a {
-        TextsAnswer::Made(n) => n,
-        TextsAnswer::ActionsOutside(_) => 0,
-        TextsAnswer::ActionsTooDeep(_) => 0,
-        TextsAnswer::PlanOutside(_) => 0,
-        TextsAnswer::PlanDiffers(_) => 0,
-        TextsAnswer::Refused(_) => 0,
-        TextsAnswer::BufferTooShort => 0,
-    }
+    a.unwrap_or(0)
 }
