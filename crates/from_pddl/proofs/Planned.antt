@@ -27,9 +27,10 @@ use Rattle.naming.specs.declared.Names.{Names}
 use Rattle.naming.specs.Named.{Readable, AllNamed}
 use Rattle.job_from_notes.specs.Counted.{tables_in, Walked}
 use Rattle.plan_check.specs.Checked.{Checked}
+use Rattle.std.specs.Prelude.{Err}
 use Rattle.verdict.specs.declared.Refusal.TheVariants.{CountTooHigh}
-use Rattle.texts_answer.specs.declared.TextsAnswer.{TextsAnswer}
-use Rattle.texts_answer.specs.declared.TextsAnswer.TheVariants.{PlanOutside, PlanDiffers, Refused}
+use Rattle.texts_answer.specs.Answer.{TextsAnswer}
+use Rattle.texts_answer.specs.declared.TextsRefusal.TheVariants.{PlanOutside, PlanDiffers, Refused}
 use Rattle.texts_answer.specs.FromTexts.{job_bytes, counted, plan_answer, bytes_of, written}
 use Rattle.job_filing.specs.Filed.{Filed}
 use Rattle.texts_answer.proofs.Lines.{line_differs, no_line_differs}
@@ -66,7 +67,7 @@ module _ (plan lines : List ℕ) (r : Reader) (h : Heard true (plan_reading plan
   unfolding answer heard
   plan_read_lem z = h.same ∙ rw (eq-eqb r.fault 0 z)
 
-  pub plan_outside : (is : List Item) (out : List ℕ) (line : ℕ) → (r.fault ≡ 0 → ⊥) → line ≡ r.line → Answered is plan out (PlanOutside line) out
+  pub plan_outside : (is : List Item) (out : List ℕ) (line : ℕ) → (r.fault ≡ 0 → ⊥) → line ≡ r.line → Answered is plan out (Err (PlanOutside line)) out
   unfolding plan_answer written
   plan_outside is out line z e = record { answer = rw (plan_refused z, e); buffer = refl }
 
@@ -74,14 +75,14 @@ module _ (plan lines : List ℕ) (r : Reader) (h : Heard true (plan_reading plan
     -- a line that differs
     pub line_refused :
         (line : ℕ) → first < r.count / 3 → line ≡ line_in (get_or lines (3 * first + 1) 0)
-        → Answered (items_in text notes) plan out (PlanDiffers line) out
+        → Answered (items_in text notes) plan out (Err (PlanDiffers line)) out
     unfolding plan_answer written
     line_refused line l e =
         let m : first < length (lines_of said) = omega (arith, l, c.count, lines_length) in
         let p = line_differs (items_in text notes) _ (lines_of said) first m c.same (c.differs m) in
         record {
           answer =
-              ap PlanDiffers (e ∙ sym (c.line m ∙ ap line_in (get_or-take r.count lines (3 * first + 1) 0 (omega (arith, l)))))
+              ap (λ l. Err (PlanDiffers l)) (e ∙ sym (c.line m ∙ ap line_in (get_or-take r.count lines (3 * first + 1) 0 (omega (arith, l)))))
               ∙ sym (ap (λ o. plan_answer (items_in text notes) o (length out)) (plan_read_lem z) ∙ p);
           buffer = refl;
         }
@@ -98,7 +99,7 @@ module _ (plan lines : List ℕ) (r : Reader) (h : Heard true (plan_reading plan
           ∙ no_line_differs (items_in text notes) _ (lines_of said) (λ j l. c.same j (omega (arith, l, no_more)))
 
       -- more lines than a job has steps
-      pub too_many_lines : 64 < r.count / 3 → Answered (items_in text notes) plan out (Refused CountTooHigh) out
+      pub too_many_lines : 64 < r.count / 3 → Answered (items_in text notes) plan out (Err (Refused CountTooHigh)) out
       unfolding written counted
       too_many_lines l =
           let many : 64 < (supplied_job (items_in text notes) said).steps =

@@ -6,10 +6,11 @@ use native.Mathlib.Omega.{arith}
 use borrow.Author.Tests.{eq-eqb, ne_eqb}
 use lib.ListN.{length, take}
 use lib.Seq.{length-take-le}
+use Rattle.std.specs.Prelude.{Err}
 use Rattle.grammar.specs.Reading.{plan_reading}
 use Rattle.notes.specs.Notes.{items_in}
-use Rattle.texts_answer.specs.declared.TextsAnswer.{TextsAnswer}
-use Rattle.texts_answer.specs.declared.TextsAnswer.TheVariants.{ActionsOutside, ActionsTooDeep}
+use Rattle.texts_answer.specs.Answer.{TextsAnswer}
+use Rattle.texts_answer.specs.declared.TextsRefusal.TheVariants.{ActionsOutside, ActionsTooDeep}
 use Rattle.texts_answer.specs.FromTexts.{actions_read, texts_answer, answer_to, bytes_of, written, buffer_after}
 use Rattle.texts_answer.specs.Promise.{TextsPromise}
 use Rattle.texts_answer.proofs.Promised.{texts_promise}
@@ -30,17 +31,17 @@ module _ (text plan out : List ℕ) where
     pub actions_length : length (take r.count said) ≡ r.count
     actions_length = length-take-le r.count said (omega (arith, u.few, u.size))
 
-    pub too_deep : (line : ℕ) → r.fault ≡ 19 → line ≡ r.line → TextsPromise text plan out out (ActionsTooDeep line)
+    pub too_deep : (line : ℕ) → r.fault ≡ 19 → line ≡ r.line → TextsPromise text plan out out (Err (ActionsTooDeep line))
     unfolding answer_to texts_answer written
     too_deep line z e =
         let refuses = (u.refuses (λ y. omega (arith, y, z))).1 in
-        promised (ActionsTooDeep line) out (sym (ap (λ o. texts_answer o (plan_reading plan) (length out)) refuses ∙ rw (eq-eqb r.fault 19 z, e))) refl
+        promised (Err (ActionsTooDeep line)) out (sym (ap (λ o. texts_answer o (plan_reading plan) (length out)) refuses ∙ rw (eq-eqb r.fault 19 z, e))) refl
 
     pub outside :
-        (line : ℕ) → (r.fault ≡ 19 → ⊥) → (r.fault ≡ 0 → ⊥) → line ≡ r.line → TextsPromise text plan out out (ActionsOutside line)
+        (line : ℕ) → (r.fault ≡ 19 → ⊥) → (r.fault ≡ 0 → ⊥) → line ≡ r.line → TextsPromise text plan out out (Err (ActionsOutside line))
     unfolding answer_to texts_answer written
     outside line y z e =
-        promised (ActionsOutside line) out
+        promised (Err (ActionsOutside line)) out
         (sym (ap (λ o. texts_answer o (plan_reading plan) (length out)) (u.refuses z).1 ∙ rw (ne_eqb r.fault 19 y, e)))
         refl
 

@@ -3,7 +3,7 @@ use Rattle.std.specs.Prelude.{◌≡◌, List, ℕ, length}
 use Rattle.grammar.specs.Said.{Item}
 use Rattle.grammar.specs.Reader.{read}
 use Rattle.grammar.specs.Reading.{plan_reading}
-use Rattle.texts_answer.specs.declared.TextsAnswer.{TextsAnswer}
+use Rattle.texts_answer.specs.Answer.{TextsAnswer}
 use Rattle.texts_answer.specs.FromTexts.{plan_answer, bytes_of, written}
 
 -- of actions that say these items

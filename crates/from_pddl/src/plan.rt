@@ -9,8 +9,8 @@ use naming::Names;
 use notes::NOTES_MOST;
 use plan_check::check_lines;
 use text_reader::read_plan;
-use texts_answer::TextsAnswer;
-use verdict::Verdict;
+use texts_answer::{TextsAnswer, TextsRefusal};
+use verdict::Refusal;
 
 // Reads a plan, holds its lines against the actions, and files the job of both.
 pub fn file_plan(
@@ -28,17 +28,17 @@ pub fn file_plan(
     let mut lines = [0u64; NOTES_MOST];
     let r = read_plan(plan, &mut lines);
     if r.fault != 0 {
-        return TextsAnswer::PlanOutside(r.line as u16);
+        return Err(TextsRefusal::PlanOutside(r.line as u16));
     }
     let n = r.count;
     let mut acts = [0u16; Job::STEPS as usize];
     let first = check_lines(text, said, index, plan, &lines[..n], &mut acts);
     if first < n / 3 {
         let w = lines[3 * first + 1];
-        return TextsAnswer::PlanDiffers(notes::line(w) as u16);
+        return Err(TextsRefusal::PlanDiffers(notes::line(w) as u16));
     }
     if n / 3 > Job::STEPS as usize {
-        return TextsAnswer::Refused(Verdict::CountTooHigh);
+        return Err(TextsRefusal::Refused(Refusal::CountTooHigh));
     }
     file_notes(said, numbers, &lines[..n], &acts, names, out)
 }

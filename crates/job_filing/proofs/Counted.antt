@@ -10,6 +10,7 @@ use mir.Val.{Fits}
 use lib.Dec.{ltb}
 use lib.ListN.{length, take, drop, length-append}
 use lib.Seq.{slice, take-append_seam}
+use Rattle.std.specs.Prelude.{Err}
 use Rattle.laws.specs.Search.{any}
 use Rattle.laws.proofs.Search.{or_both}
 use Rattle.laws.proofs.Listed.{length_tabulate}
@@ -25,8 +26,8 @@ use Rattle.job_from_notes.specs.Counted.{tables_in, Walked, Counted}
 use Rattle.job_from_notes.specs.Whole.{longest_job, Writable}
 use Rattle.job_from_notes.proofs.Encoded.{whole_fits}
 use Rattle.job_from_notes.specs.declared.tally.Totals.{Totals}
-use Rattle.texts_answer.specs.declared.TextsAnswer.{TextsAnswer}
-use Rattle.texts_answer.specs.declared.TextsAnswer.TheVariants.{Refused}
+use Rattle.texts_answer.specs.Answer.{TextsAnswer}
+use Rattle.texts_answer.specs.declared.TextsRefusal.TheVariants.{Refused}
 use Rattle.texts_answer.specs.FromTexts.{checked, counted, written}
 use Rattle.job_filing.specs.Filed.{Filed}
 
@@ -120,7 +121,7 @@ module _
     test = ap count_too_high counts ∙ high_is facts levels (length plan / 3) goals t (omega (arith, w.steps))
 
     -- 4
-    pub filed_high : {b : Bool} (out : List ℕ) → b ≡ high facts levels t goals → b ≡ true → Filed job out (Refused CountTooHigh) out
+    pub filed_high : {b : Bool} (out : List ℕ) → b ≡ high facts levels t goals → b ≡ true → Filed job out (Err (Refused CountTooHigh)) out
     unfolding counted written
     filed_high out e h = record { answer = rw (test ∙ sym e ∙ h); buffer = refl }
 

@@ -2,7 +2,7 @@
 use Rattle.std.specs.Prelude.{◌≡◌, List, ℕ, length}
 use Rattle.job.specs.Model.{Model}
 use Rattle.job_encoding.specs.Encode.{encode}
-use Rattle.texts_answer.specs.declared.TextsAnswer.{TextsAnswer}
+use Rattle.texts_answer.specs.Answer.{TextsAnswer}
 use Rattle.texts_answer.specs.FromTexts.{counted, written}
 
 -- of a job

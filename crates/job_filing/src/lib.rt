@@ -13,8 +13,8 @@ use job::layout::{Counts, Job};
 use job_from_notes::file::{LONGEST_JOB, write_job};
 use job_from_notes::tally::{Totals, count_goals, count_records};
 use naming::Names;
-use texts_answer::TextsAnswer;
-use verdict::Verdict;
+use texts_answer::{TextsAnswer, TextsRefusal};
+use verdict::Refusal;
 
 // Checks a job, and writes it out if it is sound and there is room.
 fn file_checked(job: &[u8], out: &mut [u8]) -> TextsAnswer
@@ -22,16 +22,13 @@ fn file_checked(job: &[u8], out: &mut [u8]) -> TextsAnswer
     ensures { (result ≡ checked job.now (length out.old))
         × (out.new ≡ written result job.now out.old) }
 {
-    let v = schedule::check_job(job);
-    if verdict::number(v) != 0 {
-        return TextsAnswer::Refused(v);
-    }
+    schedule::check_job(job)?;
     if out.len() < job.len() {
-        return TextsAnswer::BufferTooShort;
+        return Err(TextsRefusal::BufferTooShort);
     }
     let n = job.len();
     out[..n].copy_from_slice(job);
-    TextsAnswer::Made(n as u32)
+    Ok(n as u32)
 }
 
 // Whether a count of names or records exceeds its highest.
@@ -66,7 +63,7 @@ pub fn file_notes(
     let totals = count_records(said, plan, acts);
     let goals = count_goals(said);
     if too_many(names.facts, names.levels, totals, goals) {
-        return TextsAnswer::Refused(Verdict::CountTooHigh);
+        return Err(TextsRefusal::Refused(Refusal::CountTooHigh));
     }
     let count = Counts {
         facts: names.facts as u16,

@@ -10,7 +10,7 @@ use Rattle.pair_search.specs.declared.answer.PairsAnswer.{PairsAnswer}
 use Rattle.pair_search.specs.Answer as pairs
 use Rattle.partialize.specs.declared.answer.Answer.{Answer}
 use Rattle.partialize.specs.Answer as loosened
-use Rattle.texts_answer.specs.declared.TextsAnswer.{TextsAnswer}
+use Rattle.texts_answer.specs.Answer.{TextsAnswer}
 use Rattle.texts_answer.specs.Answer as texts
 
 abbrev pub packed : ℕ → ℕ → ℕ → ℕ

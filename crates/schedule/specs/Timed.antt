@@ -6,7 +6,7 @@ use Rattle.job.specs.declared.layout.Job.{Job}
 use Rattle.job.specs.Model.{Model, view}
 use Rattle.job.specs.WellFormed.{WellFormed}
 use Rattle.job.specs.Clocked.{clocked}
-use Rattle.validity.specs.declared.Rule.TheVariants.{Conditions, Levels, Needs, Goals}
+use Rattle.validity.specs.declared.Rule.TheVariants.{Levels, Needs, Goals}
 use Rattle.validity.specs.Ticks.{schedule_of}
 use Rattle.validity.specs.Checks.{condition_fails, rule_check}
 use Rattle.points.specs.Points.{PointsKnown, OneValue}
@@ -35,14 +35,12 @@ pub record FormedPoints (m : Model) (x : ℕ → ℕ) (points begins : List ℕ)
   pub form : WellFormed m
   pub known : PointsKnown (clocked m) x points begins
 
--- besides, no two effects that give a fact different values at one tick, and the lowest condition that fails
-pub record Settled (m : Model) (x : ℕ → ℕ) (points begins : List ℕ) (c : ℕ) : Type 0 where
+-- besides, no two effects that give a fact different values at one tick
+pub record Settled (m : Model) (x : ℕ → ℕ) (points begins : List ℕ) : Type 0 where
   pub form : WellFormed m
   pub known : PointsKnown (clocked m) x points begins
   pub one_value : OneValue (clocked m) x
-  pub failing : c ≡ lowest m.conditions (condition_fails (clocked m) x)
 
--- refusals 11 to 13 and 21 after a verdict
-abbrev pub settled_check : Model → (ℕ → ℕ) → Verdict → Verdict
-settled_check m x v =
-    v then rule_check m x Conditions then rule_check m x Levels then rule_check m x Needs then rule_check m x Goals
+-- refusals 12, 13 and 21
+abbrev pub settled_check : Model → (ℕ → ℕ) → Verdict
+settled_check m x = rule_check m x Levels then rule_check m x Needs then rule_check m x Goals

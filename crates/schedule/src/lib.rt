@@ -6,7 +6,7 @@ ghost use Rattle.job.specs.Model.{view};
 ghost use Rattle.job.specs.WellFormed.{Ranged};
 ghost use Rattle.job.specs.Clocked.{clocked};
 ghost use Rattle.job.specs.Laid.{Laid};
-ghost use Rattle.verdict.specs.Verdict.{Accepted, ◌then◌};
+ghost use Rattle.verdict.specs.Verdict.{◌then◌};
 ghost use Rattle.against.specs.Against.{step_check};
 ghost use Rattle.against.specs.Clock.{timed_check};
 ghost use Rattle.validity.specs.declared.Rule.TheVariants.{FixedSteps};
@@ -22,24 +22,24 @@ use job::layout::Job;
 use levels::{bounds, uses};
 use opposing::neighbours::any_mixed;
 use points::words::{FEW_GROUPS, FEW_POINTS, MOST_GROUPS, MOST_POINTS, is_small, list_points};
-use record_check::Form;
 use values::{conditions, effects};
-use verdict::{Verdict, number, refuse_if};
+use verdict::{Refusal, Verdict};
 
-// Refusals 11 to 13 and 21, of a schedule that 10 passes; c is the lowest condition that fails.
-fn check_settled(s: &[u8], job: Job, points: &[u64], begins: &[u16], c: u16) -> Verdict
-    requires { Laid job s.now × ((x : ℕ → ℕ) × Settled (view job s.now) x points.now begins.now c) }
-    ensures { (x : ℕ → ℕ) → Settled (view job s.now) x points.now begins.now c
-        → result ≡ settled_check (clocked (view job s.now)) x Accepted }
+// Refusals 12, 13 and 21, of a schedule that 10 and 11 pass.
+fn check_settled(s: &[u8], job: Job, points: &[u64], begins: &[u16]) -> Verdict
+    requires { Laid job s.now × ((x : ℕ → ℕ) × Settled (view job s.now) x points.now begins.now) }
+    ensures { (x : ℕ → ℕ) → Settled (view job s.now) x points.now begins.now → result ≡ settled_check (clocked (view job s.now)) x }
 {
-    let v = Verdict::Accepted;
-    let v = refuse_if(v, c < job.count.conditions, Verdict::ConditionFails(c));
-    let l = bounds::first_out_of_bounds(s, job, points, begins);
-    let v = refuse_if(v, l < job.count.levels, Verdict::LevelOutOfBounds(l));
-    let d = needs::first_unmet(s, job, points, begins);
-    let v = refuse_if(v, d < job.count.needs, Verdict::NeedUnmet(d));
-    let g = goals::first_missed(s, job, points, begins);
-    refuse_if(v, g < job.count.goals, Verdict::GoalFails(g))
+    if let Some(l) = bounds::first_out_of_bounds(s, job, points, begins) {
+        return Err(Refusal::LevelOutOfBounds(l));
+    }
+    if let Some(n) = needs::first_unmet(s, job, points, begins) {
+        return Err(Refusal::NeedUnmet(n));
+    }
+    if let Some(g) = goals::first_missed(s, job, points, begins) {
+        return Err(Refusal::GoalFails(g));
+    }
+    Ok(())
 }
 
 // Refusals 10 to 13 and 21.
@@ -47,12 +47,13 @@ fn check_timing(s: &[u8], job: Job, starts: &[u32], points: &[u64], begins: &[u1
     requires { FormedPoints (view job s.now) (schedule_of starts.now) points.now begins.now × Laid job s.now }
     ensures { result ≡ timing_check (clocked (view job s.now)) (schedule_of starts.now) }
 {
-    let e = effects::first_conflict(s, job, starts, points, begins);
-    if e < job.count.effects + job.count.timed {
-        return Verdict::EffectsConflict(e);
+    if let Some(e) = effects::first_conflict(s, job, starts, points, begins) {
+        return Err(Refusal::EffectsConflict(e));
     }
-    let c = conditions::first_contested(s, job, starts, points, begins);
-    check_settled(s, job, points, begins, c)
+    if let Some(c) = conditions::first_contested(s, job, starts, points, begins) {
+        return Err(Refusal::ConditionFails(c));
+    }
+    check_settled(s, job, points, begins)
 }
 
 // Refusals 8 and 9.
@@ -61,9 +62,14 @@ fn check_starts(s: &[u8], job: Job, starts: &[u32]) -> Verdict
         then rule_check (clocked (view job s.now)) (schedule_of starts.now) FixedSteps) }
 {
     let other = starts.len() != job.count.steps as usize;
-    let v = refuse_if(Verdict::Accepted, other, Verdict::StartsMiscounted);
-    let k = steps::first_moved(s, job, starts);
-    refuse_if(v, k < job.count.steps, Verdict::FixedStepMoved(k))
+    if other {
+        return Err(Refusal::StartsMiscounted);
+    }
+    let moved = steps::first_moved(s, job, starts);
+    if let Some(k) = moved {
+        return Err(Refusal::FixedStepMoved(k));
+    }
+    Ok(())
 }
 
 // Refusals 8 to 13 and 21, of a well-formed job, rule by rule.
@@ -71,10 +77,7 @@ fn check_formed(s: &[u8], job: Job, starts: &[u32], points: &[u64], begins: &[u1
     requires { FormedPoints (view job s.now) (schedule_of starts.now) points.now begins.now × Laid job s.now }
     ensures { result ≡ starts_check (clocked (view job s.now)) starts.now }
 {
-    let v = check_starts(s, job, starts);
-    if number(v) != 0 {
-        return v;
-    }
+    check_starts(s, job, starts)?;
     check_timing(s, job, starts, points, begins)
 }
 
@@ -84,11 +87,8 @@ fn check_clear(s: &[u8], job: Job, starts: &[u32], points: &[u64], begins: &[u16
         × Clear (clocked (view job s.now)) (schedule_of starts.now) × Laid job s.now }
     ensures { result ≡ starts_check (clocked (view job s.now)) starts.now }
 {
-    let v = check_starts(s, job, starts);
-    if number(v) != 0 {
-        return v;
-    }
-    check_settled(s, job, points, begins, job.count.conditions)
+    check_starts(s, job, starts)?;
+    check_settled(s, job, points, begins)
 }
 
 // Whether the walks find nothing wrong: nothing is against itself, nothing conflicts, and no condition fails.
@@ -102,7 +102,7 @@ fn is_clear(s: &[u8], job: Job, starts: &[u32], points: &[u64], begins: &[u16]) 
     if uses::any_twice(job.count.facts, job.count.levels, points, begins) {
         return false;
     }
-    conditions::first_contested(s, job, starts, points, begins) == job.count.conditions
+    conditions::first_contested(s, job, starts, points, begins).is_none()
 }
 
 // Refusals 7 and 17.
@@ -110,10 +110,7 @@ fn check_against(s: &[u8], job: Job) -> Verdict
     requires { Laid job s.now × Ranged (view job s.now) }
     ensures { result ≡ (step_check (view job s.now) then timed_check (view job s.now)) }
 {
-    let v = self_check::check_steps(s, job);
-    if number(v) != 0 {
-        return v;
-    }
+    self_check::check_steps(s, job)?;
     self_check::clock::check_clock(s, job)
 }
 
@@ -123,10 +120,7 @@ fn check_named(s: &[u8], job: Job, starts: &[u32], points: &[u64], begins: &[u16
     ensures { result ≡ (step_check (view job s.now) then timed_check (view job s.now)
         then starts_check (clocked (view job s.now)) starts.now) }
 {
-    let v = check_against(s, job);
-    if number(v) != 0 {
-        return v;
-    }
+    check_against(s, job)?;
     check_formed(s, job, starts, points, begins)
 }
 
@@ -172,8 +166,8 @@ fn check_read(s: &[u8], job: Job, starts: &[u32]) -> Verdict
     check_ordered(s, job, starts, &points, &begins)
 }
 
-// Refusals 1 to 6, and what was read of the header. A refusal is the job check's.
-pub fn open_job(s: &[u8]) -> Form
+// Refusals 1 to 6, or what was read of the header. A refusal is the job check's.
+pub fn open_job(s: &[u8]) -> Result<Job, Refusal>
     ensures { Opened s.now result }
 {
     record_check::read_records(s)
@@ -192,12 +186,7 @@ pub fn check_planned(s: &[u8], job: Job, starts: &[u32], points: &[u64], begins:
 pub fn check_job(s: &[u8]) -> Verdict
     ensures { JobPromise s.now result }
 {
-    let form = open_job(s);
-    let v = form.verdict;
-    if number(v) != 0 {
-        return v;
-    }
-    let job = form.job;
+    let job = open_job(s)?;
     let n = job.count.steps as usize;
     let starts = ticks::planned_starts(s, job, n);
     check_read(s, job, &starts[..n])
@@ -208,11 +197,6 @@ pub fn check_job(s: &[u8]) -> Verdict
 pub fn check_schedule(s: &[u8], starts: &[u32]) -> Verdict
     ensures { SchedulePromise s.now starts.now result }
 {
-    let form = record_check::read_records(s);
-    let v = form.verdict;
-    if number(v) != 0 {
-        return v;
-    }
-    let job = form.job;
+    let job = record_check::read_records(s)?;
     check_read(s, job, starts)
 }

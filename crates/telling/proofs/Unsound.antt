@@ -1,15 +1,15 @@
--- The verdicts that have no words of their own, whose words are one.
+-- The refusals that have no words of their own, whose words are one.
 use Prim.Native.Nat.{ℕ}
 use mathlib.Core.Path.{◌≡◌, refl}
 use Rattle.spelling.specs.Keywords.{codes}
-use Rattle.verdict.specs.Verdict.{Verdict, Accepted}
+use Rattle.verdict.specs.declared.Refusal.{Refusal}
 use Rattle.verdict.specs.declared.Refusal.TheVariants.{FileTooShort, UnknownEdition, MarkOutOfRange, CountTooHigh, LayoutDisagrees}
 use Rattle.verdict.specs.declared.Refusal.TheVariants.{RecordOutOfRange, StepAgainstItself, StartsMiscounted, FixedStepMoved, EffectsConflict}
 use Rattle.verdict.specs.declared.Refusal.TheVariants.{ConditionFails, LevelOutOfBounds, GoalFails, TimedFactsConflict, NeedUnmet}
 use Rattle.telling.specs.Told.{unsound}
 
--- a verdict without words of its own
-pub record Other (v : Verdict) : Type 0 where
+-- a refusal without words of its own
+pub record Other (v : Refusal) : Type 0 where
   pub count : v ≡ CountTooHigh → ⊥
   pub range : (k : ℕ) → v ≡ RecordOutOfRange k → ⊥
   pub itself : (k : ℕ) → v ≡ StepAgainstItself k → ⊥
@@ -18,9 +18,8 @@ pub record Other (v : Verdict) : Type 0 where
   pub bounds : (k : ℕ) → v ≡ LevelOutOfBounds k → ⊥
   pub goal : (k : ℕ) → v ≡ GoalFails k → ⊥
 
-pub unsound_other : (v : Verdict) → Other v → unsound v ≡ codes "the job is refused"
+pub unsound_other : (v : Refusal) → Other v → unsound v ≡ codes "the job is refused"
 unfolding unsound
-unsound_other Accepted o = refl
 unsound_other FileTooShort o = refl
 unsound_other UnknownEdition o = refl
 unsound_other MarkOutOfRange o = refl

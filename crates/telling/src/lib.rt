@@ -6,8 +6,8 @@ ghost use Rattle.text.specs.Put.{Put, Written};
 ghost use Rattle.telling.specs.Told.{at_line, of_record, unsound, fault, made_line, refused_line, told, fault_most, told_most};
 
 use text::{put_field, put_word};
-use texts_answer::TextsAnswer;
-use verdict::Verdict;
+use texts_answer::{TextsAnswer, TextsRefusal};
+use verdict::Refusal;
 
 // The longest line.
 pub const LONGEST_LINE: usize = 101;
@@ -31,65 +31,64 @@ fn put_of_record(words: &[u8], k: u16, at: usize, out: &mut [u8]) -> usize
 }
 
 // Puts what the job check found.
-fn put_unsound(v: Verdict, at: usize, out: &mut [u8]) -> usize
+fn put_unsound(r: Refusal, at: usize, out: &mut [u8]) -> usize
     requires { at < 1000 }
-    ensures { Put out.old at (unsound v) out.new result × (result ≤ at + fault_most) }
+    ensures { Put out.old at (unsound r) out.new result × (result ≤ at + fault_most) }
 {
-    match v {
-        Verdict::CountTooHigh => put_word(b"more records than a job can have", at, out),
-        Verdict::RecordOutOfRange(k) => put_of_record(
+    match r {
+        Refusal::CountTooHigh => put_word(b"more records than a job can have", at, out),
+        Refusal::RecordOutOfRange(k) => put_of_record(
             b"a start, duration or amount out of its range, record",
             k,
             at,
             out,
         ),
-        Verdict::StepAgainstItself(k) => put_of_record(b"a step against itself, step", k, at, out),
-        Verdict::EffectsConflict(k) => put_of_record(
+        Refusal::StepAgainstItself(k) => put_of_record(b"a step against itself, step", k, at, out),
+        Refusal::EffectsConflict(k) => put_of_record(
             b"two steps set a fact both ways at one tick, effect",
             k,
             at,
             out,
         ),
-        Verdict::ConditionFails(k) => put_of_record(b"a condition fails, condition", k, at, out),
-        Verdict::LevelOutOfBounds(k) => put_of_record(b"a level passes a bound, level", k, at, out),
-        Verdict::GoalFails(k) => put_of_record(b"a goal fails, goal", k, at, out),
+        Refusal::ConditionFails(k) => put_of_record(b"a condition fails, condition", k, at, out),
+        Refusal::LevelOutOfBounds(k) => put_of_record(b"a level passes a bound, level", k, at, out),
+        Refusal::GoalFails(k) => put_of_record(b"a goal fails, goal", k, at, out),
         _ => put_word(b"the job is refused", at, out),
     }
 }
 
 // Puts what is wrong, and where.
-fn put_fault(a: TextsAnswer, at: usize, out: &mut [u8]) -> usize
+fn put_fault(r: TextsRefusal, at: usize, out: &mut [u8]) -> usize
     requires { at < 1000 }
-    ensures { Put out.old at (fault a) out.new result × (result ≤ at + fault_most) }
+    ensures { Put out.old at (fault r) out.new result × (result ≤ at + fault_most) }
 {
-    match a {
-        TextsAnswer::Made(_) => at,
-        TextsAnswer::ActionsOutside(line) => put_at_line(
+    match r {
+        TextsRefusal::ActionsOutside(line) => put_at_line(
             b"the actions are too long or cannot go on so",
             line,
             at,
             out,
         ),
-        TextsAnswer::ActionsTooDeep(line) => put_at_line(
+        TextsRefusal::ActionsTooDeep(line) => put_at_line(
             b"an (and ..) of the actions is deeper than 16",
             line,
             at,
             out,
         ),
-        TextsAnswer::PlanOutside(line) => put_at_line(
+        TextsRefusal::PlanOutside(line) => put_at_line(
             b"the plan is too long or cannot go on so",
             line,
             at,
             out,
         ),
-        TextsAnswer::PlanDiffers(line) => put_at_line(
+        TextsRefusal::PlanDiffers(line) => put_at_line(
             b"no action of this name and duration, plan",
             line,
             at,
             out,
         ),
-        TextsAnswer::Refused(v) => put_unsound(v, at, out),
-        TextsAnswer::BufferTooShort => put_word(b"the job is too long", at, out),
+        TextsRefusal::Refused(found) => put_unsound(found, at, out),
+        TextsRefusal::BufferTooShort => put_word(b"the job is too long", at, out),
     }
 }
 
@@ -102,13 +101,13 @@ fn write_made(n: u32, out: &mut [u8]) -> usize
 }
 
 // Writes the line of a refusal.
-fn write_refused(a: TextsAnswer, out: &mut [u8]) -> usize
-    ensures { Written (refused_line a) out.old out.new result × (result ≤ told_most) }
+fn write_refused(r: TextsRefusal, out: &mut [u8]) -> usize
+    ensures { Written (refused_line r) out.old out.new result × (result ≤ told_most) }
 {
-    let number = put_field(b"refused ", texts_answer::number(a) as usize, 0, out);
-    let place = put_field(b" place ", texts_answer::place(a) as usize, number, out);
+    let number = put_field(b"refused ", r.number() as usize, 0, out);
+    let place = put_field(b" place ", r.place() as usize, number, out);
     let colon = put_word(b": ", place, out);
-    let fault = put_fault(a, colon, out);
+    let fault = put_fault(r, colon, out);
     put_word(b"\n", fault, out)
 }
 
@@ -117,9 +116,8 @@ pub fn tell(answer: TextsAnswer, out: &mut [u8]) -> usize
     ensures written { Written (told answer) out.old out.new result }
     ensures upper_bound { result ≤ told_most }
 {
-    if texts_answer::number(answer) == 0 {
-        write_made(texts_answer::length(answer), out)
-    } else {
-        write_refused(answer, out)
+    match answer {
+        Ok(n) => write_made(n, out),
+        Err(refusal) => write_refused(refusal, out),
     }
 }

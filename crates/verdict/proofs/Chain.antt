@@ -136,12 +136,14 @@ zero_lowest n p refusal h = zero_refuse _ (refusal (lowest n p)) (sym (any_lowes
 pub handed : {A : Type 0} (result : Result A Refusal) {r : Refusal} → IsErrAnd result (λ x. x ≡ r) → result ≡ Err r
 handed result e = let p = err_from_is_err_and result e in p.1 ∙ ap (λ x. Err x) p.2
 
--- v is the code's verdict so far and n its number as the code read it: it stands, or the next check w decides
-pub stands : {v a : Verdict} {n : ℕ} (b : Verdict) → v ≡ a → n ≡ number v → (n ≡ 0 → ⊥) → v ≡ (a then b)
-stands {v} {a} b e q h = e ∙ then_refused a b (λ z. h (q ∙ ap number e ∙ z))
+-- the first of two checks refuses, and so they do; or it passes, and the second decides
+pub err_then : (w : Verdict) {v : Verdict} {r : Refusal} → Err r ≡ v → Err r ≡ (v then w)
+unfolding ◌then◌
+err_then w e = rw (sym e) refl
 
-pub decides : {v a w b : Verdict} {n : ℕ} → v ≡ a → n ≡ number v → n ≡ 0 → w ≡ b → w ≡ (a then b)
-decides {v} {a} {w} {b} e q z g = g ∙ then_accepted a b (sym (ap number e) ∙ sym q ∙ z)
+pub ok_then : {u v w : Verdict} → Accepted ≡ v → u ≡ w → u ≡ (v then w)
+unfolding ◌then◌
+ok_then e g = rw (sym e) g
 
 -- what holds of two checks' verdicts holds of their chain's, and what holds of a refusal and of acceptance holds of either
 pub then_either : (P : Verdict → Type 0) (v w : Verdict) → P v → P w → P (v then w)

@@ -1,9 +1,10 @@
 -- Refusal 7, then 17.
-use Rattle.verdict.proofs.Chain.{stands, decides}
+use mathlib.Core.Path.{◌∙◌}
+use Rattle.verdict.proofs.Chain.{handed, err_then, ok_then}
 use Rattle.schedule.proofs.check_against.Goals as goal
 
-pub returns-then-number-ne0 : goal.returns-then-number-ne0
-returns-then-number-ne0 c = stands _ c.check_steps-v.ensures c.number.ensures c.if-number-ne0.true
+pub returns-in_err-check_steps : goal.returns-in_err-check_steps
+returns-in_err-check_steps c = handed _ c.from_residual.ensures.1 ∙ err_then _ c.in_err-check_steps.ensures
 
 pub returns : goal.returns
-returns c = decides c.check_steps-v.ensures c.number.ensures c.if-number-ne0.false c.check_clock.ensures
+returns c = ok_then c.in_ok-check_steps.ensures c.check_clock.ensures

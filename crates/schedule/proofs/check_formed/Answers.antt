@@ -1,25 +1,16 @@
 -- Refusals 8 and 9, then the timing.
-use Rattle.verdict.proofs.Chain.{stands, decides}
+use Rattle.verdict.proofs.Chain.{handed, err_then, ok_then}
 use Rattle.validity.specs.Checks.{starts_check}
-use borrow.Author.Rules.{rules}
+use mathlib.Core.Path.{◌∙◌}
 use Rattle.schedule.proofs.check_formed.Goals as goal
 
-pub check_starts-v-requires : goal.check_starts-v-requires
+pub returns-in_err-check_starts : goal.returns-in_err-check_starts
 unfolding starts_check
-check_starts-v-requires c = search rules
-
-pub number-requires : goal.number-requires
-unfolding starts_check
-number-requires c = search rules
-
-pub returns-then-number-ne0 : goal.returns-then-number-ne0
-unfolding starts_check
-returns-then-number-ne0 c = stands _ c.check_starts-v.ensures c.number.ensures c.if-number-ne0.true
+returns-in_err-check_starts c = handed _ c.from_residual.ensures.1 ∙ err_then _ c.in_err-check_starts.ensures
 
 pub check_timing-requires : goal.check_timing-requires
-unfolding starts_check
 check_timing-requires c = c.requires
 
 pub returns : goal.returns
 unfolding starts_check
-returns c = decides c.check_starts-v.ensures c.number.ensures c.if-number-ne0.false c.check_timing.ensures
+returns c = ok_then c.in_ok-check_starts.ensures c.check_timing.ensures

@@ -1,60 +1,26 @@
--- The four rules, chained as in `settled_check`.
-use mathlib.Core.Path.{refl, ap₂, ◌∙◌}
+-- The three rules, chained as in `settled_check`.
+use mathlib.Core.Path.{refl, sym, ◌∙◌}
 use Rattle.verdict.specs.Verdict.{◌then◌}
-use Rattle.job.specs.Model.{view}
-use Rattle.job.specs.Clocked.{clocked}
+use Rattle.verdict.proofs.Chain.{some_refused, none_refused}
 use Rattle.job.proofs.Clocked.{clocked_form}
 use Rattle.job.proofs.Ranged.{well_formed_ranged}
-use Rattle.validity.specs.declared.Rule.TheVariants.{Conditions, Levels, Needs, Goals}
-use Rattle.validity.specs.Checks.{rule_check, broken, count_under, refusal_of}
-use Rattle.schedule.proofs.Chained.{by_lowest}
-use borrow.Author.Rules.{rules}
+use Rattle.validity.specs.Checks.{rule_check}
 use Rattle.schedule.proofs.check_settled.Goals as goal
 
-pub refuse_if-v-requires : goal.refuse_if-v-requires
-unfolding rule_check
-refuse_if-v-requires c = search rules
+pub first_out_of_bounds-requires : goal.first_out_of_bounds-requires
+first_out_of_bounds-requires c = let p = c.requires.1 in (p.0, p.1.known)
 
-pub first_out_of_bounds-l-requires : goal.first_out_of_bounds-l-requires
-unfolding rule_check
-first_out_of_bounds-l-requires c = let p = c.requires.1 in (p.0, p.1.known)
+pub returns-in-Some : goal.returns-in-Some
+unfolding rule_check ◌then◌
+returns-in-Some c x p = rw (sym (some_refused _ _ _ (sym c.in-Some.is ∙ c.first_out_of_bounds.ensures x p.known))) refl
 
-pub refuse_if-v-requires-2 : goal.refuse_if-v-requires-2
-unfolding rule_check
-refuse_if-v-requires-2 c = search rules
-
-pub first_unmet-d-requires : goal.first_unmet-d-requires
-unfolding rule_check
-first_unmet-d-requires c =
+pub first_unmet-requires : goal.first_unmet-requires
+first_unmet-requires c =
     let pre = c.requires in
     let p = pre.1 in
     (well_formed_ranged p.1.form, pre.0, (p.0, p.1.known))
 
-pub refuse_if-v-requires-3 : goal.refuse_if-v-requires-3
-unfolding rule_check
-refuse_if-v-requires-3 c = search rules
-
-pub first_missed-g-requires : goal.first_missed-g-requires
-unfolding rule_check
-first_missed-g-requires c =
+pub first_missed-requires : goal.first_missed-requires
+first_missed-requires c =
     let p = c.requires.1 in
     record { form = clocked_form _ p.1.form; known = (p.0, p.1.known) }
-
-pub refuse_if-requires : goal.refuse_if-requires
-unfolding rule_check
-refuse_if-requires c = search rules
-
-pub returns : goal.returns
-unfolding rule_check
-returns c x p =
-    let m = clocked (view c.args.job c.args.s.now) in
-    c.refuse_if.ensures
-    ∙ ap₂ ◌then◌
-    (c.refuse_if-v-3.ensures
-    ∙ ap₂ ◌then◌
-    (c.refuse_if-v-2.ensures
-    ∙ ap₂ ◌then◌
-    (c.refuse_if-v.ensures ∙ ap₂ ◌then◌ refl (by_lowest (count_under m Conditions) (broken m x Conditions) (refusal_of Conditions) p.failing))
-    (by_lowest (count_under m Levels) (broken m x Levels) (refusal_of Levels) (c.first_out_of_bounds-l.ensures x p.known)))
-    (by_lowest (count_under m Needs) (broken m x Needs) (refusal_of Needs) (c.first_unmet-d.ensures x p.known)))
-    (by_lowest (count_under m Goals) (broken m x Goals) (refusal_of Goals) (c.first_missed-g.ensures x p.known p.one_value))

@@ -1,58 +1,44 @@
--- A conflict of effects is refused; without one, the other four rules decide.
+-- A conflict of effects is refused, then a condition that fails; without either, the other three rules decide.
 use Prim.Native.Nat.{ℕ}
-use mathlib.Core.Path.{◌≡◌}
+use mathlib.Core.Path.{◌≡◌, refl, sym, ◌∙◌}
 use mathlib.Core.List.{List}
 use native.Mathlib.Omega.{arith}
-use Rattle.laws.specs.Search.{lowest}
+use Rattle.std.specs.Prelude.{None}
+use Rattle.laws.specs.Search.{lowest, first_where}
 use Rattle.job.specs.Model.{Model}
 use Rattle.job.specs.Clocked.{clocked, ClockedForm}
 use Rattle.job.proofs.Clocked.{clocked_form}
 use Rattle.validity.specs.Ticks.{schedule_of}
+use Rattle.validity.specs.Checks.{conflicts, condition_fails}
 use Rattle.points.specs.Points.{OneValue}
 use Rattle.points.proofs.ClockedRange.{form_range}
 use Rattle.values.specs.Contested.{contested}
 use Rattle.schedule.specs.Timed.{FormedPoints, Settled}
-use Rattle.schedule.proofs.Chained.{conflict_refused, others_decide, none_conflict}
+use Rattle.schedule.proofs.Chained.{none_below, same_where, conflict_refused, condition_refused, others_decide, none_conflict}
 use Rattle.values.proofs.Contested.{contested_lowest}
 use Rattle.schedule.proofs.check_timing.Goals as goal
 
--- what first-contested finds where no two effects conflict
-settled :
-    {m : Model} {x : ℕ → ℕ} {points begins : List ℕ} {c : ℕ} → FormedPoints m x points begins
-    → (ClockedForm (clocked m) → OneValue (clocked m) x)
-    → c ≡ lowest m.conditions (contested (clocked m) x)
-    → Settled m x points begins c
-settled {m} p one found =
-    let form = clocked_form m p.form in
-    record { form = p.form; known = p.known; one_value = one form; failing = contested_lowest _ _ form.keeps_own found }
+-- no two effects conflict
+module _ {m : Model} {x : ℕ → ℕ} {points begins : List ℕ} (p : FormedPoints m x points begins)
+    (none : None ≡ first_where (clocked m).effects (conflicts (clocked m) x)) where
+  form : ClockedForm (clocked m)
+  form = clocked_form m p.form
 
-pub first_conflict-e-requires : goal.first_conflict-e-requires
-first_conflict-e-requires c = let p = c.requires.0 in (p.form, p.known)
+  found : (clocked m).effects ≡ lowest (clocked m).effects (conflicts (clocked m) x)
+  found = none_below _ _ none
 
-pub overflow_add-job : goal.overflow_add-job
-overflow_add-job c = let w = c.requires.0.form in omega (arith, w.effect_count, w.timed_count)
+  one : OneValue (clocked m) x
+  one = none_conflict _ _ form found
 
-pub returns-then-e-job : goal.returns-then-e-job
-returns-then-e-job c = conflict_refused _ _ c.first_conflict-e.ensures c.if-e-job.true
+  settled : Settled m x points begins
+  settled = record { form = p.form; known = p.known; one_value = one }
 
-pub first_contested-c-requires : goal.first_contested-c-requires
-first_contested-c-requires c =
-    let p = c.requires in
-    record {
-      form = form_range (clocked_form _ p.0.form);
-      known = p.0.known;
-      one_value = none_conflict _ _ c.first_conflict-e.ensures (clocked_form _ p.0.form) c.if-e-job.false;
-    }
+  -- so the lowest condition that is contested fails
+  failing : lowest m.conditions (contested (clocked m) x) ≡ lowest m.conditions (condition_fails (clocked m) x)
+  failing = contested_lowest _ _ form.keeps_own refl
 
-pub check_settled-requires : goal.check_settled-requires
-check_settled-requires c =
-    let none = none_conflict _ _ c.first_conflict-e.ensures in
-    (c.requires.1, (schedule_of c.args.starts.now, settled c.requires.0 (λ form. none form c.if-e-job.false) c.first_contested-c.ensures))
+pub first_conflict-requires : goal.first_conflict-requires
+first_conflict-requires c = let p = c.requires.0 in (p.form, p.known)
 
-pub returns : goal.returns
-returns c =
-    let p = c.requires in
-    let found = c.first_conflict-e.ensures in
-    let left = c.if-e-job.false in
-    others_decide _ _ found left
-    (c.check_settled.ensures _ (settled p.0 (λ form. none_conflict _ _ found form left) c.first_contested-c.ensures))
+pub returns-in-Some : goal.returns-in-Some
+returns-in-Some c = conflict_refused _ _ (sym c.in-Some.is ∙ c.first_conflict.ensures)

@@ -58,10 +58,6 @@ pub put_word-requires : goal.put_word-requires
 unfolding fault
 put_word-requires c = search rules
 
-pub returns-in-Made : goal.returns-in-Made
-unfolding fault
-returns-in-Made c = (rw c.in-Made.is (record { bytes = refl; ends = omega arith }), omega arith)
-
 pub shape_of-out-in-ActionsOutside : goal.shape_of-out-in-ActionsOutside
 unfolding fault
 shape_of-out-in-ActionsOutside c = search rules

@@ -38,7 +38,7 @@ pub returns-in_default : goal.returns-in_default
 unfolding unsound
 returns-in_default c =
     let d = c.in_default in
-    let other : Other c.args.v = record {
+    let other : Other c.args.r = record {
       count = d.not-CountTooHigh;
       range = d.not-RecordOutOfRange;
       itself = d.not-StepAgainstItself;
@@ -47,4 +47,4 @@ returns-in_default c =
       bounds = d.not-LevelOutOfBounds;
       goal = d.not-GoalFails;
     } in
-    put_as (unsound_other c.args.v other) (omega arith) c.put_word-in_default.ensures
+    put_as (unsound_other c.args.r other) (omega arith) c.put_word-in_default.ensures
