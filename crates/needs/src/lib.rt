@@ -1,7 +1,7 @@
 // Refusal 21: the needs of each level, in the order of their ticks, beside its uses.
 #![tactic(auto)]
 
-ghost use Rattle.std.specs.Prelude.{◌≡◌, cond, ℕ, min, ◌+◌, ◌≤◌, ◌<◌};
+ghost use Rattle.std.specs.Prelude.{◌≡◌, cond, ℕ, ◌+◌, ◌≤◌, ◌<◌};
 ghost use Rattle.laws.specs.Search.{first_where};
 ghost use Rattle.little_endian.specs.Bytes.{sign_bias};
 ghost use Rattle.job.specs.Clocked.{clocked};

@@ -12,17 +12,13 @@ ghost use Rattle.timeline.specs.Words.{tick_span};
 use job::layout::Job;
 use job_fields::*;
 
-fn wide(start: u32) -> usize
-    ensures { (result ≡ start) × (result < 4294967296) }
-{
-    start as usize
-}
-
 pub fn start_of(starts: &[u32], step: u16) -> usize
     ensures { (result ≡ schedule_of starts.now step) × (result < 4294967296) }
 {
-    let k = step as usize;
-    if k < starts.len() { wide(starts[k]) } else { 0 }
+    match starts.get(usize::from(step)) {
+        Some(start) => *start as usize,
+        None => 0,
+    }
 }
 
 pub fn effect_tick(s: &[u8], job: Job, starts: &[u32], e: u16) -> usize
@@ -45,10 +41,8 @@ pub fn planned_starts(s: &[u8], job: Job, n: usize) -> [u32; Job::STEPS as usize
     ensures { (length result ≡ most_steps) × (take n result ≡ tabulate n (view job s.now).start) }
 {
     let mut starts = [0u32; Job::STEPS as usize];
-    let mut k = 0;
-    while k < n {
+    for k in 0..n {
         starts[k] = step_start(s, job, k as u16) as u32;
-        k += 1;
     }
     starts
 }

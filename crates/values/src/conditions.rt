@@ -1,6 +1,6 @@
 // Refusal 11: conditions that fail, found along the setters of each fact, with those that their own step opposes (7).
-ghost use Rattle.std.specs.Prelude.{◌≡◌, cond, max, min, ◌-◌, ◌≤◌, ◌<◌, eqb, ltb, length};
-ghost use Rattle.laws.specs.Search.{lowest};
+ghost use Rattle.std.specs.Prelude.{◌≡◌, cond, ◌-◌, ◌≤◌, ◌<◌, eqb, ltb, length};
+ghost use Rattle.laws.specs.Search.{first_where};
 ghost use Rattle.job.specs.Clocked.{clocked};
 ghost use Rattle.job.specs.Model.{view};
 ghost use Rattle.timeline.specs.Words.{word_tick, word_number, value_at};
@@ -35,25 +35,6 @@ struct Walk {
     on: usize,
 }
 
-fn larger(a: usize, b: usize) -> usize
-    ensures { result ≡ max a b }
-{
-    if a < b { b } else { a }
-}
-
-fn lower(a: u16, b: u16) -> u16
-    ensures { result ≡ min a b }
-{
-    if a < b { a } else { b }
-}
-
-// The lowest so far with one more number, if that one is found.
-fn noted(best: u16, found: bool, number: u16) -> u16
-    ensures { result ≡ cond found (min best number) best }
-{
-    if found { lower(best, number) } else { best }
-}
-
 // Where the first point can stand, from the walk's place on, that opposes a value.
 fn opposing(walk: Walk, value: u16) -> usize
     ensures { result ≡ cond (eqb value 0) walk.off walk.on }
@@ -71,8 +52,8 @@ fn walk_to(points: &[u64], setters: Setters, word: u64, walk: Walk) -> Walk
         run: walk.run,
     };
     let cursor = advance(points, setters.low, setters.high, tick_of(word), from);
-    let off = larger(cursor.place, walk.off);
-    let on = larger(cursor.place, walk.on);
+    let off = cursor.place.max(walk.off);
+    let on = cursor.place.max(walk.on);
     if value_of(word) == 0 {
         Walk {
             place: cursor.place,
@@ -178,27 +159,31 @@ fn contested_of(
         on: setters.low,
     };
     let mut best = job.count.conditions;
-    let mut q = begin_at(begins, group);
-    while q < end {
+    for q in begin_at(begins, group)..end {
         let word = points[q];
         walk = walk_to(points, setters, word, walk);
-        let found = is_contested(s, job, starts, points, setters, walk, word);
-        best = noted(best, found, number_of(word));
-        q += 1;
+        if is_contested(s, job, starts, points, setters, walk, word) {
+            best = best.min(number_of(word));
+        }
     }
     best
 }
 
-// The lowest contested condition, or the count of conditions.
-pub fn first_contested(s: &[u8], job: Job, starts: &[u32], points: &[u64], begins: &[u16]) -> u16
+// The lowest contested condition, if one is.
+pub fn first_contested(
+    s: &[u8],
+    job: Job,
+    starts: &[u32],
+    points: &[u64],
+    begins: &[u16],
+) -> Option<u16>
     requires { ConditionsKnown (clocked (view job s.now)) (schedule_of starts.now) points.now begins.now }
-    ensures { result ≡ lowest job.count.conditions (contested (clocked (view job s.now)) (schedule_of starts.now)) }
+    ensures { result ≡ first_where job.count.conditions (contested (clocked (view job s.now)) (schedule_of starts.now)) }
 {
-    let mut best = job.count.conditions;
-    let mut fact = 0;
-    while fact < job.count.facts {
-        best = lower(best, contested_of(s, job, starts, points, begins, fact));
-        fact += 1;
+    let n = job.count.conditions;
+    let mut best = n;
+    for fact in 0..job.count.facts {
+        best = best.min(contested_of(s, job, starts, points, begins, fact));
     }
-    best
+    if best < n { Some(best) } else { None }
 }

@@ -1,6 +1,6 @@
 // Refusal 10: opposing effects of two steps, or of a step and the clock, at one tick.
 ghost use Rattle.std.specs.Prelude.{◌≡◌, ◌+◌, ◌<◌};
-ghost use Rattle.laws.specs.Search.{lowest};
+ghost use Rattle.laws.specs.Search.{first_where};
 ghost use Rattle.job.specs.Clocked.{clocked};
 ghost use Rattle.job.specs.Model.{view};
 ghost use Rattle.job.specs.WellFormed.{WellFormed};
@@ -49,30 +49,40 @@ fn conflicts(s: &[u8], job: Job, starts: &[u32], points: &[u64], begins: &[u16],
 
 // The lowest effect that conflicts, found one by one: only jobs that are refused come here. A timed fact conflicts with effects of steps
 // alone, so it is never the lowest.
-fn lowest_conflict(s: &[u8], job: Job, starts: &[u32], points: &[u64], begins: &[u16]) -> u16
+fn lowest_conflict(
+    s: &[u8],
+    job: Job,
+    starts: &[u32],
+    points: &[u64],
+    begins: &[u16],
+) -> Option<u16>
     requires { WellFormed (view job s.now) × PointsKnown (clocked (view job s.now)) (schedule_of starts.now) points.now begins.now }
-    ensures { result ≡ lowest (job.count.effects + job.count.timed)
+    ensures { result ≡ first_where (job.count.effects + job.count.timed)
         (spec.conflicts (clocked (view job s.now)) (schedule_of starts.now)) }
 {
-    let mut e = 0;
-    while e < job.count.effects {
+    for e in 0..job.count.effects {
         if conflicts(s, job, starts, points, begins, e) {
-            return e;
+            return Some(e);
         }
-        e += 1;
     }
-    job.count.effects + job.count.timed
+    None
 }
 
-// The lowest effect that an opposing effect of another step shares a tick with, or the count of effects and timed facts.
-pub fn first_conflict(s: &[u8], job: Job, starts: &[u32], points: &[u64], begins: &[u16]) -> u16
+// The lowest effect that an opposing effect of another step shares a tick with, if one does.
+pub fn first_conflict(
+    s: &[u8],
+    job: Job,
+    starts: &[u32],
+    points: &[u64],
+    begins: &[u16],
+) -> Option<u16>
     requires { WellFormed (view job s.now) × PointsKnown (clocked (view job s.now)) (schedule_of starts.now) points.now begins.now }
-    ensures { result ≡ lowest (job.count.effects + job.count.timed)
+    ensures { result ≡ first_where (job.count.effects + job.count.timed)
         (spec.conflicts (clocked (view job s.now)) (schedule_of starts.now)) }
 {
     if any_mixed(job.count.facts, points, begins) {
         lowest_conflict(s, job, starts, points, begins)
     } else {
-        job.count.effects + job.count.timed
+        None
     }
 }

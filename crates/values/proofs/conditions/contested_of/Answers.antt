@@ -1,8 +1,9 @@
 -- Condition by condition, beside the setters.
-use Prim.Native.Nat.{◌-◌}
+use mathlib.Core.Path.{refl}
 use native.Mathlib.Omega.{arith}
 use Rattle.values.proofs.Walked.{walked_start, walked_listed, walked_before, walked_at, walked_more, walked_end}
 use Rattle.values.proofs.conditions.contested_of.Goals as goal
+use Rattle.values.proofs.conditions.contested_of.Goals.{then-is_contested, else-is_contested}
 
 pub begin_at-requires : goal.begin_at-requires
 begin_at-requires c = let p = c.requires in omega (arith, p.0.known.room, p.1)
@@ -31,17 +32,18 @@ bounds-points-q c = walked_listed c.loop-q.invariant c.loop-q-test.true
 pub walk_to-walk-requires : goal.walk_to-walk-requires
 walk_to-walk-requires c = walked_before c.loop-q.invariant c.loop-q-test.true
 
-pub is_contested-found-requires : goal.is_contested-found-requires
-is_contested-found-requires c = walked_at c.loop-q.invariant c.loop-q-test.true c.walk_to-walk.ensures
-
-pub loop-q-smaller : goal.loop-q-smaller
-loop-q-smaller c = omega (arith, c.loop-q-test.true)
+pub is_contested-requires : goal.is_contested-requires
+is_contested-requires c = walked_at c.loop-q.invariant c.loop-q-test.true c.walk_to-walk.ensures
 
 pub loop-q-preserved : goal.loop-q-preserved
 loop-q-preserved c =
-    walked_more c.loop-q.invariant c.loop-q-test.true
-    c.walk_to-walk.ensures
-    c.number_of.ensures.0 c.is_contested-found.ensures c.noted-best.ensures
+    let so = c.loop-q.invariant in
+    let h = c.loop-q-test.true in
+    elim c.if-is_contested.branch [
+      | then-is_contested w ↦
+          walked_more so h c.walk_to-walk.ensures w.number_of.ensures.0 c.is_contested.ensures (rw w.if-is_contested.true (omega arith))
+      | else-is_contested w ↦ walked_more so h c.walk_to-walk.ensures refl c.is_contested.ensures (rw w.if-is_contested.false w.best-is)
+    ]
 
 pub returns : goal.returns
 returns c = walked_end c.loop-q.invariant c.loop-q-test.false

@@ -1,4 +1,4 @@
-use Prim.Native.Nat.{◌-◌, ◌<◌}
+use Prim.Native.Nat.{◌<◌}
 use Rattle.job.specs.Clocked.{clocked}
 use Rattle.job.specs.Model.{view}
 use Rattle.validity.specs.Ticks.{schedule_of}
@@ -10,6 +10,3 @@ abbrev pub invariant-loop-fact : goal.invariant-loop-fact
 invariant-loop-fact l =
     Noted l.job.count.conditions (contested (clocked (view l.job l.s)) (schedule_of l.starts))
     (λ c. (view l.job l.s).condition_fact c < l.fact) l.best
-
-abbrev pub decreases-loop-fact : goal.decreases-loop-fact
-decreases-loop-fact l = l.job.count.facts - l.fact

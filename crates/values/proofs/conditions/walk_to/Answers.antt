@@ -16,14 +16,14 @@ pub returns-then-value_of-eq0 : goal.returns-then-value_of-eq0
 returns-then-value_of-eq0 c =
     let a = c.advance-cursor.ensures in
     come_there c.requires
-    c.tick_of.ensures.0 a.0 a.1 c.larger-off.ensures
-    c.larger-on.ensures c.opposing_from.ensures
+    c.tick_of.ensures.0 a.0 a.1 c.max-off.ensures
+    c.max-on.ensures c.opposing_from.ensures
     (omega arith, λ p l g. absurd (omega arith))
 
 pub returns-else-value_of-eq0 : goal.returns-else-value_of-eq0
 returns-else-value_of-eq0 c =
     let a = c.advance-cursor.ensures in
     come_there c.requires
-    c.tick_of.ensures.0 a.0 a.1 c.larger-off.ensures
-    c.larger-on.ensures
+    c.tick_of.ensures.0 a.0 a.1 c.max-off.ensures
+    c.max-on.ensures
     (omega arith, λ p l g. absurd (omega arith)) c.opposing_from-else-value_of-eq0.ensures

@@ -1,5 +1,6 @@
 -- Where no fact is mixed, nothing conflicts.
 use native.Mathlib.Omega.{arith}
+use Rattle.laws.proofs.Search.{none_is}
 use Rattle.job.specs.Clocked.{clocked}
 use Rattle.job.specs.Model.{view}
 use Rattle.job.proofs.Clocked.{clocked_form}
@@ -13,9 +14,6 @@ any_mixed-requires c = facts_listed c.requires.1
 pub lowest_conflict-requires : goal.lowest_conflict-requires
 lowest_conflict-requires c = c.requires
 
-pub overflow_add-result : goal.overflow_add-result
-overflow_add-result c = let p = c.requires in omega (arith, p.0.effect_count, p.0.timed_count)
-
 pub returns-then-any_mixed : goal.returns-then-any_mixed
 returns-then-any_mixed c = c.lowest_conflict.ensures
 
@@ -23,5 +21,6 @@ pub returns-else-any_mixed : goal.returns-else-any_mixed
 returns-else-any_mixed c =
     let m = view c.args.job c.args.s.now in
     let p = c.requires in
-    one_value_lowest (clocked m) (schedule_of c.args.starts.now)
-    (unmixed_one p.1 (clocked_form m p.0).effect_fact (c.any_mixed.ensures c.if-any_mixed.false))
+    none_is _ _ _
+    (one_value_lowest (clocked m) (schedule_of c.args.starts.now)
+    (unmixed_one p.1 (clocked_form m p.0).effect_fact (c.any_mixed.ensures c.if-any_mixed.false))) (omega arith)

@@ -1,4 +1,3 @@
-use Prim.Native.Nat.{◌-◌, ◌≤◌}
 use mathlib.Core.Path.{◌≡◌}
 use Rattle.laws.specs.Search.{lowest}
 use Rattle.job.specs.Clocked.{clocked}
@@ -8,8 +7,4 @@ use Rattle.validity.specs.Checks.{conflicts}
 use Rattle.values.proofs.effects.lowest_conflict.Given as goal
 
 abbrev pub invariant-loop-e : goal.invariant-loop-e
-invariant-loop-e l =
-    (l.e ≤ l.job.count.effects) × (lowest l.e (conflicts (clocked (view l.job l.s)) (schedule_of l.starts)) ≡ l.e)
-
-abbrev pub decreases-loop-e : goal.decreases-loop-e
-decreases-loop-e l = l.job.count.effects - l.e
+invariant-loop-e l = lowest l.e (conflicts (clocked (view l.job l.s)) (schedule_of l.starts)) ≡ l.e
