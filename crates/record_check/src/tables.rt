@@ -19,8 +19,7 @@ fn table_after(before: Verdict, s: &[u8], job: Job, table: Table) -> Verdict
         return before;
     }
     let n = count_in(job, table);
-    let k = first_broken(s, job, table, n);
-    if k < n {
+    if let Some(k) = first_broken(s, job, table, n) {
         Verdict::RecordOutOfRange(k)
     } else {
         Verdict::Accepted

@@ -1,11 +1,14 @@
 -- A rule's refusal in the chain, by the lowest that breaks it, and what a timing without conflicts is.
 use Prim.Native.Nat.{ℕ, ◌≤◌, ◌<◌}
-use mathlib.Core.Path.{◌≡◌, ap, subst, ◌∙◌}
+use mathlib.Core.Path.{◌≡◌, refl, sym, ap, subst, ◌∙◌}
 use mathlib.Core.Bool.{Bool}
+use native.Mathlib.Decide.{dec_lt}
 use native.Mathlib.Omega.{arith}
+use borrow.Author.Tests.{lt-ltb, le-ltb}
 use lib.Dec.{ltb}
-use Rattle.laws.specs.Search.{lowest}
-use Rattle.laws.proofs.Search.{lowest_facts}
+use Rattle.std.specs.Prelude.{Option, unwrap_or}
+use Rattle.laws.specs.Search.{lowest, first_where}
+use Rattle.laws.proofs.Search.{lowest_facts, lowest_le}
 use Rattle.verdict.specs.declared.Verdict.{Verdict}
 use Rattle.verdict.specs.declared.Verdict.TheVariants.{Accepted, EffectsConflict}
 use Rattle.verdict.specs.Verdict.{number, ◌then◌, refuse_if, refuse_lowest}
@@ -18,6 +21,16 @@ use Rattle.validity.proofs.Tested.{conflicts_none}
 use Rattle.points.specs.Points.{OneValue}
 use Rattle.points.proofs.Placed.{one_value_lem}
 use Rattle.schedule.specs.Timed.{settled_check}
+
+-- what a search hands back, or its bound, is the lowest
+pub or_lowest : (n : ℕ) (p : ℕ → Bool) {r : Option ℕ} {k : ℕ} → r ≡ first_where n p → k ≡ unwrap_or r n → k ≡ lowest n p
+unfolding first_where
+or_lowest n p {r} {k} e q =
+    q ∙ ap (λ o. unwrap_or o n) e
+    ∙ elim (dec_lt (lowest n p) n) [
+      | yes l ↦ rw (lt-ltb (lowest n p) n l) refl
+      | no l ↦ rw (le-ltb (lowest n p) n (omega arith)) (omega (arith, lowest_le p n))
+    ]
 
 -- a refusal by the lowest that was found
 pub by_lowest :

@@ -35,11 +35,11 @@ fn check_settled(s: &[u8], job: Job, points: &[u64], begins: &[u16], c: u16) -> 
 {
     let v = Verdict::Accepted;
     let v = refuse_if(v, c < job.count.conditions, Verdict::ConditionFails(c));
-    let l = bounds::first_out_of_bounds(s, job, points, begins);
+    let l = bounds::first_out_of_bounds(s, job, points, begins).unwrap_or(job.count.levels);
     let v = refuse_if(v, l < job.count.levels, Verdict::LevelOutOfBounds(l));
-    let d = needs::first_unmet(s, job, points, begins);
+    let d = needs::first_unmet(s, job, points, begins).unwrap_or(job.count.needs);
     let v = refuse_if(v, d < job.count.needs, Verdict::NeedUnmet(d));
-    let g = goals::first_missed(s, job, points, begins);
+    let g = goals::first_missed(s, job, points, begins).unwrap_or(job.count.goals);
     refuse_if(v, g < job.count.goals, Verdict::GoalFails(g))
 }
 
@@ -48,11 +48,14 @@ fn check_timing(s: &[u8], job: Job, starts: &[u32], points: &[u64], begins: &[u1
     requires { FormedPoints (view job s.now) (schedule_of starts.now) points.now begins.now × Laid job s.now }
     ensures { result ≡ timing_check (clocked (view job s.now)) (schedule_of starts.now) }
 {
-    let e = effects::first_conflict(s, job, starts, points, begins);
-    if e < job.count.effects + job.count.timed {
+    let all = job.count.effects + job.count.timed;
+    let e = effects::first_conflict(s, job, starts, points, begins).unwrap_or(all);
+    if e < all {
         return Verdict::EffectsConflict(e);
     }
-    let c = conditions::first_contested(s, job, starts, points, begins);
+    let c = conditions::first_contested(s, job, starts, points, begins).unwrap_or(
+        job.count.conditions,
+    );
     check_settled(s, job, points, begins, c)
 }
 
@@ -63,7 +66,7 @@ fn check_starts(s: &[u8], job: Job, starts: &[u32]) -> Verdict
 {
     let other = starts.len() != job.count.steps as usize;
     let v = refuse_if(Verdict::Accepted, other, Verdict::StartsMiscounted);
-    let k = steps::first_moved(s, job, starts);
+    let k = steps::first_moved(s, job, starts).unwrap_or(job.count.steps);
     refuse_if(v, k < job.count.steps, Verdict::FixedStepMoved(k))
 }
 
@@ -103,7 +106,8 @@ fn is_clear(s: &[u8], job: Job, starts: &[u32], points: &[u64], begins: &[u16]) 
     if uses::any_twice(job.count.facts, job.count.levels, points, begins) {
         return false;
     }
-    conditions::first_contested(s, job, starts, points, begins) == job.count.conditions
+    let n = job.count.conditions;
+    conditions::first_contested(s, job, starts, points, begins).unwrap_or(n) == n
 }
 
 // Refusals 7 and 17.

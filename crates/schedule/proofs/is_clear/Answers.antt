@@ -6,6 +6,7 @@ use Rattle.points.proofs.ClockedRange.{clocked_range}
 use Rattle.values.proofs.Conflicts.{facts_listed, unmixed_one}
 use Rattle.levels.proofs.UsesApart.{levels_listed, apart_one_use}
 use Rattle.values.proofs.Contested.{contested_lowest, own_kept}
+use Rattle.schedule.proofs.Chained.{or_lowest}
 use Rattle.schedule.proofs.is_clear.Goals as goal
 
 pub any_mixed-requires : goal.any_mixed-requires
@@ -30,7 +31,7 @@ first_contested-requires c =
 pub returns : goal.returns
 returns c t =
     let p = c.requires in
-    let none = sym (eqb-true _ _ t) ∙ c.first_contested.ensures in
+    let none = sym (eqb-true _ _ t) ∙ or_lowest _ _ c.first_contested.ensures c.unwrap_or.ensures in
     let keeps = own_kept _ _ none in
     let unmixed = c.any_mixed.ensures c.if-any_mixed.false in
     record {

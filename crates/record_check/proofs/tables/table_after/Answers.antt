@@ -2,7 +2,8 @@
 use mathlib.Core.Path.{sym, ◌∙◌}
 use native.Mathlib.Omega.{arith}
 use Rattle.record_check.specs.Records.{table_check}
-use Rattle.verdict.proofs.Chain.{then_refused, then_accepted, lowest_refused, lowest_passed}
+use Rattle.record_check.proofs.Refused.{some_refused, none_refused}
+use Rattle.verdict.proofs.Chain.{then_refused, then_accepted}
 use borrow.Author.Rules.{rules}
 use Rattle.record_check.proofs.tables.table_after.Goals as goal
 
@@ -18,20 +19,19 @@ pub count_in-n-requires : goal.count_in-n-requires
 unfolding table_check
 count_in-n-requires c = search rules
 
-pub first_broken-k-requires : goal.first_broken-k-requires
-unfolding table_check
-first_broken-k-requires c = (c.requires, omega (arith, c.count_in-n.ensures c.args.s.now))
+pub first_broken-requires : goal.first_broken-requires
+first_broken-requires c = (c.requires, omega (arith, c.count_in-n.ensures c.args.s.now))
 
-pub returns-then-k-n : goal.returns-then-k-n
+pub returns-in-Some : goal.returns-in-Some
 unfolding table_check
-returns-then-k-n c =
+returns-in-Some c =
     let n = c.count_in-n.ensures c.args.s.now in
-    lowest_refused _ _ _ (rw n at c.first_broken-k.ensures) (rw n at c.if-k-n.true)
+    some_refused _ _ _ (sym c.in-Some.is ∙ (rw n at c.first_broken.ensures))
     ∙ then_accepted _ _ (sym c.number.ensures ∙ c.if-number-ne0.false)
 
-pub returns-else-k-n : goal.returns-else-k-n
+pub returns-in_default : goal.returns-in_default
 unfolding table_check
-returns-else-k-n c =
+returns-in_default c =
     let n = c.count_in-n.ensures c.args.s.now in
-    lowest_passed _ _ _ (rw n at c.first_broken-k.ensures) (rw n at c.if-k-n.false)
+    none_refused _ _ _ (sym c.in_default.is ∙ (rw n at c.first_broken.ensures))
     ∙ then_accepted _ _ (sym c.number.ensures ∙ c.if-number-ne0.false)
