@@ -80,6 +80,14 @@ module _ {points : List ℕ} {low high t place run : ℕ} (so : Walking points l
             ];
       }
 
+  -- where nothing stands at the place, it is the end
+  pub walking_done : high ≤ place → Parted points low high t high × Run points low high run
+  walking_done h =
+      let to : place ≤ high = so.to in
+      let e : place ≡ high = omega arith in
+      let parted : Parted points low high t place = walking_ends (λ l. absurd (omega arith)) in
+      (rw e at parted, rw e at so.run)
+
 module _ {points : List ℕ} {low at run : ℕ} where
   -- the last point is alike by itself
   pub alike_start : low < at → run ≡ at - 1 → Alike points low at run
@@ -103,10 +111,13 @@ module _ {points : List ℕ} {low at run : ℕ} where
             ];
       }
 
-  pub alike_run : (low < run → value_at points (run - 1) ≡ value_at points (at - 1) → ⊥) → Alike points low at run → Run points low at run
-  alike_run turned so =
+  pub alike_run :
+      {begin : ℕ} → run ≡ begin → (low < run → value_at points (run - 1) ≡ value_at points (at - 1) → ⊥) → Alike points low at run
+      → Run points low at begin
+  alike_run e turned so =
       let some : run < at = so.some in
-      record { from = so.from; to = omega arith; some = λ _. some; alike = so.alike; turned = turned }
+      let run : Run points low at run = record { from = so.from; to = omega arith; some = λ _. some; alike = so.alike; turned = turned } in
+      rw e at run
 
   -- a group of nothing has no run
   pub run_none : low ≤ at → at ≤ low → run ≡ at → Run points low at run

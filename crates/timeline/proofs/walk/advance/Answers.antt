@@ -1,7 +1,6 @@
 -- What stands before the place is before t, up to the first that is not.
-use Prim.Native.Nat.{◌-◌}
 use native.Mathlib.Omega.{arith}
-use Rattle.timeline.proofs.Walking.{walking_more, walking_ends}
+use Rattle.timeline.proofs.Walking.{walking_more, walking_ends, walking_done}
 use Rattle.timeline.proofs.walk.advance.Goals as goal
 
 pub loop-place-init : goal.loop-place-init
@@ -18,9 +17,6 @@ returns-then-t-tick_of c =
 pub run_with-run-requires : goal.run_with-run-requires
 run_with-run-requires c = let so = c.loop-place.invariant in (so.from, omega (arith, so.ends, c.loop-place-test.true))
 
-pub loop-place-smaller : goal.loop-place-smaller
-loop-place-smaller c = omega (arith, c.loop-place-test.true)
-
 pub loop-place-preserved : goal.loop-place-preserved
 loop-place-preserved c =
     let so = c.loop-place.invariant in
@@ -28,5 +24,4 @@ loop-place-preserved c =
     (omega (arith, c.tick_of.ensures.0, c.if-t-tick_of.false)) (c.run_with-run.ensures so.run)
 
 pub returns : goal.returns
-returns c =
-    let so = c.loop-place.invariant in (walking_ends so (λ l. absurd (omega (arith, c.loop-place-test.false))), so.run)
+returns c = walking_done c.loop-place.invariant c.loop-place-test.false
