@@ -5,17 +5,11 @@ ghost use Rattle.std.specs.Prelude.{◌≡◌, ◌+◌, ◌≤◌, ◌<◌, leb,
 ghost use Rattle.std.proofs.lemmas.List.Edits.{sets};
 ghost use Rattle.little_endian.specs.Bytes.{u16_values, u32_values, byte_at, u16_at, u32_at, biased_at, u16_bytes, u32_bytes};
 
-fn wide(b: u8) -> usize
-    ensures { (result ≡ b) × (result < 256) }
-{
-    b as usize
-}
-
 // The byte at a position, 0 past the end.
 pub fn byte_at(s: &[u8], at: usize) -> usize
     ensures { (result ≡ byte_at s.now at) × (result < 256) }
 {
-    if at < s.len() { wide(s[at]) } else { 0 }
+    if at < s.len() { usize::from(s[at]) } else { 0 }
 }
 
 // Positions below this are near: a u16 added to one cannot overflow.
@@ -40,7 +34,7 @@ pub fn u16_within(s: &[u8], at: usize) -> usize
     requires { at + 2 ≤ length s.now }
     ensures { (result ≡ u16_at s.now at) × (result < u16_values) }
 {
-    wide(s[at]) + 256 * wide(s[at + 1])
+    usize::from(s[at]) + 256 * usize::from(s[at + 1])
 }
 
 // The u16 that starts at a position; its bytes past the end count as 0.

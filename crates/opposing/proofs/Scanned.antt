@@ -1,6 +1,6 @@
 -- Scans along the points of a group: what they pass, and what they find.
-use Prim.Native.Nat.{ℕ, ◌+◌, ◌≤◌, ◌<◌}
-use mathlib.Core.Path.{◌≡◌, refl, sym, ap, ap₂, ◌∙◌}
+use Prim.Native.Nat.{ℕ, ◌≤◌, ◌<◌}
+use mathlib.Core.Path.{◌≡◌, refl, ap, ap₂}
 use mathlib.Core.Bool.{Bool, true, false, not, ◌&&◌}
 use mathlib.Core.List.{List}
 use native.Mathlib.Decide.{dec_lt}
@@ -8,8 +8,8 @@ use native.Mathlib.Omega.{arith}
 use borrow.Author.Tests.{eqb-false, not-true, ne_eqb}
 use lib.ListN.{get_or}
 use Rattle.laws.proofs.Search.{contrary, and_both}
-use Rattle.timeline.specs.Words.{word_step, word_value, tick_at, value_at}
-use Rattle.opposing.specs.Against.{against, Rising, OfValue, Scanned, Past}
+use Rattle.timeline.specs.Words.{word_step, word_value, tick_at}
+use Rattle.opposing.specs.Against.{against, Rising, Scanned, Past}
 
 pub against_out : (word value step : ℕ) → against word value step ≡ true → (word_step word ≡ step → ⊥) × (word_value word ≡ value → ⊥)
 unfolding against
@@ -29,26 +29,8 @@ module _ {test : ℕ → Bool} {low : ℕ} where
   pub passed_start : {place : ℕ} → place ≡ low → Passed test low place
   passed_start e = record { from = omega arith; none = λ p l g. absurd (omega arith) }
 
-  pub passed_more : {place : ℕ} {r : Bool} → Passed test low place → r ≡ test place → r ≡ false → Passed test low (place + 1)
-  passed_more {place} so e n =
-      let from : low ≤ place = so.from in
-      record {
-        from = omega arith;
-        none = λ p l g.
-            elim (dec_lt p place) [
-              | yes i ↦ so.none p l i
-              | no i ↦ ap test (let q : p ≡ place = omega arith in q) ∙ sym e ∙ n
-            ];
-      }
-
 -- A scan for a point that stands against a value and a step, up to a last tick.
 module _ {points : List ℕ} {value step low place : ℕ} (so : Passed (λ p. against (get_or points p 0) value step) low place) {high last : ℕ} where
-  pub scan_found :
-      {r : Bool} → place < high → tick_at points place ≤ last → r ≡ against (get_or points place 0) value step → r ≡ true
-      → Scanned points low high last value step true
-  scan_found h early e t =
-      record { hit = λ _. (place, so.from, h, early, sym e ∙ t); none = λ n. contrary refl n }
-
   -- what stands from the place on is after the last tick
   pub scan_ends : ((p : ℕ) → place ≤ p → p < high → last < tick_at points p) → Scanned points low high last value step false
   scan_ends late =
@@ -58,15 +40,6 @@ module _ {points : List ℕ} {value step low place : ℕ} (so : Passed (λ p. ag
             elim (dec_lt p place) [ yes i ↦ so.none p l i | no i ↦ let k : last < tick_at points p = late p (omega arith) g in absurd (omega arith) ];
       }
 
-  pub scan_past : Rising points low high → last < tick_at points place → Scanned points low high last value step false
-  scan_past rises past =
-      scan_ends
-      (λ p l g.
-      elim (dec_lt place p) [
-        | yes i ↦ let up : tick_at points place ≤ tick_at points p = rises place p so.from i g in omega arith
-        | no i ↦ let e : tick_at points p ≡ tick_at points place = ap (tick_at points) (let q : p ≡ place = omega arith in q) in omega arith
-      ])
-
 -- where the first point lies after the last tick, all do
 pub rising_past :
     (points : List ℕ) (from high last : ℕ) → Rising points from high → last < tick_at points from → Past points from high last
@@ -75,10 +48,3 @@ rising_past points from high last rises past p l g =
       | yes i ↦ let up : tick_at points from ≤ tick_at points p = rises from p (omega arith) i g in omega arith
       | no i ↦ let e : tick_at points p ≡ tick_at points from = ap (tick_at points) (let q : p ≡ from = omega arith in q) in omega arith
     ]
-
--- one more point of the value
-pub of_value_more :
-    (points : List ℕ) {from place value : ℕ} → OfValue points from place value → value_at points place ≡ value
-    → OfValue points from (place + 1) value
-of_value_more points {from} {place} so e p l g =
-    elim (dec_lt p place) [ yes i ↦ so p l i | no i ↦ ap (value_at points) (let q : p ≡ place = omega arith in q) ∙ e ]

@@ -18,12 +18,10 @@ fn mixed(points: &[u64], begins: &[u16], fact: usize) -> bool
     ensures { result ≡ false → Unmixed points.now (get_or begins.now fact 0) (get_or begins.now (fact + 1) 0) }
 {
     let end = begin_at(begins, fact + 1);
-    let mut p = begin_at(begins, fact) + 1;
-    while p < end {
+    for p in begin_at(begins, fact) + 1..end {
         if differ(points[p - 1], points[p]) {
             return true;
         }
-        p += 1;
     }
     false
 }
@@ -33,12 +31,10 @@ pub fn any_mixed(facts: u16, points: &[u64], begins: &[u16]) -> bool
     requires { FactsListed facts points.now begins.now }
     ensures { result ≡ false → FactsUnmixed facts points.now begins.now }
 {
-    let mut fact = 0;
-    while fact < facts {
+    for fact in 0..facts {
         if mixed(points, begins, fact as usize) {
             return true;
         }
-        fact += 1;
     }
     false
 }

@@ -24,32 +24,28 @@ pub fn opposed_from(
     requires { (high ≤ length points.now) × Rising points.now from high }
     ensures { Scanned points.now from high last value step result }
 {
-    let mut p = from;
-    while p < high {
+    for p in from..high {
         if last < tick_of(points[p]) {
             return false;
         }
         if against(points[p], value, step) {
             return true;
         }
-        p += 1;
     }
     false
 }
 
-// The first place from `from` on where the value is another.
+// The first place from `from` on where the value is another; the end, or `from` where that is past it, if there is none.
 pub fn opposing_from(points: &[u64], from: usize, high: usize, value: u16) -> usize
     requires { high ≤ length points.now }
     ensures { (from ≤ result) × OfValue points.now from result value }
 {
-    let mut p = from;
-    while p < high {
+    for p in from..high {
         if value_of(points[p]) != value {
             return p;
         }
-        p += 1;
     }
-    p
+    from.max(high)
 }
 
 // Whether no point from a place on lies up to tick `last`.

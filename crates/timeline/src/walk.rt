@@ -32,16 +32,14 @@ pub fn advance(points: &[u64], low: usize, high: usize, t: usize, from: Cursor) 
     requires { Walking points.now low high t from }
     ensures { Parted points.now low high t result.place × Run points.now low result.place result.run }
 {
-    let mut place = from.place;
     let mut run = from.run;
-    while place < high {
+    for place in from.place..high {
         if t <= tick_of(points[place]) {
             return Cursor { place, run };
         }
         run = run_with(points, low, place, run);
-        place += 1;
     }
-    Cursor { place, run }
+    Cursor { place: high, run }
 }
 
 // Where the run of one value that ends a group begins.
@@ -53,12 +51,10 @@ pub fn last_run(points: &[u64], low: usize, high: usize) -> usize
         return high;
     }
     let value = value_of(points[high - 1]);
-    let mut run = high - 1;
-    while low < run {
-        if value_of(points[run - 1]) != value {
-            return run;
+    for place in (low..high - 1).rev() {
+        if value_of(points[place]) != value {
+            return place + 1;
         }
-        run -= 1;
     }
-    run
+    low
 }

@@ -60,16 +60,10 @@ pub fn group_of(word: u64) -> usize
     (word / GROUP_UNIT) as usize
 }
 
-fn wide(place: u16) -> usize
-    ensures { (result ≡ place) × (result < 65536) }
-{
-    place as usize
-}
-
 // Where a group begins in the list of points; the next one begins where it ends.
 pub fn begin_at(begins: &[u16], group: usize) -> usize
     requires { group < length begins.now }
     ensures { (result ≡ get_or begins.now group 0) × (result < 65536) }
 {
-    wide(begins[group])
+    usize::from(begins[group])
 }

@@ -1,9 +1,5 @@
-use Prim.Native.Nat.{◌-◌}
 use Rattle.opposing.specs.Against.{FactsUnmixed}
 use Rattle.opposing.proofs.neighbours.any_mixed.Given as goal
 
 abbrev pub invariant-loop-fact : goal.invariant-loop-fact
 invariant-loop-fact l = FactsUnmixed l.fact l.points l.begins
-
-abbrev pub decreases-loop-fact : goal.decreases-loop-fact
-decreases-loop-fact l = l.facts - l.fact

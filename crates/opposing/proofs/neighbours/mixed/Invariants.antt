@@ -1,9 +1,6 @@
-use Prim.Native.Nat.{◌-◌}
-use Rattle.opposing.proofs.Unmixed.{Neighbours}
+use lib.ListN.{get_or}
+use Rattle.opposing.specs.Against.{Unmixed}
 use Rattle.opposing.proofs.neighbours.mixed.Given as goal
 
 abbrev pub invariant-loop-p : goal.invariant-loop-p
-invariant-loop-p l = Neighbours l.points l.begins l.fact l.end l.p
-
-abbrev pub decreases-loop-p : goal.decreases-loop-p
-decreases-loop-p l = l.end - l.p
+invariant-loop-p l = Unmixed l.points (get_or l.begins l.fact 0) l.p

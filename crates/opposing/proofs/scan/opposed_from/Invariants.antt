@@ -1,4 +1,3 @@
-use Prim.Native.Nat.{◌-◌}
 use lib.ListN.{get_or}
 use Rattle.opposing.specs.Against.{against}
 use Rattle.opposing.proofs.Scanned.{Passed}
@@ -6,6 +5,3 @@ use Rattle.opposing.proofs.scan.opposed_from.Given as goal
 
 abbrev pub invariant-loop-p : goal.invariant-loop-p
 invariant-loop-p l = Passed (λ p. against (get_or l.points p 0) l.value l.step) l.from l.p
-
-abbrev pub decreases-loop-p : goal.decreases-loop-p
-decreases-loop-p l = l.high - l.p

@@ -1,9 +1,5 @@
-use Prim.Native.Nat.{◌-◌}
 use Rattle.timeline.specs.Walking.{Walking}
 use Rattle.timeline.proofs.walk.advance.Given as goal
 
 abbrev pub invariant-loop-place : goal.invariant-loop-place
 invariant-loop-place l = Walking l.points l.low l.high l.t (record { place = l.place; run = l.run })
-
-abbrev pub decreases-loop-place : goal.decreases-loop-place
-decreases-loop-place l = l.high - l.place
