@@ -25,6 +25,8 @@ use Rattle.orders.proofs.Near.{from_near, to_near, use_near, need_near}
 use Rattle.origins.specs.declared.Fact.{Fact}
 use Rattle.origins.specs.declared.Origin.{Origin}
 use Rattle.origins.specs.declared.Span.{Span}
+use Rattle.origins.specs.declared.Turn.{Turn}
+use Rattle.origins.specs.declared.Turn.TheVariants.{Same, Other}
 use Rattle.origins.specs.Raised.{Raised}
 use Rattle.gaps.specs.Rules.{ValidPoints}
 use Rattle.origins.specs.Points.{point_origin, last_origin, Group, FactKnown, Reached, Among}
@@ -44,7 +46,7 @@ module _ {fact given : Fact} (e : fact ≡ given) where
   given_reached n m x points before after w = subst (λ f. Reached n (FactOrder m x points f) before after) e w
 
 pub given_points :
-    (n : ℕ) (x : ℕ → ℕ) (points before after : List ℕ) (turn : ℕ) {low high low' high' : ℕ} → low ≡ low' → high ≡ high'
+    (n : ℕ) (x : ℕ → ℕ) (points before after : List ℕ) (turn : Turn) {low high low' high' : ℕ} → low ≡ low' → high ≡ high'
     → Reached n (FromPoints x points low high turn) before after
     → Reached n (FromPoints x points low' high' turn) before after
 given_points n x points before after turn {low} {high} {low'} {high'} d e w =
@@ -65,10 +67,10 @@ given_between n x points before after {first} {second} {first'} {second'} d e w 
 
 -- the orders of rule 2 of a fact, and of rule 4 and the needs of a level of a job of so many facts and levels
 abbrev pub OpposingOrder : (ℕ → ℕ) → List ℕ → List ℕ → ℕ → ℕ → ℕ → ℕ → Type 0
-OpposingOrder x points begins f = FromPoints x points (get_or begins f 0) (get_or begins (f + 1) 0) 1
+OpposingOrder x points begins f = FromPoints x points (get_or begins f 0) (get_or begins (f + 1) 0) Other
 
 abbrev pub LevelOrder : ℕ → (ℕ → ℕ) → List ℕ → List ℕ → ℕ → ℕ → ℕ → ℕ → Type 0
-LevelOrder facts x points begins l = FromPoints x points (get_or begins (facts + facts + l) 0) (get_or begins (facts + facts + l + 1) 0) 0
+LevelOrder facts x points begins l = FromPoints x points (get_or begins (facts + facts + l) 0) (get_or begins (facts + facts + l + 1) 0) Same
 
 abbrev pub NeedOrder : ℕ → ℕ → (ℕ → ℕ) → List ℕ → List ℕ → ℕ → ℕ → ℕ → ℕ → Type 0
 NeedOrder facts levels x points begins l = Between x points (span_at begins (facts + facts + l)) (span_at begins (facts + facts + levels + l))
@@ -129,7 +131,7 @@ module _ {m : Model} {x : ℕ → ℕ} {points begins : List ℕ} where
       → ((a b : ℕ) → second.group b ≡ first.group a → fits a b ≡ true)
       → ((a b : ℕ) → fits a b ≡ true → second.group b ≡ first.group a)
       → ((a b : ℕ) → sooner a b ≡ ltb (first.tick a) (second.tick b))
-      → Rule m x points begins first second (point_origin x 0) first.at 1 0 fits sooner
+      → Rule m x points begins first second (point_origin x Same) first.at 1 0 fits sooner
   level_rule {first} {second} fits sooner alike none fitting fitted same =
       record {
         from = λ w. refl;
@@ -226,11 +228,11 @@ module _ {m : Model} {x : ℕ → ℕ} {points begins : List ℕ} where
 
     -- Rule 2.
     opposing_is :
-        Rule m x points begins effect_list effect_list (point_origin x 1) m.effect_at 1 1 (λ e f. opposes m e (m.effect_fact f) (m.effect_value f))
+        Rule m x points begins effect_list effect_list (point_origin x Other) m.effect_at 1 1 (λ e f. opposes m e (m.effect_fact f) (m.effect_value f))
         (λ e f. ltb (effect_tick m x e) (effect_tick m x f))
     unfolding effect_list
     opposing_is =
-        opposing_rule (point_origin x 1) m.effect_at 1 _ _ (λ w. refl) (λ w. refl) (λ w. refl) refl (λ e f. refl)
+        opposing_rule (point_origin x Other) m.effect_at 1 _ _ (λ w. refl) (λ w. refl) (λ w. refl) refl (λ e f. refl)
         (λ g p h a b. (listed_offset effect_list g h p a b).0)
         (λ e f h l r d t. later_by_one _ _ t) (λ e f h l t. one_later _ _ t)
 
@@ -242,11 +244,11 @@ module _ {m : Model} {x : ℕ → ℕ} {points begins : List ℕ} where
 
     -- Rule 3.
     before_is :
-        Rule m x points begins effect_list condition_list (point_origin x 1) m.effect_at 1 1 (λ e c. opposes m e (m.condition_fact c) (m.condition_value c))
+        Rule m x points begins effect_list condition_list (point_origin x Other) m.effect_at 1 1 (λ e c. opposes m e (m.condition_fact c) (m.condition_value c))
         (λ e c. ltb (effect_tick m x e) (first_tick m x c))
     unfolding effect_list condition_list
     before_is =
-        opposing_rule (point_origin x 1) m.effect_at 1 _ _ (λ w. refl) (λ w. refl) (λ w. refl) refl (λ e c. refl)
+        opposing_rule (point_origin x Other) m.effect_at 1 _ _ (λ w. refl) (λ w. refl) (λ w. refl) refl (λ e c. refl)
         (λ g p h a b. (listed_offset effect_list g h p a b).0)
         (λ e c h l r d t. later_by_one _ _ t) (λ e c h l t. one_later _ _ t)
 
@@ -311,7 +313,7 @@ module _ {m : Model} {x : ℕ → ℕ} {points begins : List ℕ} where
 
     -- Rule 4.
     levels_is :
-        Rule m x points begins use_list use_list (point_origin x 0) m.use_at 1 0 (λ u v. eqb (m.use_level u) (m.use_level v))
+        Rule m x points begins use_list use_list (point_origin x Same) m.use_at 1 0 (λ u v. eqb (m.use_level u) (m.use_level v))
         (λ u v. ltb (use_tick m x u) (use_tick m x v))
     unfolding use_list
     levels_is =
@@ -325,13 +327,13 @@ module _ {m : Model} {x : ℕ → ℕ} {points begins : List ℕ} where
 
     -- With rule 4: a need before the uses of its level, and after them.
     needs_is :
-        Rule m x points begins need_list use_list (point_origin x 0) m.need_at 1 0 (λ n u. eqb (m.use_level u) (m.need_level n))
+        Rule m x points begins need_list use_list (point_origin x Same) m.need_at 1 0 (λ n u. eqb (m.use_level u) (m.need_level n))
         (λ n u. ltb (need_tick m x n) (use_tick m x u))
     unfolding need_list use_list
     needs_is = level_rule _ _ refl (λ n u. refl) (λ n u e. eq-eqb _ _ e) (λ n u r. eqb-true _ _ r) (λ n u. refl)
 
     uses_is :
-        Rule m x points begins use_list need_list (point_origin x 0) m.use_at 1 0 (λ u n. eqb (m.use_level u) (m.need_level n))
+        Rule m x points begins use_list need_list (point_origin x Same) m.use_at 1 0 (λ u n. eqb (m.use_level u) (m.need_level n))
         (λ u n. ltb (use_tick m x u) (need_tick m x n))
     unfolding need_list use_list
     uses_is = level_rule _ _ refl (λ u n. refl) (λ u n e. eq-eqb _ _ (sym e)) (λ u n r. sym (eqb-true _ _ r)) (λ u n. refl)
@@ -358,9 +360,9 @@ module _ {m : Model} {x : ℕ → ℕ} {points begins : List ℕ} where
         known.form.step_count w
         (λ i k gap a o.
         ⊎_elim
-        (λ (r : FromTo x points (used o.0) (needed o.0) 0 i k gap).
+        (λ (r : FromTo x points (used o.0) (needed o.0) Same i k gap).
         rule_under uses_is o.0 i k gap (need_gap m x i k) o.2 a.2 r (λ u n l h. (need_ge m x i k n u h l).1))
-        (λ (r : FromTo x points (needed o.0) (used o.0) 0 i k gap).
+        (λ (r : FromTo x points (needed o.0) (used o.0) Same i k gap).
         rule_under needs_is o.0 i k gap (need_gap m x i k) o.2 a.2 r (λ n u h l. (need_ge m x i k n u h l).0))
         o.3)
         (λ i k bound a all.

@@ -47,10 +47,8 @@ fn fill_support(s: &[u8], job: Job, links: &[u16], gaps: &mut [u32])
     ensures { RaisedByLinks (clocked (view job s.now)) links.now support_gap gaps.old gaps.new }
 {
     let n = job.count.conditions;
-    let mut c = 0;
-    while c < n {
+    for c in 0..n {
         raise_support(s, job, links, c, gaps);
-        c += 1;
     }
 }
 
@@ -63,12 +61,10 @@ fn fill_opposing(job: Job, starts: &[u32], points: &[u64], begins: &[u16], gaps:
 {
     let n = job.count.facts as usize;
     let steps = job.count.steps as usize;
-    let mut f = 0;
-    while f < n {
+    for f in 0..n {
         let low = begin_at(begins, f);
         let high = begin_at(begins, f + 1);
         raise_setters(steps, starts, points, low, high, gaps);
-        f += 1;
     }
 }
 
@@ -100,11 +96,9 @@ fn fill_conditions(
         gaps.old gaps.new }
 {
     let n = job.count.facts as usize;
-    let mut f = 0;
-    while f < n {
+    for f in 0..n {
         let fact = places_of(begins, n, f);
         raise_conditions(s, job, starts, points, fact, gaps);
-        f += 1;
     }
 }
 
@@ -118,13 +112,11 @@ fn fill_levels(job: Job, starts: &[u32], points: &[u64], begins: &[u16], gaps: &
     let facts = job.count.facts as usize;
     let n = job.count.levels as usize;
     let steps = job.count.steps as usize;
-    let mut l = 0;
-    while l < n {
+    for l in 0..n {
         let used = facts + facts + l;
         let low = begin_at(begins, used);
         let high = begin_at(begins, used + 1);
         raise_among(steps, starts, points, low, high, gaps);
-        l += 1;
     }
 }
 
@@ -133,10 +125,8 @@ fn clear_own(gaps: &mut [u32])
     requires { length gaps.old ≡ table_size }
     ensures { Cleared row_width gaps.old gaps.new }
 {
-    let mut i = 0;
-    while i < WIDTH {
+    for i in 0..WIDTH {
         gaps[WIDTH * i + i] = NO_ORDER;
-        i += 1;
     }
 }
 

@@ -36,11 +36,9 @@ pub fn fill_needs(job: Job, starts: &[u32], points: &[u64], begins: &[u16], gaps
     let facts = job.count.facts as usize;
     let n = job.count.levels as usize;
     let steps = job.count.steps as usize;
-    let mut l = 0;
-    while l < n {
+    for l in 0..n {
         let used = span_of(begins, facts + facts + l);
         let needed = span_of(begins, facts + facts + n + l);
         raise_between(steps, starts, points, used, needed, gaps);
-        l += 1;
     }
 }

@@ -2,15 +2,16 @@
 use Prim.Native.Nat.{ℕ, ◌+◌, ◌-◌, ◌≤◌, ◌<◌}
 use mathlib.Core.Path.{◌≡◌, refl, sym, ap, ◌∙◌}
 use mathlib.Core.Bool.{true, false, ◌||◌}
-use mathlib.Core.List.{List}
+use mathlib.Core.List.{List, ◌++◌}
 use mathlib.Core.Logic.{◌⊎◌, ⊎_elim}
 use native.Mathlib.Decide.{ℕ_discrete}
 use native.Mathlib.Omega.{arith}
 use borrow.Author.Tests.{ltb-true, ltb-false, eqb-true, eqb-false}
-use lib.ListN.{length, get_or, set, length-set}
+use lib.ListN.{length, get_or, set, take, drop, length-set, get_or-append}
 use lib.Seq.{get_or-set_same, get_or-set_other}
 use lib.Dec.{ltb, eqb}
 use Rattle.laws.proofs.Search.{or_out, or_both}
+use Rattle.std.proofs.lemmas.List.{length-take-le, length-drop, length-append, get_or-take}
 use Rattle.job.specs.Layout.{most_effects}
 use Rattle.job.specs.Model.{Model}
 use Rattle.order_file.specs.Contents.{initial_state}
@@ -55,6 +56,26 @@ module _ (m : Model) {before list : List ℕ} where
 
 pub numbered_none : (m : Model) (list : List ℕ) → NumberedTo m 0 list list
 numbered_none m list = record { size = refl; each = λ k l. absurd (omega arith); rest = λ k l. refl }
+
+-- the walk has come to the end of a list's beginning, where all links are
+pub numbered_all :
+    (m : Model) {links list : List ℕ} {k : ℕ} → m.conditions + m.goals ≤ length links → length (take (m.conditions + m.goals) links) ≤ k
+    → NumberedTo m k (take (m.conditions + m.goals) links) list
+    → Numbered m links (list ++ drop (m.conditions + m.goals) links)
+numbered_all m {links} {list} room end w =
+    record {
+      size = omega (arith, length-append list (drop n links), length-drop n links, w.size, size);
+      each = λ j h.
+          get_or-append list (drop n links) 0 j (omega (arith, w.size, size))
+          ∙ w.each j (omega (arith, size, end))
+          ∙ ap (link_number m) (get_or-take n links j 0 h);
+    }
+  where
+    n : ℕ
+    n = m.conditions + m.goals
+
+    size : length (take n links) ≡ n
+    size = length-take-le n links room
 
 -- without timed facts every link has its number
 pub untimed_numbered :

@@ -26,9 +26,7 @@ pub fn number_links(job: Job, links: &mut [u16])
         return;
     }
     let n = job.count.conditions as usize + job.count.goals as usize;
-    let mut k = 0;
-    while k < n {
-        links[k] = link_number(job, links[k]);
-        k += 1;
+    for link in &mut links[..n] {
+        *link = link_number(job, *link);
     }
 }

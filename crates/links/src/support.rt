@@ -46,7 +46,7 @@ fn link_fact(
     let high = begin_at(begins, fact as usize + 1);
     let group = job.count.facts as usize + fact as usize;
     let end = begin_at(begins, group + 1);
-    let mut p = begin_at(begins, group);
+    let begin = begin_at(begins, group);
     let mut cursor = Cursor {
         place: low,
         run: low,
@@ -55,14 +55,13 @@ fn link_fact(
         from: low,
         end: low,
     };
-    while p < end {
+    for p in begin..end {
         let word = points[p];
         cursor = advance(points, low, high, tick_of(word), cursor);
         tie = tie_at(points, cursor.run, high, tie, firsts);
         let at = own_place(points, tie, firsts, step_of(word));
         let link = run_link(points, initial, value_of(word), low, cursor.run, at);
         links[number_of(word) as usize] = link;
-        p += 1;
     }
 }
 
@@ -72,10 +71,8 @@ fn link_conditions(s: &[u8], job: Job, points: &[u64], begins: &[u16], links: &m
         (λ c. c < job.count.conditions) links.old links.new }
 {
     let mut firsts = [0u16; FIRSTS];
-    let mut fact = 0;
-    while fact < job.count.facts {
+    for fact in 0..job.count.facts {
         link_fact(s, job, points, begins, fact, &mut firsts, links);
-        fact += 1;
     }
 }
 
@@ -97,10 +94,8 @@ fn link_goals(s: &[u8], job: Job, points: &[u64], begins: &[u16], links: &mut [u
     ensures { LinksPut (clocked (view job s.now)) points.now begins.now
         (FromTo job.count.conditions (job.count.conditions + job.count.goals)) links.old links.new }
 {
-    let mut g = 0;
-    while g < job.count.goals {
+    for g in 0..job.count.goals {
         links[(job.count.conditions + g) as usize] = goal_link(s, job, points, begins, g);
-        g += 1;
     }
 }
 

@@ -23,14 +23,12 @@ fn tie_end(points: &[u64], from: usize, high: usize) -> usize
     ensures { Tied points.now from high result }
 {
     let tick = tick_of(points[from]);
-    let mut end = from + 1;
-    while end < high {
+    for end in from + 1..high {
         if tick_of(points[end]) != tick {
             return end;
         }
-        end += 1;
     }
-    end
+    high
 }
 
 // Notes the first place of each step: from the last point to the first, which stays.
@@ -38,9 +36,7 @@ fn note_firsts(points: &[u64], from: usize, end: usize, firsts: &mut [u16])
     requires { (from ≤ end) × (end ≤ length points.now) × (end < place_limit) × (length firsts.old ≡ step_span) }
     ensures { Firsts points.now from end firsts.new }
 {
-    let mut p = end;
-    while from < p {
-        p -= 1;
+    for p in (from..end).rev() {
         firsts[step_of(points[p]) as usize] = p as u16;
     }
 }

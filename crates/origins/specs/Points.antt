@@ -8,6 +8,8 @@ use Rattle.orders.specs.Gaps.{strictly}
 use Rattle.origins.specs.declared.Fact.{Fact}
 use Rattle.origins.specs.declared.Origin.{Origin}
 use Rattle.origins.specs.declared.Span.{Span}
+use Rattle.origins.specs.declared.Turn.{Turn}
+use Rattle.origins.specs.declared.Turn.TheVariants.{Same, Other}
 use Rattle.order_file.specs.Table.{gap_in, gap_of_entry, Gaps, row_width, table_size, entry_bias, table_bias}
 use Rattle.order_file.specs.Contents.{step_limit}
 
@@ -18,10 +20,15 @@ offset_of x word = word_tick word - x (word_step word)
 abbrev pub offset_at : (ℕ → ℕ) → List ℕ → ℕ → ℕ
 offset_at x points p = offset_of x (get_or points p 0)
 
--- from a point to later ones, of the other value (`turn` 1) or of the same (`turn` 0)
-abbrev pub point_origin : (ℕ → ℕ) → ℕ → ℕ → Origin
+-- how many values further a turn leads
+abbrev pub turned : Turn → ℕ
+turned Same = 0
+turned Other = 1
+
+-- from a point to later ones, of the other value or of the same
+abbrev pub point_origin : (ℕ → ℕ) → Turn → ℕ → Origin
 point_origin x turn word =
-    record { step = word_step word; at = offset_of x word; value = (word_value word + turn) % value_span; tick = word_tick word + 1 }
+    record { step = word_step word; at = offset_of x word; value = (word_value word + turned turn) % value_span; tick = word_tick word + 1 }
 
 -- from the last tick of a condition to what has the other value; what is not before its first tick is after its last
 abbrev pub last_origin : Model → ℕ → Origin
@@ -80,7 +87,7 @@ After x points low high origin = Among low high (λ q. Onto x origin (get_or poi
 
 -- the orders from a setter at place p of a fact to its conditions, from a condition to its setters, and from all of them
 abbrev pub SetterOrder : (ℕ → ℕ) → List ℕ → Fact → ℕ → ℕ → ℕ → ℕ → Type 0
-SetterOrder x points fact p = After x points fact.after fact.until (point_origin x 1 (get_or points p 0))
+SetterOrder x points fact p = After x points fact.after fact.until (point_origin x Other (get_or points p 0))
 
 abbrev pub ConditionOrder : Model → (ℕ → ℕ) → List ℕ → Fact → ℕ → ℕ → ℕ → ℕ → Type 0
 ConditionOrder m x points fact p = After x points fact.low fact.high (last_origin m (get_or points p 0))
@@ -112,20 +119,20 @@ abbrev pub AroundCondition : Model → (ℕ → ℕ) → List ℕ → Fact → �
 AroundCondition m x points fact p = Around x points fact.low fact.high (last_origin m (get_or points p 0)) (offset_at x points p)
 
 -- the orders from the point at place p of a group to later ones of the group, and from all its points
-abbrev pub PointOrder : (ℕ → ℕ) → List ℕ → ℕ → ℕ → ℕ → ℕ → ℕ → ℕ → ℕ → Type 0
+abbrev pub PointOrder : (ℕ → ℕ) → List ℕ → ℕ → ℕ → Turn → ℕ → ℕ → ℕ → ℕ → Type 0
 PointOrder x points low high turn p = After x points low high (point_origin x turn (get_or points p 0))
 
-abbrev pub FromPoints : (ℕ → ℕ) → List ℕ → ℕ → ℕ → ℕ → ℕ → ℕ → ℕ → Type 0
+abbrev pub FromPoints : (ℕ → ℕ) → List ℕ → ℕ → ℕ → Turn → ℕ → ℕ → ℕ → Type 0
 FromPoints x points low high turn = Among low high (PointOrder x points low high turn)
 
 -- the orders from the points of the first places to later ones of the second
-abbrev pub FromTo : (ℕ → ℕ) → List ℕ → Span → Span → ℕ → ℕ → ℕ → ℕ → Type 0
+abbrev pub FromTo : (ℕ → ℕ) → List ℕ → Span → Span → Turn → ℕ → ℕ → ℕ → Type 0
 FromTo x points first second turn =
     Among first.low first.high (λ p. After x points second.low second.high (point_origin x turn (get_or points p 0)))
 
 -- the orders from the points of each of two places to later ones of the other, of the same value
 abbrev pub Between : (ℕ → ℕ) → List ℕ → Span → Span → ℕ → ℕ → ℕ → Type 0
-Between x points first second i k gap = FromTo x points first second 0 i k gap ⊎ FromTo x points second first 0 i k gap
+Between x points first second i k gap = FromTo x points first second Same i k gap ⊎ FromTo x points second first Same i k gap
 
 -- a fact whose setters and conditions are points of n steps
 pub record FactPlaced (n : ℕ) (starts points : List ℕ) (fact : Fact) : Type 0 where

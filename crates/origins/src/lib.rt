@@ -1,13 +1,14 @@
 // What orders lead from, and one order into the table of gaps.
 #![tactic(auto)]
 
-ghost use Rattle.std.specs.Prelude.{◌≡◌, ◌≤◌, ◌<◌};
+ghost use Rattle.std.specs.Prelude.{◌≡◌, ◌+◌, ◌%◌, ◌≤◌, ◌<◌};
 ghost use Rattle.job.specs.Model.{view, longest};
 ghost use Rattle.validity.specs.Ticks.{schedule_of};
 ghost use Rattle.orders.specs.Gaps as spec;
+ghost use Rattle.timeline.specs.Words.{value_span};
 ghost use Rattle.order_file.specs.Table.{gap_of_entry, Gaps, row_width};
 ghost use Rattle.origins.specs.Raised.{single, EntryKnown, Raised};
-ghost use Rattle.origins.specs.Points.{offset_of, point_origin, last_origin, Notable};
+ghost use Rattle.origins.specs.Points.{turned, offset_of, point_origin, last_origin, Notable};
 
 use job::layout::Job;
 use job_fields::condition_to;
@@ -17,10 +18,22 @@ use timeline::word::{VALUE_SPAN, number_of, step_of, tick_of, value_of};
 // The entry of "strictly before" between two points that both lie at their step's start.
 pub const AT_START: usize = ENTRY_BIAS as usize + 1;
 
-// From one value of two to the other, or to the same.
-pub const OTHER: u16 = 1;
+// From one value of two to the same, or to the other.
+#[derive(Clone, Copy, Debug, PartialEq, Eq)]
+pub enum Turn {
+    Same,
+    Other,
+}
 
-pub const SAME: u16 = 0;
+impl Turn {
+    // The value to which it leads.
+    fn of(self, value: u16) -> u16
+        requires { value < value_span }
+        ensures { result ≡ (value + turned self) % value_span }
+    {
+        (value + self as u16) % VALUE_SPAN as u16
+    }
+}
 
 // The places of a fact: its setters from `low` up to `high`, its conditions from `after` up to `until`.
 #[derive(Clone, Copy)]
@@ -56,14 +69,14 @@ pub fn offset_of(starts: &[u32], word: u64) -> usize
 }
 
 // From a point to later ones of the other value or of the same, by `turn`.
-pub fn point_origin(starts: &[u32], word: u64, turn: u16) -> Origin
-    requires { Notable starts.now word × (turn ≤ 1) }
+pub fn point_origin(starts: &[u32], word: u64, turn: Turn) -> Origin
+    requires { Notable starts.now word }
     ensures { result ≡ point_origin (schedule_of starts.now) turn word }
 {
     Origin {
         step: step_of(word),
         at: offset_of(starts, word),
-        value: (value_of(word) + turn) % VALUE_SPAN as u16,
+        value: turn.of(value_of(word)),
         tick: tick_of(word) + 1,
     }
 }
@@ -76,7 +89,7 @@ pub fn last_origin(s: &[u8], job: Job, word: u64) -> Origin
     Origin {
         step: step_of(word),
         at: condition_to(s, job, number_of(word)),
-        value: (value_of(word) + OTHER) % VALUE_SPAN as u16,
+        value: Turn::Other.of(value_of(word)),
         tick: tick_of(word),
     }
 }

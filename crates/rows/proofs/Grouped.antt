@@ -18,6 +18,7 @@ use Rattle.orders.specs.Gaps.{strictly}
 use Rattle.order_file.specs.Table.{gap_in, gap_of_entry, Gaps, row_width, table_size, entry_bias, table_bias, empty_limit}
 use Rattle.order_file.specs.Contents.{step_limit, most_gap}
 use Rattle.origins.specs.declared.Origin.{Origin}
+use Rattle.origins.specs.declared.Turn.{Turn}
 use Rattle.origins.specs.Raised.{single}
 use Rattle.origins.specs.Raised.{Raised}
 use Rattle.origins.specs.Points.{offset_of, offset_at, point_origin, last_origin, OriginKnown, Group, Notable, Apart, Reached, Onto, After}
@@ -68,7 +69,7 @@ module _ {n : ℕ} {starts points : List ℕ} {low high : ℕ} (group : Group n 
 
   -- What is known of an origin that the code made from one of them.
   module _ (p : ℕ) (from : low ≤ p) (to : p < high) {origin : Origin} where
-    pub point_known : (turn : ℕ) → origin ≡ point_origin (schedule_of starts) turn (get_or points p 0) → OriginKnown n origin
+    pub point_known : (turn : Turn) → origin ≡ point_origin (schedule_of starts) turn (get_or points p 0) → OriginKnown n origin
     point_known turn e =
         subst (λ o. OriginKnown n o) (sym e) (record { step = group.step p from to; near = group.near p from to; value = omega arith })
 
@@ -190,7 +191,7 @@ module _ (starts points : List ℕ) where
           ]
 
   pub later_given :
-      (n low high p turn : ℕ) (before now : List ℕ) {origin : Origin} → Group n starts points low high → low ≤ p → p < high
+      (n low high p : ℕ) (turn : Turn) (before now : List ℕ) {origin : Origin} → Group n starts points low high → low ≤ p → p < high
       → origin ≡ point_origin x turn (get_or points p 0)
       → Reached n (After x points (p + 1) high origin) before now
       → Reached n (After x points low high (point_origin x turn (get_or points p 0))) before now

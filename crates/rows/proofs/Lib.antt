@@ -2,3 +2,4 @@
 pub mod Grouped
 pub mod Setters
 pub mod Beside
+pub mod Part

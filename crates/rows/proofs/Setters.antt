@@ -10,6 +10,7 @@ use Rattle.validity.specs.Ticks.{schedule_of}
 use Rattle.order_file.specs.Table.{row_width}
 use Rattle.order_file.specs.Contents.{step_limit}
 use Rattle.origins.specs.declared.Origin.{Origin}
+use Rattle.origins.specs.declared.Turn.TheVariants.{Other}
 use Rattle.origins.specs.Points.{point_origin, Group, ValuesApart, Reached, Among, PointOrder, Leads, leads_with, LeadsKnown, Ahead}
 use Rattle.origins.proofs.Reached.{within_down, within_empty}
 use Rattle.rows.proofs.Grouped.{ahead_after, after_given, leads_start, leads_below, leads_more}
@@ -19,7 +20,7 @@ pub record Setting (n : ℕ) (x : ℕ → ℕ) (points : List ℕ) (low high : �
   pub from : low ≤ p
   pub upto : p ≤ high
   pub led : Leads x points p high leads
-  pub reached : Reached n (Among p high (PointOrder x points low high 1)) before gaps
+  pub reached : Reached n (Among p high (PointOrder x points low high Other)) before gaps
 
 module _ {n : ℕ} {starts points : List ℕ} {low high : ℕ} (few : n ≤ step_limit) (group : Group n starts points low high) where
   pub setting_start : (gaps : List ℕ) → Setting n (schedule_of starts) points low high gaps (replicate (value_span * row_width) 0) high gaps
@@ -37,7 +38,7 @@ module _ {n : ℕ} {starts points : List ℕ} {low high : ℕ} (few : n ≤ step
 
     -- one more: none before it is later, and what is noted of the other value is
     pub setting_more :
-        {o : Origin} {more raised : List ℕ} → low < p → ValuesApart points low high → o ≡ point_origin (schedule_of starts) 1 (get_or points (p - 1) 0)
+        {o : Origin} {more raised : List ℕ} → low < p → ValuesApart points low high → o ≡ point_origin (schedule_of starts) Other (get_or points (p - 1) 0)
         → Reached n (Ahead o leads) gaps raised
         → more ≡ leads_with (schedule_of starts) (get_or points (p - 1) 0) leads
         → Setting n (schedule_of starts) points low high before more (p - 1) raised

@@ -5,6 +5,7 @@ ghost use Rattle.std.specs.Prelude.{◌≤◌};
 ghost use Rattle.job.specs.Model.{view};
 ghost use Rattle.validity.specs.Ticks.{schedule_of};
 ghost use Rattle.order_file.specs.Table.{Gaps};
+ghost use Rattle.origins.specs.declared.Turn.TheVariants.{Same, Other};
 ghost use Rattle.origins.specs.Points.{Group, ValuesApart, FactKnown, Reached, FactOrder, FromPoints, Between};
 ghost use Rattle.order_file.specs.Contents.{step_limit};
 
@@ -12,7 +13,7 @@ mod pairs;
 mod rows;
 
 use job::layout::Job;
-use origins::{Fact, OTHER, SAME, Span};
+use origins::{Fact, Span, Turn};
 use pairs::{pair_among, pair_conditions};
 use rows::{row_conditions, row_points, row_setters};
 
@@ -30,11 +31,11 @@ pub fn raise_setters(
 )
     requires { Gaps gaps.old × (n ≤ step_limit) × Group n starts.now points.now low high
         × ValuesApart points.now low high }
-    ensures { Reached n (FromPoints (schedule_of starts.now) points.now low high 1)
+    ensures { Reached n (FromPoints (schedule_of starts.now) points.now low high Other)
         gaps.old gaps.new }
 {
     if high - low < MANY {
-        pair_among(starts, points, low, high, OTHER, gaps);
+        pair_among(starts, points, low, high, Turn::Other, gaps);
     } else {
         row_setters(n, starts, points, low, high, gaps);
     }
@@ -50,14 +51,14 @@ pub fn raise_among(
     gaps: &mut [u32],
 )
     requires { Gaps gaps.old × (n ≤ step_limit) × Group n starts.now points.now low high }
-    ensures { Reached n (FromPoints (schedule_of starts.now) points.now low high 0)
+    ensures { Reached n (FromPoints (schedule_of starts.now) points.now low high Same)
         gaps.old gaps.new }
 {
     if high - low < MANY {
-        pair_among(starts, points, low, high, SAME, gaps);
+        pair_among(starts, points, low, high, Turn::Same, gaps);
     } else {
         let group = Span { low, high };
-        row_points(n, starts, points, group, group, SAME, gaps);
+        row_points(n, starts, points, group, group, Turn::Same, gaps);
     }
 }
 
@@ -87,7 +88,7 @@ pub fn raise_conditions(
             low: fact.after,
             high: fact.until,
         };
-        row_points(n, starts, points, setters, wanted, OTHER, gaps);
+        row_points(n, starts, points, setters, wanted, Turn::Other, gaps);
         row_conditions(s, job, starts, points, fact, gaps);
     }
 }
@@ -107,7 +108,7 @@ pub fn raise_between(
         gaps.old gaps.new }
 {
     if (first.low < first.high) & (second.low < second.high) {
-        row_points(n, starts, points, first, second, SAME, gaps);
-        row_points(n, starts, points, second, first, SAME, gaps);
+        row_points(n, starts, points, first, second, Turn::Same, gaps);
+        row_points(n, starts, points, second, first, Turn::Same, gaps);
     }
 }

@@ -1,5 +1,5 @@
 // Orders between points, pair by pair.
-ghost use Rattle.std.specs.Prelude.{◌≡◌, cond, ℕ, ◌≤◌, ◌<◌};
+ghost use Rattle.std.specs.Prelude.{ℕ, ◌≤◌, ◌<◌};
 ghost use Rattle.job.specs.Model.{view, longest};
 ghost use Rattle.validity.specs.Ticks.{schedule_of};
 ghost use Rattle.timeline.specs.Words.{word_step};
@@ -8,7 +8,8 @@ ghost use Rattle.origins.specs.Points.{OriginKnown, Group, Notable, FactKnown, R
 ghost use Rattle.order_file.specs.Contents.{step_limit};
 
 use job::layout::Job;
-use origins::{Fact, Origin, last_origin, offset_of, point_origin, raise, strictly};
+use origins::{Fact, Origin, Turn, last_origin, offset_of, point_origin, raise, strictly};
+use std::hint::select_unpredictable;
 use timeline::word::{step_of, tick_of, value_of};
 
 // Orders a point after the origin, if it has the value and is not before the tick.
@@ -36,27 +37,13 @@ fn raise_after(
     ensures { (n : ℕ) → n ≤ step_limit → origin.step < n → Group n starts.now points.now low high
         → Reached n (After (schedule_of starts.now) points.now low high origin) gaps.old gaps.new }
 {
-    let mut q = low;
-    while q < high {
-        raise_onto(starts, origin, points[q], gaps);
-        q += 1;
+    for word in &points[low..high] {
+        raise_onto(starts, origin, *word, gaps);
     }
 }
 
-// One of two steps, and of two offsets. Which of a pair comes first is as good as random, so the pairs choose and do not branch.
-fn step_if(first: bool, a: u16, b: u16) -> u16
-    ensures { result ≡ cond first a b }
-{
-    if first { a } else { b }
-}
-
-fn offset_if(first: bool, a: usize, b: usize) -> usize
-    ensures { result ≡ cond first a b }
-{
-    if first { a } else { b }
-}
-
-// Orders a setter of the value before the origin's condition, which begins `from` into its step, or after it.
+// Orders a setter of the value before the origin's condition, which begins `from` into its step, or after it. Which of the two comes first is
+// as good as random, so the code selects and does not branch.
 fn raise_beside(starts: &[u32], origin: Origin, from: usize, word: u64, gaps: &mut [u32])
     requires { Gaps gaps.old × OriginKnown row_width origin × (from ≤ longest) × Notable starts.now word }
     ensures { Reached row_width (Beside (schedule_of starts.now) origin from word) gaps.old gaps.new }
@@ -65,10 +52,10 @@ fn raise_beside(starts: &[u32], origin: Origin, from: usize, word: u64, gaps: &m
         let step = step_of(word);
         let at = offset_of(starts, word);
         let before = tick_of(word) < origin.tick;
-        let i = step_if(before, step, origin.step);
-        let k = step_if(before, origin.step, step);
-        let p = offset_if(before, at, origin.at);
-        let q = offset_if(before, from, at);
+        let i = select_unpredictable(before, step, origin.step);
+        let k = select_unpredictable(before, origin.step, step);
+        let p = select_unpredictable(before, at, origin.at);
+        let q = select_unpredictable(before, from, at);
         raise(i, k, strictly(p, q), gaps);
     }
 }
@@ -88,10 +75,8 @@ fn raise_around(
     ensures { Reached row_width (Around (schedule_of starts.now) points.now low high origin from)
         gaps.old gaps.new }
 {
-    let mut q = low;
-    while q < high {
-        raise_beside(starts, origin, from, points[q], gaps);
-        q += 1;
+    for word in &points[low..high] {
+        raise_beside(starts, origin, from, *word, gaps);
     }
 }
 
@@ -109,13 +94,10 @@ pub fn pair_conditions(
         (FactOrder (view job s.now) (schedule_of starts.now) points.now fact)
         gaps.old gaps.new }
 {
-    let mut p = fact.after;
-    while p < fact.until {
-        let word = points[p];
+    for &word in &points[fact.after..fact.until] {
         let origin = last_origin(s, job, word);
         let from = offset_of(starts, word);
         raise_around(starts, points, origin, from, fact.low, fact.high, gaps);
-        p += 1;
     }
 }
 
@@ -125,17 +107,15 @@ pub fn pair_among(
     points: &[u64],
     low: usize,
     high: usize,
-    turn: u16,
+    turn: Turn,
     gaps: &mut [u32],
 )
-    requires { Gaps gaps.old × Group row_width starts.now points.now low high × (turn ≤ 1) }
+    requires { Gaps gaps.old × Group row_width starts.now points.now low high }
     ensures { (n : ℕ) → n ≤ step_limit → Group n starts.now points.now low high
         → Reached n (FromPoints (schedule_of starts.now) points.now low high turn) gaps.old gaps.new }
 {
-    let mut p = low;
-    while p < high {
+    for p in low..high {
         let origin = point_origin(starts, points[p], turn);
         raise_after(starts, points, origin, p + 1, high, gaps);
-        p += 1;
     }
 }

@@ -4,13 +4,14 @@ ghost use Rattle.std.specs.Prelude.{◌≡◌, ℕ, ◌≤◌};
 ghost use Rattle.job.specs.Model.{view};
 ghost use Rattle.validity.specs.Ticks.{schedule_of};
 ghost use Rattle.order_file.specs.Table.{Gaps, row_width};
+ghost use Rattle.origins.specs.declared.Turn.TheVariants.{Other};
 ghost use Rattle.origins.specs.Points.{OriginKnown, Group, ValuesApart, FactKnown, Reached, FromPoints, FromTo, FromConditions};
 ghost use Rattle.origins.specs.Points.{Notable, Noting, NotedBack, leads_with, LeadsKnown, RowKnown, Rowed, due_at, Ahead};
 ghost use Rattle.order_file.specs.Contents.{step_limit};
 
 use job::layout::Job;
 use order_file::table::{WIDTH, higher};
-use origins::{AT_START, Fact, OTHER, Origin, Span, last_origin, offset_of, point_origin};
+use origins::{AT_START, Fact, Origin, Span, Turn, last_origin, offset_of, point_origin};
 use timeline::word::{VALUE_SPAN, step_of, tick_of, value_of};
 
 // A lead for each value and step.
@@ -44,39 +45,24 @@ fn note_from(
     ensures { (high : ℕ) → Noting starts.now points.now low high noted t leads.old
         → NotedBack (schedule_of starts.now) points.now low high t result leads.new }
 {
-    let mut p = noted;
-    while low < p {
-        let word = points[p - 1];
+    for p in (low..noted).rev() {
+        let word = points[p];
         if tick_of(word) < t {
-            return p;
+            return p + 1;
         }
         note(starts, word, leads);
-        p -= 1;
     }
-    p
+    low
 }
 
-// Raises the first n entries of a row by leads, each `at` further.
+// Raises the first n entries of a row by leads, each `at` further. Each call has a copy, so that the compiler knows a length that is constant.
+#[inline(always)]
 fn raise_part(n: usize, row: usize, ahead: usize, at: u32, leads: &[u32; LEADS], gaps: &mut [u32])
     requires { (n ≤ row_width) × RowKnown row ahead at leads.now gaps.old }
     ensures { Rowed row (due_at ahead at leads.now) gaps.old gaps.new n }
 {
-    let mut k = 0;
-    while k < n {
+    for k in 0..n {
         gaps[row + k] = higher(gaps[row + k], leads[ahead + k] + at);
-        k += 1;
-    }
-}
-
-// The same of a whole row.
-fn raise_whole(row: usize, ahead: usize, at: u32, leads: &[u32; LEADS], gaps: &mut [u32])
-    requires { RowKnown row ahead at leads.now gaps.old }
-    ensures { Rowed row (due_at ahead at leads.now) gaps.old gaps.new row_width }
-{
-    let mut k = 0;
-    while k < WIDTH {
-        gaps[row + k] = higher(gaps[row + k], leads[ahead + k] + at);
-        k += 1;
     }
 }
 
@@ -89,7 +75,7 @@ fn raise_row(n: usize, origin: Origin, leads: &[u32; LEADS], gaps: &mut [u32])
     let ahead = WIDTH * origin.value as usize;
     let at = origin.at as u32;
     if MANY_STEPS < n {
-        raise_whole(row, ahead, at, leads, gaps);
+        raise_part(WIDTH, row, ahead, at, leads, gaps);
     } else {
         raise_part(n, row, ahead, at, leads, gaps);
     }
@@ -107,15 +93,13 @@ pub fn row_setters(
 )
     requires { Gaps gaps.old × (n ≤ step_limit) × Group n starts.now points.now low high
         × ValuesApart points.now low high }
-    ensures { Reached n (FromPoints (schedule_of starts.now) points.now low high 1)
+    ensures { Reached n (FromPoints (schedule_of starts.now) points.now low high Other)
         gaps.old gaps.new }
 {
     let mut leads = [NO_LEAD; LEADS];
-    let mut p = high;
-    while low < p {
-        p -= 1;
+    for p in (low..high).rev() {
         let word = points[p];
-        let origin = point_origin(starts, word, OTHER);
+        let origin = point_origin(starts, word, Turn::Other);
         raise_row(n, origin, &leads, gaps);
         note(starts, word, &mut leads);
     }
@@ -129,20 +113,17 @@ pub fn row_points(
     points: &[u64],
     first: Span,
     second: Span,
-    turn: u16,
+    turn: Turn,
     gaps: &mut [u32],
 )
     requires { Gaps gaps.old × (n ≤ step_limit) × Group n starts.now points.now first.low first.high
-        × Group n starts.now points.now second.low second.high
-        × (turn ≤ 1) }
+        × Group n starts.now points.now second.low second.high }
     ensures { Reached n (FromTo (schedule_of starts.now) points.now first second turn)
         gaps.old gaps.new }
 {
     let mut leads = [NO_LEAD; LEADS];
     let mut noted = second.high;
-    let mut p = first.high;
-    while first.low < p {
-        p -= 1;
+    for p in (first.low..first.high).rev() {
         let origin = point_origin(starts, points[p], turn);
         noted = note_from(starts, points, second.low, noted, origin.tick, &mut leads);
         raise_row(n, origin, &leads, gaps);
@@ -165,9 +146,7 @@ pub fn row_conditions(
 {
     let mut leads = [NO_LEAD; LEADS];
     let mut noted = fact.high;
-    let mut p = fact.until;
-    while fact.after < p {
-        p -= 1;
+    for p in (fact.after..fact.until).rev() {
         let origin = last_origin(s, job, points[p]);
         noted = note_from(starts, points, fact.low, noted, origin.tick, &mut leads);
         raise_row(job.count.steps as usize, origin, &leads, gaps);

@@ -4,15 +4,13 @@ use native.Mathlib.Omega.{arith}
 use Rattle.job.specs.Model.{view}
 use Rattle.origins.proofs.last_origin.Goals as goal
 
-pub overflow_add-result : goal.overflow_add-result
-overflow_add-result c = omega (arith, c.value_of.ensures.1)
-
 pub returns : goal.returns
 returns c =
     let a = c.args in
     rw (
       c.step_of.ensures.0,
       c.condition_to.ensures.0 ∙ ap (view a.job a.s.now).condition_to c.number_of.ensures.0,
+      c.of.ensures,
       c.value_of.ensures.0,
       c.tick_of.ensures.0,
     )

@@ -7,10 +7,10 @@ pub overflow_sub-high : goal.overflow_sub-high
 overflow_sub-high c = c.requires.2.begins
 
 pub pair_among-requires : goal.pair_among-requires
-pair_among-requires c = (c.requires.0, group_wide c.requires.2 c.requires.1, omega arith)
+pair_among-requires c = (c.requires.0, group_wide c.requires.2 c.requires.1)
 
 pub row_points-requires : goal.row_points-requires
-row_points-requires c = (c.requires.0, c.requires.1, c.requires.2, c.requires.2, omega arith)
+row_points-requires c = (c.requires.0, c.requires.1, c.requires.2, c.requires.2)
 
 pub shape_of-gaps-then-high-low-lt-MANY : goal.shape_of-gaps-then-high-low-lt-MANY
 shape_of-gaps-then-high-low-lt-MANY c =

@@ -10,6 +10,7 @@ use lib.Dec.{ltb}
 use Rattle.laws.proofs.Search.{contrary}
 use Rattle.validity.specs.Ticks.{schedule_of}
 use Rattle.origins.specs.declared.Span.{Span}
+use Rattle.origins.specs.declared.Turn.TheVariants.{Same}
 use Rattle.origins.specs.Points.{Reached, FromTo, Between}
 use Rattle.origins.proofs.Reached.{reached_none, reached_either}
 use Rattle.rows.proofs.raise_between.Goals as goal
@@ -22,8 +23,8 @@ between_none n x points first second gaps e =
     reached_none n (Between x points first second) gaps
     (λ i k gap o.
     ⊎_elim
-    (λ (s : FromTo x points first second 0 i k gap). both s.0 s.3.0 s.1 s.2 s.3.1 s.3.2)
-    (λ (s : FromTo x points second first 0 i k gap). both s.3.0 s.0 s.3.1 s.3.2 s.1 s.2)
+    (λ (s : FromTo x points first second Same i k gap). both s.0 s.3.0 s.1 s.2 s.3.1 s.3.2)
+    (λ (s : FromTo x points second first Same i k gap). both s.3.0 s.0 s.3.1 s.3.2 s.1 s.2)
     o)
   where
     both : (p q : ℕ) → first.low ≤ p → p < first.high → second.low ≤ q → q < second.high → ⊥
@@ -31,11 +32,11 @@ between_none n x points first second gaps e =
         contrary (ap₂ ◌&&◌ (lt-ltb first.low first.high (omega arith)) (lt-ltb second.low second.high (omega arith))) e
 
 pub row_points-requires : goal.row_points-requires
-row_points-requires c = (c.requires.0, c.requires.1, c.requires.2, c.requires.3, omega arith)
+row_points-requires c = (c.requires.0, c.requires.1, c.requires.2, c.requires.3)
 
 pub row_points-requires-then-first-second : goal.row_points-requires-then-first-second
 row_points-requires-then-first-second c =
-    (c.row_points.ensures.whole c.requires.0, c.requires.1, search (c.requires.2, c.requires.3), search (c.requires.2, c.requires.3), omega arith)
+    (c.row_points.ensures.whole c.requires.0, c.requires.1, c.requires.3, c.requires.2)
 
 pub shape_of-gaps : goal.shape_of-gaps
 shape_of-gaps c =

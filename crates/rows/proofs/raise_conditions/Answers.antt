@@ -12,7 +12,7 @@ pair_conditions-requires c = c.requires
 pub row_points-requires : goal.row_points-requires
 row_points-requires c =
     let w = c.requires.0.placed in
-    (c.requires.1, w.few, w.setters, w.wanted, omega arith)
+    (c.requires.1, w.few, w.setters, w.wanted)
 
 pub row_conditions-requires : goal.row_conditions-requires
 row_conditions-requires c = (c.requires.0, c.row_points.ensures.whole c.requires.1)

@@ -7,7 +7,7 @@ pub overflow_sub-high : goal.overflow_sub-high
 overflow_sub-high c = c.requires.2.begins
 
 pub pair_among-requires : goal.pair_among-requires
-pair_among-requires c = (c.requires.0, group_wide c.requires.2 c.requires.1, omega arith)
+pair_among-requires c = (c.requires.0, group_wide c.requires.2 c.requires.1)
 
 pub row_setters-requires : goal.row_setters-requires
 row_setters-requires c = c.requires

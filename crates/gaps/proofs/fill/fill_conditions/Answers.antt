@@ -1,5 +1,4 @@
 -- Each fact in turn.
-use Prim.Native.Nat.{◌-◌}
 use mathlib.Core.Path.{refl}
 use native.Mathlib.Omega.{arith}
 use Rattle.job.specs.Model.{view}
@@ -9,7 +8,7 @@ use Rattle.gaps.proofs.Rules.{given_known, given_reached, fact_known, conditions
 use Rattle.gaps.proofs.fill.fill_conditions.Goals as goal
 
 pub loop-f-init : goal.loop-f-init
-loop-f-init c = (omega arith, within_empty _ _ _ _ _ (omega arith))
+loop-f-init c = within_empty _ _ _ _ _ (omega arith)
 
 pub places_of-fact-requires : goal.places_of-fact-requires
 places_of-fact-requires c = (c.loop-f-test.true, omega (arith, c.requires.0.known.room), omega (arith, c.requires.0.form.fact_count))
@@ -17,28 +16,19 @@ places_of-fact-requires c = (c.loop-f-test.true, omega (arith, c.requires.0.know
 pub raise_conditions-requires : goal.raise_conditions-requires
 raise_conditions-requires c = (
   given_known c.places_of-fact.ensures (fact_known c.requires.0 c.requires.2 _ c.loop-f-test.true),
-  c.loop-f.invariant.1.whole c.requires.1,
+  c.loop-f.invariant.whole c.requires.1,
 )
-
-pub overflow_add-f : goal.overflow_add-f
-overflow_add-f c = omega (arith, c.loop-f-test.true, c.requires.0.form.fact_count)
-
-pub loop-f-smaller : goal.loop-f-smaller
-loop-f-smaller c = omega (arith, c.loop-f-test.true)
 
 pub loop-f-preserved : goal.loop-f-preserved
 loop-f-preserved c =
-    let a = c.args in (
-      omega (arith, c.loop-f-test.true),
-      within_up _ _ _ _ _ _ _ (omega arith) c.loop-f.invariant.1
-          (given_reached c.places_of-fact.ensures _ (view a.job a.s.now) (schedule_of a.starts.now) a.points.now _ _
-          c.raise_conditions.ensures),
-    )
+    let a = c.args in
+    within_up _ _ _ _ _ _ _ (omega arith) c.loop-f.invariant
+    (given_reached c.places_of-fact.ensures _ (view a.job a.s.now) (schedule_of a.starts.now) a.points.now _ _
+    c.raise_conditions.ensures)
 
 pub shape_of-gaps : goal.shape_of-gaps
-shape_of-gaps c = omega (arith, (c.loop-f.invariant.1.whole c.requires.1).size, c.requires.1.size)
+shape_of-gaps c = omega (arith, (c.loop-f.invariant.whole c.requires.1).size, c.requires.1.size)
 
 pub returns : goal.returns
 returns c =
-    let i = c.loop-f.invariant in
-    conditions_raised c.requires.0 _ _ (within_all _ _ _ _ _ _ _ _ refl (omega (arith, i.0, c.loop-f-test.false)) i.1)
+    conditions_raised c.requires.0 _ _ (within_all _ _ _ _ _ _ _ _ refl (omega (arith, c.loop-f.auto.f-end, c.loop-f-test.false)) c.loop-f.invariant)

@@ -1,14 +1,14 @@
 -- Each level in turn.
-use Prim.Native.Nat.{◌-◌}
 use mathlib.Core.Path.{refl}
 use native.Mathlib.Omega.{arith}
 use Rattle.validity.specs.Ticks.{schedule_of}
+use Rattle.origins.specs.declared.Turn.TheVariants.{Same}
 use Rattle.origins.proofs.Reached.{within_up, within_all, within_empty}
 use Rattle.gaps.proofs.Rules.{given_points, level_known, levels_raised}
 use Rattle.gaps.proofs.fill.fill_levels.Goals as goal
 
 pub loop-l-init : goal.loop-l-init
-loop-l-init c = (omega arith, within_empty _ _ _ _ _ (omega arith))
+loop-l-init c = within_empty _ _ _ _ _ (omega arith)
 
 pub overflow_add-used : goal.overflow_add-used
 overflow_add-used c =
@@ -33,32 +33,21 @@ begin_at-high-requires c = omega (arith, c.requires.1.known.room, c.loop-l-test.
 
 pub raise_among-requires : goal.raise_among-requires
 raise_among-requires c = (
-  c.loop-l.invariant.1.whole c.requires.2,
+  c.loop-l.invariant.whole c.requires.2,
   c.requires.1.form.step_count,
   rw (c.begin_at-low.ensures.0, c.begin_at-high.ensures.0) (level_known c.requires.1 c.requires.3 _ c.loop-l-test.true),
 )
 
-pub overflow_add-l : goal.overflow_add-l
-overflow_add-l c =
-    let form = c.requires.1.form in
-    omega (arith, c.loop-l-test.true, form.level_count)
-
-pub loop-l-smaller : goal.loop-l-smaller
-loop-l-smaller c = omega (arith, c.loop-l-test.true)
-
 pub loop-l-preserved : goal.loop-l-preserved
 loop-l-preserved c =
-    let a = c.args in (
-      omega (arith, c.loop-l-test.true),
-      within_up _ _ _ _ _ _ _ (omega arith) c.loop-l.invariant.1
-          (given_points _ (schedule_of a.starts.now) a.points.now _ _ 0 c.begin_at-low.ensures.0 c.begin_at-high.ensures.0
-          c.raise_among.ensures),
-    )
+    let a = c.args in
+    within_up _ _ _ _ _ _ _ (omega arith) c.loop-l.invariant
+    (given_points _ (schedule_of a.starts.now) a.points.now _ _ Same c.begin_at-low.ensures.0 c.begin_at-high.ensures.0
+    c.raise_among.ensures)
 
 pub shape_of-gaps : goal.shape_of-gaps
-shape_of-gaps c = omega (arith, (c.loop-l.invariant.1.whole c.requires.2).size, c.requires.2.size)
+shape_of-gaps c = omega (arith, (c.loop-l.invariant.whole c.requires.2).size, c.requires.2.size)
 
 pub returns : goal.returns
 returns c s known =
-    let i = c.loop-l.invariant in
-    levels_raised known _ _ (within_all _ _ _ _ _ _ _ _ refl (omega (arith, i.0, c.loop-l-test.false)) i.1)
+    levels_raised known _ _ (within_all _ _ _ _ _ _ _ _ refl (omega (arith, c.loop-l.auto.l-end, c.loop-l-test.false)) c.loop-l.invariant)

@@ -1,15 +1,15 @@
 -- Each fact in turn.
-use Prim.Native.Nat.{◌-◌}
 use mathlib.Core.Path.{refl}
 use native.Mathlib.Omega.{arith}
 use Rattle.validity.specs.Ticks.{schedule_of}
 use Rattle.points.proofs.Placed.{placed_apart}
+use Rattle.origins.specs.declared.Turn.TheVariants.{Other}
 use Rattle.origins.proofs.Reached.{within_up, within_all, within_empty}
 use Rattle.gaps.proofs.Rules.{given_points, opposing_known, opposing_raised}
 use Rattle.gaps.proofs.fill.fill_opposing.Goals as goal
 
 pub loop-f-init : goal.loop-f-init
-loop-f-init c = (omega arith, within_empty _ _ _ _ _ (omega arith))
+loop-f-init c = within_empty _ _ _ _ _ (omega arith)
 
 pub begin_at-low-requires : goal.begin_at-low-requires
 begin_at-low-requires c = omega (arith, c.requires.1.known.room, c.loop-f-test.true)
@@ -24,34 +24,23 @@ begin_at-high-requires c = omega (arith, c.requires.1.known.room, c.loop-f-test.
 
 pub raise_setters-requires : goal.raise_setters-requires
 raise_setters-requires c = (
-  c.loop-f.invariant.1.whole c.requires.2,
+  c.loop-f.invariant.whole c.requires.2,
   c.requires.1.form.step_count,
   rw (c.begin_at-low.ensures.0, c.begin_at-high.ensures.0) (opposing_known c.requires.1 c.requires.3 _ c.loop-f-test.true),
   rw (c.begin_at-low.ensures.0, c.begin_at-high.ensures.0)
       (placed_apart c.requires.1.known _ c.loop-f-test.true c.requires.1.one),
 )
 
-pub overflow_add-f-in-loop-f : goal.overflow_add-f-in-loop-f
-overflow_add-f-in-loop-f c =
-    let form = c.requires.1.form in
-    omega (arith, c.loop-f-test.true, form.fact_count)
-
-pub loop-f-smaller : goal.loop-f-smaller
-loop-f-smaller c = omega (arith, c.loop-f-test.true)
-
 pub loop-f-preserved : goal.loop-f-preserved
 loop-f-preserved c =
-    let a = c.args in (
-      omega (arith, c.loop-f-test.true),
-      within_up _ _ _ _ _ _ _ (omega arith) c.loop-f.invariant.1
-          (given_points _ (schedule_of a.starts.now) a.points.now _ _ 1 c.begin_at-low.ensures.0 c.begin_at-high.ensures.0
-          c.raise_setters.ensures),
-    )
+    let a = c.args in
+    within_up _ _ _ _ _ _ _ (omega arith) c.loop-f.invariant
+    (given_points _ (schedule_of a.starts.now) a.points.now _ _ Other c.begin_at-low.ensures.0 c.begin_at-high.ensures.0
+    c.raise_setters.ensures)
 
 pub shape_of-gaps : goal.shape_of-gaps
-shape_of-gaps c = omega (arith, (c.loop-f.invariant.1.whole c.requires.2).size, c.requires.2.size)
+shape_of-gaps c = omega (arith, (c.loop-f.invariant.whole c.requires.2).size, c.requires.2.size)
 
 pub returns : goal.returns
 returns c s known =
-    let i = c.loop-f.invariant in
-    opposing_raised known _ _ (within_all _ _ _ _ _ _ _ _ refl (omega (arith, i.0, c.loop-f-test.false)) i.1)
+    opposing_raised known _ _ (within_all _ _ _ _ _ _ _ _ refl (omega (arith, c.loop-f.auto.f-end, c.loop-f-test.false)) c.loop-f.invariant)

@@ -1,4 +1,3 @@
-use Prim.Native.Nat.{◌-◌, ◌≤◌}
 use Rattle.validity.specs.Ticks.{schedule_of}
 use Rattle.origins.specs.Points.{Reached, Among}
 use Rattle.gaps.proofs.Rules.{OpposingOrder}
@@ -6,8 +5,5 @@ use Rattle.gaps.proofs.fill.fill_opposing.Given as goal
 
 abbrev pub invariant-loop-f : goal.invariant-loop-f
 invariant-loop-f l =
-    (l.f ≤ l.n) × Reached l.steps (Among 0 l.f (OpposingOrder (schedule_of l.starts) l.points l.begins)) l.initial.gaps
+    Reached l.steps (Among 0 l.f (OpposingOrder (schedule_of l.starts) l.points l.begins)) l.initial.gaps
     l.gaps
-
-abbrev pub decreases-loop-f : goal.decreases-loop-f
-decreases-loop-f l = l.n - l.f

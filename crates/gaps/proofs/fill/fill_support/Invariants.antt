@@ -1,4 +1,3 @@
-use Prim.Native.Nat.{◌≤◌, ◌-◌}
 use Rattle.laws.specs.Fold.{largest}
 use Rattle.job.specs.Model.{view}
 use Rattle.job.specs.Clocked.{clocked}
@@ -9,7 +8,4 @@ use Rattle.gaps.proofs.fill.fill_support.Given as goal
 
 abbrev pub invariant-loop-c : goal.invariant-loop-c
 invariant-loop-c l =
-    (l.c ≤ l.n) × Gaps l.gaps × RaisedByLinks (clocked (view l.job l.s)) l.links (λ m x i k. largest l.c (support_order m x i k)) l.initial.gaps l.gaps
-
-abbrev pub decreases-loop-c : goal.decreases-loop-c
-decreases-loop-c l = l.n - l.c
+    Gaps l.gaps × RaisedByLinks (clocked (view l.job l.s)) l.links (λ m x i k. largest l.c (support_order m x i k)) l.initial.gaps l.gaps

@@ -1,5 +1,4 @@
 -- Each level in turn; in a job without needs there are none to order.
-use Prim.Native.Nat.{◌-◌}
 use mathlib.Core.Path.{refl}
 use native.Mathlib.Omega.{arith}
 use borrow.Author.Rules.{rules}
@@ -29,7 +28,7 @@ overflow_cast-steps c = search rules
 
 pub loop-l-init : goal.loop-l-init
 unfolding largest need_gap
-loop-l-init c = (omega arith, within_empty _ _ _ _ _ (omega arith))
+loop-l-init c = within_empty _ _ _ _ _ (omega arith)
 
 pub overflow_add-facts : goal.overflow_add-facts
 unfolding largest need_gap
@@ -76,34 +75,21 @@ raise_between-requires c =
     let known = c.requires.1 in
     let uses = given_group {starts = starts} c.span_of-used.ensures (level_known known c.requires.3 _ c.loop-l-test.true) in
     let others = given_group {starts = starts} c.span_of-needed.ensures (need_known known c.requires.3 _ c.loop-l-test.true) in
-    (c.loop-l.invariant.1.whole c.requires.2, known.form.step_count, search (uses, others), search (uses, others))
-
-pub overflow_add-l : goal.overflow_add-l
-unfolding largest need_gap
-overflow_add-l c =
-    let form = c.requires.1.form in
-    omega (arith, c.loop-l-test.true, form.level_count)
-
-pub loop-l-smaller : goal.loop-l-smaller
-unfolding largest need_gap
-loop-l-smaller c = omega (arith, c.loop-l-test.true)
+    (c.loop-l.invariant.whole c.requires.2, known.form.step_count, search (uses, others), search (uses, others))
 
 pub loop-l-preserved : goal.loop-l-preserved
 unfolding largest need_gap
 loop-l-preserved c =
-    let a = c.args in (
-      omega (arith, c.loop-l-test.true),
-      within_up _ _ _ _ _ _ _ (omega arith) c.loop-l.invariant.1
-          (given_between _ (schedule_of a.starts.now) a.points.now _ _ c.span_of-used.ensures c.span_of-needed.ensures
-          c.raise_between.ensures),
-    )
+    let a = c.args in
+    within_up _ _ _ _ _ _ _ (omega arith) c.loop-l.invariant
+    (given_between _ (schedule_of a.starts.now) a.points.now _ _ c.span_of-used.ensures c.span_of-needed.ensures
+    c.raise_between.ensures)
 
 pub shape_of-gaps : goal.shape_of-gaps
 unfolding largest need_gap
-shape_of-gaps c = omega (arith, (c.loop-l.invariant.1.whole c.requires.2).size, c.requires.2.size)
+shape_of-gaps c = omega (arith, (c.loop-l.invariant.whole c.requires.2).size, c.requires.2.size)
 
 pub returns : goal.returns
 unfolding largest need_gap
 returns c s known =
-    let i = c.loop-l.invariant in
-    needs_raised known _ _ (within_all _ _ _ _ _ _ _ _ refl (omega (arith, i.0, c.loop-l-test.false)) i.1)
+    needs_raised known _ _ (within_all _ _ _ _ _ _ _ _ refl (omega (arith, c.loop-l.auto.l-end, c.loop-l-test.false)) c.loop-l.invariant)

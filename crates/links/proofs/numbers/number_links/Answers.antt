@@ -1,10 +1,11 @@
 -- Link by link; without timed facts there is nothing to do.
-use Prim.Native.Nat.{◌-◌}
-use mathlib.Core.Path.{refl}
+use Prim.Native.Nat.{◌+◌, ◌<◌}
+use mathlib.Core.Path.{◌∙◌}
 use mathlib.Core.List.{[]}
 use native.Mathlib.Omega.{arith}
+use Rattle.std.proofs.lemmas.List.{length-take-le, get_or-take}
 use Rattle.job.specs.Model.{view}
-use Rattle.links.proofs.Numbered.{untimed_numbered, numbered_none, numbered_more}
+use Rattle.links.proofs.Numbered.{untimed_numbered, numbered_none, numbered_more, numbered_all}
 use Rattle.links.proofs.numbers.number_links.Goals as goal
 
 pub returns-then-job-eq0 : goal.returns-then-job-eq0
@@ -12,45 +13,23 @@ returns-then-job-eq0 c =
     λ s.
     untimed_numbered (view c.args.job s) _ c.if-job-eq0.true c.requires.few.0 c.requires.each
 
-pub loop-k-init : goal.loop-k-init
-loop-k-init c = (c.requires, refl, omega arith, λ s. numbered_none _ _)
-
-pub bounds-links-k : goal.bounds-links-k
-bounds-links-k c =
-    let i = c.loop-k.invariant in
-    omega (arith, i.0.room, i.1, (i.3 []).size, c.loop-k-test.true)
+pub loop-link-init : goal.loop-link-init
+loop-link-init c = λ s. numbered_none _ _
 
 pub link_number-requires : goal.link_number-requires
 link_number-requires c =
-    let i = c.loop-k.invariant in
-    let k = c.loop-k.k in
-    let read = (i.3 []).rest k (omega arith) in
-    (rw read (i.0.each k (omega (arith, i.1, c.loop-k-test.true))), i.0.few)
+    let k = c.loop-link.link-index in
+    let n = c.args.job.count.conditions + c.args.job.count.goals in
+    let links = c.args.links.now in
+    let within : k < n = omega (arith, c.loop-link-test.true, length-take-le n links c.requires.room) in
+    let read = (c.loop-link.invariant []).rest k (omega arith) ∙ get_or-take n links k 0 within in
+    (rw read (c.requires.each k within), c.requires.few)
 
-pub bounds-links-k-in-loop-k : goal.bounds-links-k-in-loop-k
-bounds-links-k-in-loop-k c =
-    let i = c.loop-k.invariant in
-    omega (arith, i.0.room, i.1, (i.3 []).size, c.loop-k-test.true)
-
-pub loop-k-smaller : goal.loop-k-smaller
-loop-k-smaller c = omega (arith, c.loop-k-test.true)
-
-pub loop-k-preserved : goal.loop-k-preserved
-loop-k-preserved c =
-    let i = c.loop-k.invariant in
-    let below = c.loop-k-test.true in (
-      i.0,
-      i.1,
-      omega (arith, below),
-      λ s.
-          numbered_more (view c.args.job s) _ (omega (arith, i.0.room, i.1, (i.3 []).size, below)) (c.link_number.ensures s) (i.3 s),
-    )
-
-pub shape_of-links : goal.shape_of-links
-shape_of-links c = (c.loop-k.invariant.3 []).size
+pub loop-link-preserved : goal.loop-link-preserved
+loop-link-preserved c =
+    λ s.
+    numbered_more (view c.args.job s) _ (omega (arith, c.loop-link.auto.link-items, c.loop-link-test.true)) (c.link_number.ensures s)
+    (c.loop-link.invariant s)
 
 pub returns : goal.returns
-returns c =
-    λ s.
-    let i = c.loop-k.invariant in
-    record { size = (i.3 s).size; each = λ k h. (i.3 s).each k (omega (arith, i.1, c.loop-k-test.false)) }
+returns c = λ s. numbered_all (view c.args.job s) c.requires.room c.loop-link-test.false (c.loop-link.invariant s)

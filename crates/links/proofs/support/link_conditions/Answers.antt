@@ -1,5 +1,4 @@
 -- Fact by fact.
-use Prim.Native.Nat.{◌-◌}
 use mathlib.Core.Path.{refl, sym}
 use native.Mathlib.Omega.{arith}
 use borrow.Author.Rules.{rules}
@@ -15,12 +14,6 @@ slice_bounds-link_fact-end c = sym c.loop-fact.invariant.1
 
 pub link_fact-requires : goal.link_fact-requires
 link_fact-requires c = let i = c.loop-fact.invariant in (links_room i.0 i.2, c.loop-fact-test.true, i.1)
-
-pub overflow_add-fact : goal.overflow_add-fact
-overflow_add-fact c = omega (arith, c.loop-fact-test.true)
-
-pub loop-fact-smaller : goal.loop-fact-smaller
-loop-fact-smaller c = omega (arith, c.loop-fact-test.true)
 
 pub loop-fact-preserved : goal.loop-fact-preserved
 loop-fact-preserved c =

@@ -1,4 +1,3 @@
-use Prim.Native.Nat.{◌-◌}
 use mathlib.Core.Path.{◌≡◌}
 use lib.ListN.{length}
 use Rattle.timeline.specs.Words.{step_span}
@@ -12,6 +11,3 @@ abbrev pub invariant-loop-fact : goal.invariant-loop-fact
 invariant-loop-fact l =
     Linkable (clocked (view l.job l.s)) l.points l.begins l.initial.links × (length l.firsts ≡ step_span)
     × LinksPut (clocked (view l.job l.s)) l.points l.begins (Below (clocked (view l.job l.s)) l.fact) l.initial.links l.links
-
-abbrev pub decreases-loop-fact : goal.decreases-loop-fact
-decreases-loop-fact l = l.job.count.facts - l.fact

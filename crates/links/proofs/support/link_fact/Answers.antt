@@ -1,5 +1,4 @@
 -- Along the conditions of the fact; its setters before each of them have been passed.
-use Prim.Native.Nat.{◌-◌}
 use mathlib.Core.Path.{sym, ◌∙◌}
 use native.Mathlib.Omega.{arith}
 use borrow.Author.Rules.{rules}
@@ -15,8 +14,8 @@ begin_at-high-requires c = let pre = c.requires in omega (arith, pre.0.some.1.ro
 pub begin_at-end-requires : goal.begin_at-end-requires
 begin_at-end-requires c = let pre = c.requires in omega (arith, pre.0.some.1.room)
 
-pub begin_at-p-requires : goal.begin_at-p-requires
-begin_at-p-requires c = let pre = c.requires in omega (arith, pre.0.some.1.room)
+pub begin_at-begin-requires : goal.begin_at-begin-requires
+begin_at-begin-requires c = let pre = c.requires in omega (arith, pre.0.some.1.room)
 
 pub loop-p-init : goal.loop-p-init
 loop-p-init c =
@@ -28,7 +27,7 @@ loop-p-init c =
       initially = c.fact_at-initial.ensures;
       begin = c.begin_at-low.ensures.0;
       next = c.begin_at-high.ensures;
-      wanted = c.begin_at-p.ensures.0;
+      wanted = c.begin_at-begin.ensures.0;
       last = c.begin_at-end.ensures.0;
     })
     pre.2
@@ -59,12 +58,6 @@ run_link-link-requires c =
 pub bounds-links-number_of : goal.bounds-links-number_of
 bounds-links-number_of c = rw c.number_of.ensures.0 (linking_room _ c.loop-p.invariant c.loop-p-test.true)
 
-pub overflow_add-p : goal.overflow_add-p
-overflow_add-p c = omega (arith, c.loop-p-test.true)
-
-pub loop-p-smaller : goal.loop-p-smaller
-loop-p-smaller c = omega (arith, c.loop-p-test.true)
-
 pub loop-p-preserved : goal.loop-p-preserved
 loop-p-preserved c =
     linking_more _ c.loop-p.invariant c.loop-p-test.true c.tick_of.ensures.0 c.value_of.ensures.0
@@ -89,7 +82,7 @@ returns c =
       initially = c.fact_at-initial.ensures;
       begin = c.begin_at-low.ensures.0;
       next = c.begin_at-high.ensures;
-      wanted = c.begin_at-p.ensures.0;
+      wanted = c.begin_at-begin.ensures.0;
       last = c.begin_at-end.ensures.0;
     })
     c.loop-p-test.false

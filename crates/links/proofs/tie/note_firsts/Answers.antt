@@ -8,9 +8,6 @@ use Rattle.links.proofs.tie.note_firsts.Goals as goal
 pub loop-p-init : goal.loop-p-init
 loop-p-init c = let p = c.requires in (p.0, omega arith, p.3, firsts_none (omega arith))
 
-pub overflow_sub-p : goal.overflow_sub-p
-overflow_sub-p c = omega (arith, c.loop-p-test.true)
-
 pub overflow_cast-firsts : goal.overflow_cast-firsts
 overflow_cast-firsts c = search (rules, c.loop-p.invariant.1, c.requires.2)
 
@@ -22,9 +19,6 @@ bounds-points-p c = omega (arith, c.loop-p-test.true, c.loop-p.invariant.1, c.re
 
 pub bounds-firsts-step_of : goal.bounds-firsts-step_of
 bounds-firsts-step_of c = omega (arith, c.step_of.ensures.1, c.loop-p.invariant.2)
-
-pub loop-p-smaller : goal.loop-p-smaller
-loop-p-smaller c = omega (arith, c.loop-p-test.true)
 
 pub loop-p-preserved : goal.loop-p-preserved
 loop-p-preserved c =

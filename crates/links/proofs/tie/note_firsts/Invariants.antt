@@ -7,6 +7,3 @@ use Rattle.links.proofs.tie.note_firsts.Given as goal
 
 abbrev pub invariant-loop-p : goal.invariant-loop-p
 invariant-loop-p l = (l.from ≤ l.p) × (l.p ≤ l.end) × (length l.firsts ≡ step_span) × Firsts l.points l.p l.end l.firsts
-
-abbrev pub decreases-loop-p : goal.decreases-loop-p
-decreases-loop-p l = l.p

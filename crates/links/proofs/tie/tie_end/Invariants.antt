@@ -1,9 +1,5 @@
-use Prim.Native.Nat.{◌-◌, ◌≤◌, ◌<◌}
 use Rattle.links.specs.Tied.{OneTick}
 use Rattle.links.proofs.tie.tie_end.Given as goal
 
 abbrev pub invariant-loop-end : goal.invariant-loop-end
-invariant-loop-end l = OneTick l.points l.from l.end × (l.from < l.end) × (l.end ≤ l.high)
-
-abbrev pub decreases-loop-end : goal.decreases-loop-end
-decreases-loop-end l = l.high - l.end
+invariant-loop-end l = OneTick l.points l.from l.end

@@ -1,4 +1,4 @@
-use Prim.Native.Nat.{ℕ, ◌-◌, ◌≤◌}
+use Prim.Native.Nat.{ℕ, ◌≤◌}
 use Rattle.validity.specs.Ticks.{schedule_of}
 use Rattle.order_file.specs.Contents.{step_limit}
 use Rattle.origins.specs.Points.{Group, Reached, Among, PointOrder}
@@ -6,9 +6,6 @@ use Rattle.rows.proofs.pairs.pair_among.Given as goal
 
 abbrev pub invariant-loop-p : goal.invariant-loop-p
 invariant-loop-p l =
-    (l.low ≤ l.p) × (l.p ≤ l.high) × ((n : ℕ) → n ≤ step_limit
+    (n : ℕ) → n ≤ step_limit
     → Group n l.starts l.points l.low l.high
-    → Reached n (Among l.low l.p (PointOrder (schedule_of l.starts) l.points l.low l.high l.turn)) l.initial.gaps l.gaps)
-
-abbrev pub decreases-loop-p : goal.decreases-loop-p
-decreases-loop-p l = l.high - l.p
+    → Reached n (Among l.low l.p (PointOrder (schedule_of l.starts) l.points l.low l.high l.turn)) l.initial.gaps l.gaps

@@ -1,4 +1,6 @@
 -- Back from the last noted place, up to the first point before tick t.
+use Prim.Native.Nat.{◌+◌, ◌-◌}
+use mathlib.Core.Path.{◌≡◌}
 use native.Mathlib.Omega.{arith}
 use borrow.Author.Rules.{rules}
 use Rattle.rows.proofs.Grouped.{group_notable, noting_found, noting_all, noting_more}
@@ -6,9 +8,6 @@ use Rattle.rows.proofs.rows.note_from.Goals as goal
 
 pub loop-p-init : goal.loop-p-init
 loop-p-init c high w = w
-
-pub overflow_sub-word : goal.overflow_sub-word
-overflow_sub-word c = omega (arith, c.loop-p-test.true)
 
 pub offset_bounds-points-p : goal.offset_bounds-points-p
 offset_bounds-points-p c =
@@ -21,7 +20,9 @@ bounds-points-p c =
     omega (arith, c.loop-p-test.true, w.upto, w.group.ends)
 
 pub returns-then-tick_of-t : goal.returns-then-tick_of-t
-returns-then-tick_of-t c high w = noting_found (c.loop-p.invariant high w) c.loop-p-test.true c.tick_of.ensures.0 c.if-tick_of-t.true
+returns-then-tick_of-t c high w =
+    let back : c.loop-p.p - 1 + 1 ≡ c.loop-p.p = omega (arith, c.loop-p-test.true) in
+    rw back (noting_found (c.loop-p.invariant high w) c.loop-p-test.true c.tick_of.ensures.0 c.if-tick_of-t.true)
 
 pub note-requires : goal.note-requires
 note-requires c =
@@ -29,15 +30,12 @@ note-requires c =
     let t = c.loop-p-test.true in
     group_notable w.group (omega arith) _ (omega (arith, t)) (omega (arith, t, w.upto))
 
-pub overflow_sub-p : goal.overflow_sub-p
-overflow_sub-p c = omega (arith, c.loop-p-test.true)
-
-pub loop-p-smaller : goal.loop-p-smaller
-loop-p-smaller c = omega (arith, c.loop-p-test.true)
-
 pub loop-p-preserved : goal.loop-p-preserved
 loop-p-preserved c high w =
     noting_more (c.loop-p.invariant high w) c.loop-p-test.true c.tick_of.ensures.0 c.if-tick_of-t.false c.note.ensures
 
 pub returns : goal.returns
-returns c high w = noting_all (c.loop-p.invariant high w) c.loop-p-test.false
+returns c high w =
+    let n = c.loop-p.invariant high w in
+    let none : c.loop-p.p ≡ c.args.low = omega (arith, n.from, c.loop-p-test.false) in
+    rw none at (noting_all n c.loop-p-test.false)

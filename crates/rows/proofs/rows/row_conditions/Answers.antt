@@ -12,9 +12,6 @@ loop-p-init c =
     let w = c.requires.0.placed in
     rowing_start w.few w.setters _ w.wanted.begins
 
-pub overflow_sub-p : goal.overflow_sub-p
-overflow_sub-p c = omega (arith, c.loop-p-test.true)
-
 pub offset_bounds-points-p : goal.offset_bounds-points-p
 offset_bounds-points-p c = search (rules, c.loop-p.invariant.upto, c.requires.0.placed.wanted.ends)
 
@@ -40,9 +37,6 @@ raise_row-requires c =
           (c.requires.0.ended _ (omega (arith, t)) (omega (arith, t, i.upto))),
       rowing_known w.few w.setters i t e back,
     )
-
-pub loop-p-smaller : goal.loop-p-smaller
-loop-p-smaller c = omega (arith, c.loop-p-test.true)
 
 pub loop-p-preserved : goal.loop-p-preserved
 loop-p-preserved c =

@@ -7,6 +7,3 @@ abbrev pub invariant-loop-p : goal.invariant-loop-p
 invariant-loop-p l =
     Rowing l.job.count.steps (schedule_of l.starts) l.points (last_origin (view l.job l.s)) l.fact.after l.fact.until l.fact.low l.fact.high l.initial.gaps l.leads
     l.noted l.p l.gaps
-
-abbrev pub decreases-loop-p : goal.decreases-loop-p
-decreases-loop-p l = l.p

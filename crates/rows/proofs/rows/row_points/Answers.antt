@@ -11,9 +11,6 @@ loop-p-init c =
     let p = c.requires in
     rowing_start p.1 p.3 _ p.2.begins
 
-pub overflow_sub-p : goal.overflow_sub-p
-overflow_sub-p c = omega (arith, c.loop-p-test.true)
-
 pub offset_bounds-points-p : goal.offset_bounds-points-p
 offset_bounds-points-p c = search (rules, c.loop-p.invariant.upto, c.requires.2.ends)
 
@@ -23,7 +20,7 @@ bounds-points-p c = omega (arith, c.loop-p-test.true, c.loop-p.invariant.upto, c
 pub point_origin-origin-requires : goal.point_origin-origin-requires
 point_origin-origin-requires c =
     let t = c.loop-p-test.true in
-    (group_notable c.requires.2 c.requires.1 _ (omega (arith, t)) (omega (arith, t, c.loop-p.invariant.upto)), c.requires.4)
+    group_notable c.requires.2 c.requires.1 _ (omega (arith, t)) (omega (arith, t, c.loop-p.invariant.upto))
 
 pub note_from-noted-requires : goal.note_from-noted-requires
 note_from-noted-requires c =
@@ -42,9 +39,6 @@ raise_row-requires c =
       point_known w.2 w.1 _ (omega (arith, t)) (omega (arith, t, i.upto)) c.args.turn e,
       rowing_known w.1 w.3 i t e back,
     )
-
-pub loop-p-smaller : goal.loop-p-smaller
-loop-p-smaller c = omega (arith, c.loop-p-test.true)
 
 pub loop-p-preserved : goal.loop-p-preserved
 loop-p-preserved c =

@@ -2,6 +2,7 @@
 use mathlib.Core.Path.{refl}
 use native.Mathlib.Omega.{arith}
 use borrow.Author.Rules.{rules}
+use Rattle.origins.specs.declared.Turn.TheVariants.{Other}
 use Rattle.origins.proofs.Reached.{within_all}
 use Rattle.rows.proofs.Grouped.{group_notable, point_known}
 use Rattle.rows.proofs.Setters.{setting_start, setting_known, setting_more}
@@ -9,9 +10,6 @@ use Rattle.rows.proofs.rows.row_setters.Goals as goal
 
 pub loop-p-init : goal.loop-p-init
 loop-p-init c = setting_start c.requires.1 c.requires.2 _
-
-pub overflow_sub-p : goal.overflow_sub-p
-overflow_sub-p c = omega (arith, c.loop-p-test.true)
 
 pub offset_bounds-points-p : goal.offset_bounds-points-p
 offset_bounds-points-p c = search (rules, c.loop-p.invariant.upto, c.requires.2.ends)
@@ -22,7 +20,7 @@ bounds-points-p c = omega (arith, c.loop-p-test.true, c.loop-p.invariant.upto, c
 pub point_origin-origin-requires : goal.point_origin-origin-requires
 point_origin-origin-requires c =
     let t = c.loop-p-test.true in
-    (group_notable c.requires.2 c.requires.1 _ (omega (arith, t)) (omega (arith, t, c.loop-p.invariant.upto)), omega arith)
+    group_notable c.requires.2 c.requires.1 _ (omega (arith, t)) (omega (arith, t, c.loop-p.invariant.upto))
 
 pub raise_row-requires : goal.raise_row-requires
 raise_row-requires c =
@@ -31,7 +29,7 @@ raise_row-requires c =
     let t = c.loop-p-test.true in (
       i.reached.whole w.0,
       w.1,
-      point_known w.2 w.1 _ (omega (arith, t)) (omega (arith, t, i.upto)) 1 c.point_origin-origin.ensures,
+      point_known w.2 w.1 _ (omega (arith, t)) (omega (arith, t, i.upto)) Other c.point_origin-origin.ensures,
       setting_known w.1 w.2 i,
     )
 
@@ -41,9 +39,6 @@ note-requires c =
     let i = c.loop-p.invariant in
     let t = c.loop-p-test.true in
     group_notable w.2 w.1 _ (omega (arith, t)) (omega (arith, t, i.upto))
-
-pub loop-p-smaller : goal.loop-p-smaller
-loop-p-smaller c = omega (arith, c.loop-p-test.true)
 
 pub loop-p-preserved : goal.loop-p-preserved
 loop-p-preserved c =

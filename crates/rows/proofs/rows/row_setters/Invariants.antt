@@ -4,6 +4,3 @@ use Rattle.rows.proofs.rows.row_setters.Given as goal
 
 abbrev pub invariant-loop-p : goal.invariant-loop-p
 invariant-loop-p l = Setting l.n (schedule_of l.starts) l.points l.low l.high l.initial.gaps l.leads l.p l.gaps
-
-abbrev pub decreases-loop-p : goal.decreases-loop-p
-decreases-loop-p l = l.p
