@@ -20,11 +20,13 @@ module _ (x at value step : ℕ → ℕ) (P : ℕ → Type 0) (points : List ℕ
   placed_begun : (many : ℕ) → ((n : ℕ) → P n → step n < many) → Begun many x points low high
   placed_begun many h =
       record {
-        begins = g.begins;
-        ends = g.ends;
-        step = λ p a b. omega (arith, g.steps p a b, h (number_at points p) (g.holds p a b));
+        spanned = record {
+          begins = g.begins;
+          ends = g.ends;
+          step = λ p a b. omega (arith, g.steps p a b, h (number_at points p) (g.holds p a b));
+          rises = g.rises;
+        };
         begun = λ p a b. omega (arith, g.ticks p a b, ap x (g.steps p a b));
-        rises = g.rises;
       }
 
   -- the orders of the points are those of the records
@@ -137,9 +139,11 @@ module _ {m : Model} {starts points begins : List ℕ} (w : TimedPoints m starts
       rw (a, b)
       (let g = w.known.wanted f h in
       record {
-        begins = g.begins;
-        ends = g.ends;
-        step = λ p c d. omega (arith, g.steps p c d, w.form.condition_step (number_at points p) (g.holds p c d).0);
+        spanned = record {
+          begins = g.begins;
+          ends = g.ends;
+          step = λ p c d. omega (arith, g.steps p c d, w.form.condition_step (number_at points p) (g.holds p c d).0);
+          rises = g.rises;
+        };
         known = λ p c d. (g.holds p c d).0;
-        rises = g.rises;
       })

@@ -6,6 +6,7 @@ use mathlib.Core.Logic.{◌⊎◌, inl, inr, ⊎_elim}
 use native.Mathlib.Decide.{dec_lt, ℕ_discrete}
 use native.Mathlib.Omega.{arith}
 use lib.ListN.{get_or}
+use Rattle.std.specs.Prelude.{Option, Some, None}
 use Rattle.timeline.specs.Words.{word_step, word_tick, word_value, tick_at, value_at, number_at}
 use Rattle.timeline.specs.Placed.{Parted, Run}
 use Rattle.timeline.specs.Walking.{Walking}
@@ -13,11 +14,10 @@ use Rattle.timeline.specs.declared.walk.Cursor.{Cursor}
 use Rattle.job.specs.Model.{Model}
 use Rattle.job.specs.WellFormed.{WellFormed}
 use Rattle.points.specs.Points.{wanted_group}
-use Rattle.limits.specs.Timed.{most_limit}
-use Rattle.moves.specs.Moved.{Up, Down, Moved, Single, Among, start_after, start_before, Before}
-use Rattle.moves.specs.Others.{Row, Passed, LastOther, NoOther, NextOther}
+use Rattle.moves.specs.Moved.{Up, Down, Moved, Among, After, Before, start_after, start_before}
+use Rattle.moves.specs.Others.{Row, Passed, LastOther, InTime, NoOther, NextOther}
 use Rattle.moves.proofs.Moved.{moved_is, moved_either}
-use Rattle.limits.specs.Beside.{LaterThan, OfWords, OfSetters, OfWanted, OfTimed, OfFact}
+use Rattle.limits.specs.Beside.{LaterThan, SoonerAt, OfWords, OfSetters, OfWanted, OfTimed, OfFact}
 use Rattle.limits.specs.Known.{TimedKnown}
 
 -- a cursor before all timed facts, one that has come to a tick, and one that goes on to a later one
@@ -65,19 +65,14 @@ module _ {order : List ℕ} {from until : ℕ} (w : Row order from until) {t : �
         run = b;
       }
 
-  module _ {value last : ℕ} (o : LastOther order from cursor.place value last) where
-    pub other_most : last ≤ most_limit
-    other_most =
-        ⊎_elim
-        (λ (e : last ≡ 0). omega arith)
-        (λ (e : (p : ℕ) × (from ≤ p) × (p < cursor.place) × (value ≡ value_at order p → ⊥) × (last ≡ tick_at order p + 1)).
-        omega (arith, e.4, w.late e.0 e.1 (omega (arith, e.2, a.to))))
-        o.one
+  module _ {value : ℕ} {last : Option ℕ} (o : LastOther order from cursor.place value last) where
+    pub other_timed : InTime last
+    other_timed tick e = let f = o.one tick e in omega (arith, f.4, w.late f.0 f.1 (omega (arith, f.2, a.to)))
 
     -- raised by the last is raised by all
     pub later_all :
         (x : ℕ → ℕ) (word : ℕ) (before after : List ℕ) → t ≡ word_tick word → value ≡ word_value word
-        → Moved Up (Single (word_step word) (last - (word_tick word - x (word_step word)))) before after
+        → Moved Up (After last (word_step word) (word_tick word - x (word_step word))) before after
         → Moved Up (OfTimed order from until (LaterThan x) word) before after
     later_all x word before after here same m =
         record {
@@ -90,30 +85,28 @@ module _ {order : List ℕ} {from until : ℕ} (w : Row order from until) {t : �
                 | no l ↦ absurd (omega (arith, a.after u.0 (omega arith) u.2, u.3.1, here))
               ]
               in
+              let f = o.above u.0 u.1 near (λ q. u.3.0 (sym same ∙ q)) in
               omega (
                 arith,
                 u.3.3,
-                o.above u.0 u.1 near (λ q. u.3.0 (sym same ∙ q)),
-                m.reaches k (last - (word_tick word - x (word_step word))) (u.3.2, refl),
+                f.2,
+                m.reaches k (start_after f.0 (word_tick word - x (word_step word))) (f.0, f.1, u.3.2, refl),
               );
           least = λ k bound g all.
               m.least k bound g
               (λ v u.
-              ⊎_elim
-              (λ (e : last ≡ 0). omega (arith, e, u.1))
-              (λ (e : (p : ℕ) × (from ≤ p) × (p < cursor.place) × (value ≡ value_at order p → ⊥) × (last ≡ tick_at order p + 1)).
+              let f = o.one u.0 u.1 in
               omega (
                 arith,
-                u.1,
-                e.4,
-                all (start_after (tick_at order e.0) (word_tick word - x (word_step word))) (
-                  e.0,
-                  e.1,
-                  omega (arith, e.2, a.to),
-                  (λ q. e.3 (same ∙ q), omega (arith, here, a.before e.0 e.1 e.2), u.0, refl),
+                u.3,
+                f.4,
+                all (start_after (tick_at order f.0) (word_tick word - x (word_step word))) (
+                  f.0,
+                  f.1,
+                  omega (arith, f.2, a.to),
+                  (λ q. f.3 (same ∙ q), omega (arith, here, a.before f.0 f.1 f.2), u.2, refl),
                 ),
-              ))
-              o.one);
+              ));
         }
 
 -- the places up to which no timed fact has another value after the points' ticks
@@ -149,60 +142,69 @@ next_place {value = value} few is h a b i c d =
       | no e ↦ let one : value ≡ 1 = omega arith in rw (is.1 e, one) (next_whole i c d)
     ]
 
-module _ {order : List ℕ} {from until : ℕ} (w : Row order from until) {value t place next : ℕ} (n : NextOther order from until value t place)
-    (is : (until ≤ place → next ≡ 0) × (place < until → next ≡ tick_at order place + 1)) where
-  pub next_most : next ≤ most_limit
-  next_most =
-      elim (dec_lt place until) [
-        | yes l ↦ omega (arith, is.1 l, w.late place n.begins l)
-        | no l ↦ omega (arith, is.0 (omega arith))
-      ]
+module _ {order : List ℕ} {from until : ℕ} (w : Row order from until) {value t place : ℕ} {next : Option ℕ}
+    (n : NextOther order from until value t place) (is : (until ≤ place → next ≡ None) × (place < until → next ≡ Some (tick_at order place)))
+  where
+    pub next_timed : InTime next
+    next_timed tick e =
+        elim (dec_lt place until) [
+          | yes l ↦ let q : tick ≡ tick_at order place = cc (is.1 l, e) in omega (arith, q, w.late place n.begins l)
+          | no l ↦ absurd (cc (is.0 (omega arith), e))
+        ]
 
-  -- lowered by the first is lowered by all
-  pub sooner_all :
-      (word at : ℕ) (before after : List ℕ) → t ≡ word_tick word → value ≡ word_value word
-      → Moved Down (Before next (word_step word) at) before after
-      → Moved Down
-      (Among from until
-      (λ q k v.
-      (word_value word ≡ value_at order q → ⊥) × (word_tick word < tick_at order q) × (word_step word ≡ k)
-      × (v ≡ start_before (tick_at order q) at)))
-      before after
-  sooner_all word at before after here same m =
-      record {
-        size = m.size;
-        moves = m.moves;
-        reaches = λ k v u.
-            let q = u.0 in
-            let far : place ≤ q =
-            elim (dec_lt q place) [
-              | yes l ↦ absurd (n.before q u.1 l (λ e. u.3.0 (sym same ∙ e)) (omega (arith, here, u.3.1)))
-              | no l ↦ omega arith
-            ]
-            in
-            let l : place < until = omega (arith, u.2) in
-            let low : tick_at order place ≤ tick_at order q =
-            elim (dec_lt place q) [
-              | yes i ↦ w.rises place q n.begins i u.2
-              | no i ↦ omega (arith, ap (tick_at order) (let e : place ≡ q = omega arith in e))
-            ]
-            in
-            omega (arith, u.3.3, low, is.1 l, m.reaches k (start_before (next - 1) at) (λ z. absurd (omega (arith, z, is.1 l)), u.3.2, refl));
-        least = λ k bound g all.
-            m.least k bound g
-            (λ v u.
-            elim (dec_lt place until) [
-              | yes l ↦
-                  omega (
-                    arith,
-                    u.2,
-                    is.1 l,
-                    all (start_before (tick_at order place) at)
-                        (place, n.begins, l, (λ e. (n.here l).0 (same ∙ e), omega (arith, here, (n.here l).1), u.1, refl)),
-                  )
-              | no l ↦ absurd (u.0 (is.0 (omega arith)))
-            ]);
-      }
+    -- lowered by the first is lowered by all
+    pub sooner_all :
+        (offset : ℕ → ℕ) (word : ℕ) {step at : ℕ} (before after : List ℕ) → t ≡ word_tick word → value ≡ word_value word → step ≡ word_step word
+        → at ≡ offset word
+        → Moved Down (Before next step at) before after
+        → Moved Down (OfTimed order from until (SoonerAt offset) word) before after
+    sooner_all offset word {step} {at} before after here same own far m =
+        record {
+          size = m.size;
+          moves = m.moves;
+          reaches = λ k v u.
+              let q = u.0 in
+              let behind : place ≤ q =
+              elim (dec_lt q place) [
+                | yes l ↦ absurd (n.before q u.1 l (λ e. u.3.0 (sym same ∙ e)) (omega (arith, here, u.3.1)))
+                | no l ↦ omega arith
+              ]
+              in
+              let l : place < until = omega (arith, u.2) in
+              let low : tick_at order place ≤ tick_at order q =
+              elim (dec_lt place q) [
+                | yes i ↦ w.rises place q n.begins i u.2
+                | no i ↦ omega (arith, ap (tick_at order) (let e : place ≡ q = omega arith in e))
+              ]
+              in
+              omega (
+                arith,
+                u.3.3,
+                low,
+                far,
+                m.reaches k (start_before (tick_at order place) at) (tick_at order place, is.1 l, own ∙ u.3.2, refl),
+              );
+          least = λ k bound g all.
+              m.least k bound g
+              (λ v u.
+              elim (dec_lt place until) [
+                | yes l ↦
+                    let q : u.0 ≡ tick_at order place = cc (is.1 l, u.1) in
+                    omega (
+                      arith,
+                      u.3,
+                      q,
+                      far,
+                      all (start_before (tick_at order place) (offset word)) (
+                        place,
+                        n.begins,
+                        l,
+                        (λ e. (n.here l).0 (same ∙ e), omega (arith, here, (n.here l).1), sym own ∙ u.2, refl),
+                      ),
+                    )
+                | no l ↦ absurd (cc (is.0 (omega arith), u.1))
+              ]);
+        }
 
 -- the orders of each fact are those of each timed fact
 module _ (To : ℕ → ℕ → Type 0) (same : (a : ℕ) → To a a) (on : (a b c : ℕ) → To a b → To b c → To a c) (m : Model)

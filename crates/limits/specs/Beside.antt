@@ -16,20 +16,21 @@ LaterThan x tick value word k v =
 abbrev pub Later : (ℕ → ℕ) → TimedFact → ℕ → ℕ → ℕ → Type 0
 Later x timed = LaterThan x timed.tick timed.value
 
+-- a point that has another value and lies before it, as far into its step as `at` says
+abbrev pub SoonerAt : (ℕ → ℕ) → ℕ → ℕ → ℕ → ℕ → ℕ → Type 0
+SoonerAt at tick value word k v =
+    (word_value word ≡ value → ⊥) × (word_tick word < tick) × (word_step word ≡ k) × (v ≡ start_before tick (at word))
+
 -- a setter that has another value and lies before it
 abbrev pub SoonerThan : (ℕ → ℕ) → ℕ → ℕ → ℕ → ℕ → ℕ → Type 0
-SoonerThan x tick value word k v =
-    (word_value word ≡ value → ⊥) × (word_tick word < tick) × (word_step word ≡ k)
-    × (v ≡ start_before tick (word_tick word - x (word_step word)))
+SoonerThan x = SoonerAt (λ word. word_tick word - x (word_step word))
 
 abbrev pub Sooner : (ℕ → ℕ) → TimedFact → ℕ → ℕ → ℕ → Type 0
 Sooner x timed = SoonerThan x timed.tick timed.value
 
 -- a condition that wants another value and begins before it, so that it ends before it in a valid schedule
 abbrev pub EndedBy : Model → ℕ → ℕ → ℕ → ℕ → ℕ → Type 0
-EndedBy m tick value word k v =
-    (word_value word ≡ value → ⊥) × (word_tick word < tick) × (word_step word ≡ k)
-    × (v ≡ start_before tick (m.condition_to (word_number word)))
+EndedBy m = SoonerAt (λ word. m.condition_to (word_number word))
 
 abbrev pub Ended : Model → TimedFact → ℕ → ℕ → ℕ → Type 0
 Ended m timed = EndedBy m timed.tick timed.value
@@ -79,21 +80,30 @@ LimitByLink m links c k v =
     (m.effects ≤ get_or links c 0) × (get_or links c 0 ≡ initial_state → ⊥) × (m.condition_step c ≡ k)
     × (v ≡ start_after (m.timed_tick (get_or links c 0 - m.effects)) (m.condition_from c))
 
--- points of the first n steps in the order of their ticks, none before its step's start
-pub record Begun (n : ℕ) (x : ℕ → ℕ) (points : List ℕ) (low high : ℕ) : Type 0 where
+-- points of the first n steps in the order of their ticks
+pub record Spanned (n : ℕ) (points : List ℕ) (low high : ℕ) : Type 0 where
   pub begins : low ≤ high
   pub ends : high ≤ length points
   pub step : (p : ℕ) → low ≤ p → p < high → word_step (get_or points p 0) < n
-  pub begun : (p : ℕ) → low ≤ p → p < high → x (word_step (get_or points p 0)) ≤ word_tick (get_or points p 0)
   pub rises : (p q : ℕ) → low ≤ p → p < q → q < high → tick_at points p ≤ tick_at points q
 
--- conditions of the first n steps in the order of their ticks
+-- none of them before its step's start
+pub record Begun (n : ℕ) (x : ℕ → ℕ) (points : List ℕ) (low high : ℕ) : Type 0 where
+  pub spanned : Spanned n points low high
+  pub begun : (p : ℕ) → low ≤ p → p < high → x (word_step (get_or points p 0)) ≤ word_tick (get_or points p 0)
+
+-- all of them conditions
 pub record Wanted (m : Model) (n : ℕ) (points : List ℕ) (low high : ℕ) : Type 0 where
-  pub begins : low ≤ high
-  pub ends : high ≤ length points
-  pub step : (p : ℕ) → low ≤ p → p < high → word_step (get_or points p 0) < n
+  pub spanned : Spanned n points low high
   pub known : (p : ℕ) → low ≤ p → p < high → word_number (get_or points p 0) < m.conditions
-  pub rises : (p q : ℕ) → low ≤ p → p < q → q < high → tick_at points p ≤ tick_at points q
+
+-- what a caller may ask of each of these points, and what it is then answered
+abbrev pub Asked : (ℕ → Type 0) → List ℕ → ℕ → ℕ → Type 0
+Asked Pre points low high = (p : ℕ) → low ≤ p → p < high → Pre (get_or points p 0)
+
+abbrev pub Answered : (ℕ → ℕ → Type 0) → List ℕ → ℕ → ℕ → (ℕ → ℕ) → Type 0
+Answered Post points low high offset =
+    (p answer : ℕ) → low ≤ p → p < high → Post (get_or points p 0) answer → answer ≡ offset (get_or points p 0)
 
 -- links of all conditions, each the initial state, an effect or a timed fact
 pub record LinksNamed (m : Model) (links : List ℕ) : Type 0 where

@@ -35,13 +35,11 @@ fn raise_points(starts: &[u32], points: &[u64], order: &[u64], span: Span, limit
         place: span.from,
         run: span.from,
     };
-    let mut p = span.low;
-    while p < span.high {
+    for p in span.low..span.high {
         let word = points[p];
         cursor = advance(order, span.from, span.until, tick_of(word), cursor);
-        let first = last_other(order, span.from, cursor, value_of(word));
-        raise_point(starts, word, first, limits);
-        p += 1;
+        let last = last_other(order, span.from, cursor, value_of(word));
+        raise_point(starts, word, last, limits);
     }
 }
 
@@ -67,13 +65,11 @@ fn raise_timed(
     let mut marks = [0u16; MARKS];
     list_timed(s, job, starts, &mut order, &mut marks);
     let facts = job.count.facts as usize;
-    let mut f = 0;
-    while f < facts {
+    for f in 0..facts {
         let setters = span_of(begins, f, &marks, f);
         raise_points(starts, points, &order, setters, limits);
         let wanted = span_of(begins, facts + f, &marks, f);
         raise_points(starts, points, &order, wanted, limits);
-        f += 1;
     }
 }
 
@@ -101,11 +97,8 @@ fn raise_supported(s: &[u8], job: Job, links: &[u16], limits: &mut [u32])
     if job.count.timed == 0 {
         return;
     }
-    let n = job.count.conditions;
-    let mut c = 0;
-    while c < n {
+    for c in 0..job.count.conditions {
         raise_linked(s, job, links, c, limits);
-        c += 1;
     }
 }
 

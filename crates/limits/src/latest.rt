@@ -1,5 +1,5 @@
 // Latest starts: a point strictly before the tick T of a timed fact gives start ≤ T − point − 1.
-ghost use Rattle.std.specs.Prelude.{◌≡◌, ◌+◌, ◌<◌, length};
+ghost use Rattle.std.specs.Prelude.{◌≡◌, ℕ, ◌+◌, ◌<◌, length};
 ghost use Rattle.job.specs.Model.{view};
 ghost use Rattle.job.specs.WellFormed.{WellFormed};
 ghost use Rattle.job.specs.Laid.{Laid};
@@ -8,16 +8,47 @@ ghost use Rattle.order_file.specs.Contents.{no_latest};
 ghost use Rattle.order_file.specs.Table.{row_width};
 ghost use Rattle.limits.specs.Timed.{TimedPoints, AllAre, ClockLatest};
 ghost use Rattle.moves.specs.Moved.{Down, Moved, Among};
-ghost use Rattle.limits.specs.Beside.{SoonerThan, EndedBy, OfWords, OfTimed, LatestBy, Begun, Wanted};
+ghost use Rattle.limits.specs.Beside.{SoonerAt, SoonerThan, EndedBy, OfWords, OfTimed, LatestBy, Spanned, Asked, Answered, Begun, Wanted};
 ghost use Rattle.moves.specs.Others.{Row};
 
 use crate::timed::{MARKS, MOST_TIMED, Span, list_timed, span_of};
 use job::layout::Job;
-use moves::others::{next_other, next_tick, place_for};
-use moves::{lower_condition, lower_setter};
-use timeline::word::{tick_of, value_of};
+use moves::others::{next_other, next_tick};
+use moves::{end_in, lower_start, offset_in};
+use timeline::word::{step_of, tick_of, value_of};
 
-// For the setters of a span: along them and, beside them, the timed facts that come next.
+// For points of a span, each as far into its step as `at` says: along them and, beside them, the timed facts that come next.
+fn lower_points<F: Fn(u64) -> usize>(
+    points: &[u64],
+    order: &[u64],
+    span: Span,
+    at: F,
+    latest: &mut [u32],
+)
+    requires { Spanned (length latest.old) points.now span.low span.high × Row order.now span.from span.until
+        × Asked (F.pre at) points.now span.low span.high }
+    ensures { (offset : ℕ → ℕ) → Answered (F.post at) points.now span.low span.high offset → Moved Down
+        (OfWords points.now span.low span.high
+        (OfTimed order.now span.from span.until (SoonerAt offset)))
+        latest.old latest.new }
+{
+    if span.until <= span.from {
+        return;
+    }
+    let mut off = span.from;
+    let mut on = span.from;
+    for p in span.low..span.high {
+        let word = points[p];
+        let tick = tick_of(word);
+        off = next_other(order, off, span.until, 0, tick);
+        on = next_other(order, on, span.until, 1, tick);
+        let place = if value_of(word) == 0 { off } else { on };
+        let next = next_tick(order, place, span.until);
+        lower_start(step_of(word), at(word), next, latest);
+    }
+}
+
+// Rule 2 for the setters of a span: an effect of another value comes before the first timed fact that it lies before.
 fn lower_setters(starts: &[u32], points: &[u64], order: &[u64], span: Span, latest: &mut [u32])
     requires { Begun (length latest.old) (schedule_of starts.now) points.now span.low span.high
         × Row order.now span.from span.until }
@@ -26,24 +57,11 @@ fn lower_setters(starts: &[u32], points: &[u64], order: &[u64], span: Span, late
         (OfTimed order.now span.from span.until (SoonerThan (schedule_of starts.now))))
         latest.old latest.new }
 {
-    if span.until <= span.from {
-        return;
-    }
-    let mut off = span.from;
-    let mut on = span.from;
-    let mut p = span.low;
-    while p < span.high {
-        let word = points[p];
-        off = next_other(order, off, span.until, 0, tick_of(word));
-        on = next_other(order, on, span.until, 1, tick_of(word));
-        let place = place_for(value_of(word), off, on);
-        let next = next_tick(order, place, span.until);
-        lower_setter(starts, word, next, latest);
-        p += 1;
-    }
+    lower_points(points, order, span, |word| offset_in(starts, word), latest);
 }
 
-// For the conditions of a span.
+// Rule 3 for the conditions of a span: one that wants another value ends before the timed fact that it begins before, as the schedule is
+// valid.
 fn lower_conditions(
     s: &[u8],
     job: Job,
@@ -53,27 +71,13 @@ fn lower_conditions(
     latest: &mut [u32],
 )
     requires { Wanted (view job s.now) (length latest.old) points.now span.low span.high × Row order.now span.from span.until
-        × WellFormed (view job s.now) × Laid job s.now }
+        × Laid job s.now }
     ensures { Moved Down
         (OfWords points.now span.low span.high
         (OfTimed order.now span.from span.until (EndedBy (view job s.now))))
         latest.old latest.new }
 {
-    if span.until <= span.from {
-        return;
-    }
-    let mut off = span.from;
-    let mut on = span.from;
-    let mut p = span.low;
-    while p < span.high {
-        let word = points[p];
-        off = next_other(order, off, span.until, 0, tick_of(word));
-        on = next_other(order, on, span.until, 1, tick_of(word));
-        let place = place_for(value_of(word), off, on);
-        let next = next_tick(order, place, span.until);
-        lower_condition(s, job, word, next, latest);
-        p += 1;
-    }
+    lower_points(points, order, span, |word| end_in(s, job, word), latest);
 }
 
 // For all setters and conditions of each fact.
@@ -98,13 +102,11 @@ fn lower_timed(
     let mut marks = [0u16; MARKS];
     list_timed(s, job, starts, &mut order, &mut marks);
     let facts = job.count.facts as usize;
-    let mut f = 0;
-    while f < facts {
+    for f in 0..facts {
         let setters = span_of(begins, f, &marks, f);
         lower_setters(starts, points, &order, setters, latest);
         let wanted = span_of(begins, facts + f, &marks, f);
         lower_conditions(s, job, points, &order, wanted, latest);
-        f += 1;
     }
 }
 

@@ -2,4 +2,3 @@
 pub mod Moved
 pub mod Tested
 pub mod NextOthers
-pub mod Near

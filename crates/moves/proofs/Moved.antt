@@ -1,5 +1,5 @@
 -- A list of starts moved to what orders say: the order in which it happens does not matter, and of several the tightest counts.
-use Prim.Native.Nat.{ℕ, ◌+◌, ◌-◌, ◌≤◌, ◌<◌}
+use Prim.Native.Nat.{ℕ, ◌+◌, ◌≤◌, ◌<◌}
 use mathlib.Core.Path.{◌≡◌, refl, sym, ap, subst, ◌∙◌}
 use mathlib.Core.List.{List}
 use mathlib.Core.Logic.{◌⊎◌, inl, inr, ⊎_elim}
@@ -7,8 +7,9 @@ use native.Mathlib.Decide.{ℕ_discrete}
 use native.Mathlib.Omega.{arith}
 use lib.ListN.{length, set, length-set}
 use lib.Seq.{get_or-set_same, get_or-set_other}
+use Rattle.std.specs.Prelude.{Option, Some}
 use Rattle.order_file.specs.Table.{start_in}
-use Rattle.moves.specs.Moved.{Up, Down, Moved, Single, Among, Before, start_before}
+use Rattle.moves.specs.Moved.{Up, Down, Moved, Single, Among, After, Before, start_after, start_before}
 
 pub up_same : (a : ℕ) → Up a a
 up_same a = omega arith
@@ -92,20 +93,12 @@ module _ (To : ℕ → ℕ → Type 0) (same : (a : ℕ) → To a a) (on : (a b 
       let e : p ≡ high = omega arith in
       subst (λ q. Moved To (Among low q Order) before after) e w
 
-  -- one start, moved or not
-  pub moved_kept : (list : List ℕ) (step v : ℕ) → To v (start_in list step) → Moved To (Single step v) list list
-  moved_kept list step v h =
-      record {
-        size = refl;
-        moves = λ k. same (start_in list k);
-        reaches = λ k start o. subst (λ i. To start (start_in list i)) o.0 (subst (λ t. To t (start_in list step)) (sym o.1) h);
-        least = λ k bound g all. g;
-      }
-
-  pub moved_put :
-      (list : List ℕ) (step v : ℕ) {start : ℕ} → v ≡ start → step < length list → To (start_in list step) start
+  -- one start, moved as far as is said of it and no further
+  pub moved_met :
+      (list : List ℕ) (step start v : ℕ) → step < length list → To (start_in list step) v → To start v
+      → ((bound : ℕ) → To (start_in list step) bound → To start bound → To v bound)
       → Moved To (Single step start) list (set list step v)
-  moved_put list step v {start} e l h =
+  moved_met list step start v l h met low =
       record {
         size = length-set list step v;
         moves = λ k.
@@ -115,16 +108,18 @@ module _ (To : ℕ → ℕ → Type 0) (same : (a : ℕ) → To a a) (on : (a b 
             ];
         reaches = λ k t o.
             subst (λ i. To t (start_in (set list step v) i)) o.0
-            (subst (λ u. To u (start_in (set list step v) step)) (sym o.1) (subst (To start) (sym here) (same start)));
+            (subst (λ u. To u (start_in (set list step v) step)) (sym o.1) (subst (To start) (sym here) met));
         least = λ k bound g all.
             elim (ℕ_discrete k step) [
-              | yes q ↦ subst (λ t. To t bound) (sym (ap (start_in (set list step v)) q ∙ here)) (all start (sym q, refl))
+              | yes q ↦
+                  subst (λ t. To t bound) (sym (ap (start_in (set list step v)) q ∙ here))
+                  (low bound (subst (λ i. To (start_in list i) bound) q g) (all start (sym q, refl)))
               | no q ↦ subst (λ t. To t bound) (sym (there k q)) g
             ];
       }
     where
-      here : start_in (set list step v) step ≡ start
-      here = get_or-set_same list step v 0 l ∙ e
+      here : start_in (set list step v) step ≡ v
+      here = get_or-set_same list step v 0 l
 
       there : (k : ℕ) → (k ≡ step → ⊥) → start_in (set list step v) k ≡ start_in list k
       there k d = get_or-set_other list step k v 0 d
@@ -142,11 +137,21 @@ module _ (To : ℕ → ℕ → Type 0) (same : (a : ℕ) → To a a) (on : (a b 
     pub allowed_none : (list : List ℕ) → (A → B → ⊥) → Moved To (λ k v. A × B × (step ≡ k) × (v ≡ start)) list list
     allowed_none list d = moved_none (λ k v. A × B × (step ≡ k) × (v ≡ start)) list (λ k v o. d o.0 o.1)
 
--- an order to come before a tick
+-- an order to come after a tick, and one to come before it
+pub after_one :
+    {last : Option ℕ} {tick step : ℕ} (at : ℕ) (before after : List ℕ) → last ≡ Some tick
+    → Moved Up (Single step (start_after tick at)) before after
+    → Moved Up (After last step at) before after
+after_one {last} {tick} {step} at before after e w =
+    moved_is Up up_same up_on (Single step (start_after tick at)) (After last step at) before after w
+    (λ k v o. (tick, e, o.0, o.1))
+    (λ k v o. let same : o.0 ≡ tick = cc (o.1, e) in (o.2, o.3 ∙ ap (λ t. start_after t at) same))
+
 pub before_one :
-    {next step : ℕ} (at : ℕ) (before after : List ℕ) → (next ≡ 0 → ⊥) → Moved Down (Single step (start_before (next - 1) at)) before after
+    {next : Option ℕ} {tick step : ℕ} (at : ℕ) (before after : List ℕ) → next ≡ Some tick
+    → Moved Down (Single step (start_before tick at)) before after
     → Moved Down (Before next step at) before after
-before_one {next} {step} at before after d w =
-    moved_is Down down_same down_on (Single step (start_before (next - 1) at)) (Before next step at) before after w
-    (λ k v o. (d, o.0, o.1))
-    (λ k v o. (o.1, o.2))
+before_one {next} {tick} {step} at before after e w =
+    moved_is Down down_same down_on (Single step (start_before tick at)) (Before next step at) before after w
+    (λ k v o. (tick, e, o.0, o.1))
+    (λ k v o. let same : o.0 ≡ tick = cc (o.1, e) in (o.2, o.3 ∙ ap (λ t. start_before t at) same))

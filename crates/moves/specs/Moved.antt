@@ -1,5 +1,5 @@
 -- Between crates: lists of starts moved to what orders with the clock say, each of a step k and a start.
-use Rattle.std.specs.Prelude.{ℕ, ◌+◌, ◌-◌, ◌≤◌, ◌<◌, ◌≡◌, List, length}
+use Rattle.std.specs.Prelude.{ℕ, ◌+◌, ◌-◌, ◌≤◌, ◌<◌, ◌≡◌, List, length, Option, Some}
 use Rattle.order_file.specs.Table.{start_in}
 
 -- the ways a start can be moved: up or down
@@ -32,6 +32,9 @@ start_after tick at = tick + 1 - at
 abbrev pub start_before : ℕ → ℕ → ℕ
 start_before tick at = tick - (at + 1)
 
--- an order of a single step to come before the tick before `next`, where that is not 0
-abbrev pub Before : ℕ → ℕ → ℕ → ℕ → ℕ → Type 0
-Before next step at k v = (next ≡ 0 → ⊥) × (step ≡ k) × (v ≡ start_before (next - 1) at)
+-- an order of a single step to come after a tick, and one to come before it, if there is one
+abbrev pub After : Option ℕ → ℕ → ℕ → ℕ → ℕ → Type 0
+After last step at k v = (tick : ℕ) × (last ≡ Some tick) × (step ≡ k) × (v ≡ start_after tick at)
+
+abbrev pub Before : Option ℕ → ℕ → ℕ → ℕ → ℕ → Type 0
+Before next step at k v = (tick : ℕ) × (next ≡ Some tick) × (step ≡ k) × (v ≡ start_before tick at)

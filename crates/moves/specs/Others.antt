@@ -1,5 +1,5 @@
 -- Between crates: the timed facts of one fact in the order of their ticks, and those next to a place that have another value.
-use Rattle.std.specs.Prelude.{ℕ, ◌+◌, ◌≤◌, ◌<◌, ◌≡◌, List, ◌⊎◌, length}
+use Rattle.std.specs.Prelude.{ℕ, ◌≤◌, ◌<◌, ◌≡◌, List, length, Option, Some}
 use Rattle.timeline.specs.Words.{tick_at, value_at}
 use Rattle.timeline.specs.Placed.{Run}
 use Rattle.timeline.specs.declared.walk.Cursor.{Cursor}
@@ -17,11 +17,17 @@ pub record Passed (order : List ℕ) (from : ℕ) (cursor : Cursor) : Type 0 whe
   pub row : Row order from cursor.place
   pub run : Run order from cursor.place cursor.run
 
--- the last timed fact before place `at` that has another value: one more than its tick, or 0 where there is none
-pub record LastOther (order : List ℕ) (from at value last : ℕ) : Type 0 where
-  pub above : (p : ℕ) → from ≤ p → p < at → (value ≡ value_at order p → ⊥) → tick_at order p < last
+-- the tick of the last timed fact before place `at` that has another value, if there is one
+pub record LastOther (order : List ℕ) (from at value : ℕ) (last : Option ℕ) : Type 0 where
+  pub above :
+      (p : ℕ) → from ≤ p → p < at → (value ≡ value_at order p → ⊥) → (tick : ℕ) × (last ≡ Some tick) × (tick_at order p ≤ tick)
   pub one :
-      (last ≡ 0) ⊎ ((p : ℕ) × (from ≤ p) × (p < at) × (value ≡ value_at order p → ⊥) × (last ≡ tick_at order p + 1))
+      (tick : ℕ) → last ≡ Some tick
+      → (p : ℕ) × (from ≤ p) × (p < at) × (value ≡ value_at order p → ⊥) × (tick ≡ tick_at order p)
+
+-- a tick, if there is one, that a timed fact can have
+abbrev pub InTime : Option ℕ → Type 0
+InTime found = (tick : ℕ) → found ≡ Some tick → tick ≤ last_timed
 
 -- no timed fact from place to place has another value after tick t
 abbrev pub NoOther : List ℕ → ℕ → ℕ → ℕ → ℕ → Type 0

@@ -2,13 +2,12 @@
 #![tactic(auto)]
 
 ghost use Rattle.std.specs.Prelude.{◌≡◌, ◌+◌, ◌-◌, ◌≤◌, ◌<◌, length};
-ghost use Rattle.little_endian.specs.Bytes.{u32_values};
 ghost use Rattle.timeline.specs.Words.{word_step, word_number, word_tick};
 ghost use Rattle.job.specs.Model.{view, last_timed};
-ghost use Rattle.job.specs.WellFormed.{WellFormed};
 ghost use Rattle.job.specs.Laid.{Laid};
 ghost use Rattle.validity.specs.Ticks.{schedule_of};
-ghost use Rattle.moves.specs.Moved.{Up, Down, Moved, Single, Before};
+ghost use Rattle.moves.specs.Moved.{Up, Down, Moved, Single, After, Before};
+ghost use Rattle.moves.specs.Others.{InTime};
 
 pub mod others;
 
@@ -17,69 +16,52 @@ use job_reader::laid::condition_of;
 use ticks::start_of;
 use timeline::word::{number_of, step_of, tick_of};
 
-// A difference, 0 where it would lie below 0.
-fn since(a: usize, b: usize) -> usize
-    ensures { result ≡ a - b }
-{
-    if a < b { 0 } else { a - b }
-}
-
 // Raises the limit of a step so that what lies `at` into it does not come before tick `first`.
 pub fn raise_limit(step: u16, at: usize, first: usize, limits: &mut [u32])
     requires { (step < length limits.old) × (first ≤ last_timed + 1) }
     ensures { Moved Up (Single step (first - at)) limits.old limits.new }
 {
     let k = step as usize;
-    let limit = since(first, at) as u32;
-    if limits[k] < limit {
-        limits[k] = limit;
-    }
+    let limit = first.saturating_sub(at) as u32;
+    limits[k] = limits[k].max(limit);
 }
 
-// Rules 2 and 3: a point, an effect or where a condition begins, comes after the last timed fact of another value that it lies after.
-pub fn raise_point(starts: &[u32], word: u64, first: usize, limits: &mut [u32])
-    requires { (word_step word < length limits.old) × (schedule_of starts.now (word_step word) ≤ word_tick word) × (first ≤ last_timed + 1) }
-    ensures { Moved Up (Single (word_step word) (first - (word_tick word - schedule_of starts.now (word_step word))))
+// How far into its step a point lies.
+pub fn offset_in(starts: &[u32], word: u64) -> usize
+    requires { schedule_of starts.now (word_step word) ≤ word_tick word }
+    ensures { result ≡ word_tick word - schedule_of starts.now (word_step word) }
+{
+    tick_of(word) - start_of(starts, step_of(word))
+}
+
+// How far into its step a condition ends that a word names.
+pub fn end_in(s: &[u8], job: Job, word: u64) -> usize
+    requires { Laid job s.now × (word_number word < job.count.conditions) }
+    ensures { result ≡ (view job s.now).condition_to (word_number word) }
+{
+    condition_of(s, job, number_of(word)).to
+}
+
+// Rules 2 and 3: a point, an effect or where a condition begins, comes after the last timed fact of another value that it lies after, if
+// there is one.
+pub fn raise_point(starts: &[u32], word: u64, last: Option<usize>, limits: &mut [u32])
+    requires { (word_step word < length limits.old) × (schedule_of starts.now (word_step word) ≤ word_tick word) × InTime last }
+    ensures { Moved Up (After last (word_step word) (word_tick word - schedule_of starts.now (word_step word)))
         limits.old limits.new }
 {
-    let step = step_of(word);
-    let at = tick_of(word) - start_of(starts, step);
-    raise_limit(step, at, first, limits);
+    if let Some(tick) = last {
+        raise_limit(step_of(word), offset_in(starts, word), tick + 1, limits);
+    }
 }
 
-// Lowers the latest start of a step so that what lies `at` into it comes before the tick before `next`, if there is one.
-fn lower_start(step: u16, at: usize, next: usize, latest: &mut [u32])
-    requires { (step < length latest.old) × (at < u32_values + u32_values) × (next ≤ last_timed + 1) }
+// Lowers the latest start of a step so that what lies `at` into it comes before tick `next`, if there is one.
+pub fn lower_start(step: u16, at: usize, next: Option<usize>, latest: &mut [u32])
+    requires { (step < length latest.old) × InTime next }
     ensures { Moved Down (Before next step at) latest.old latest.new }
 {
-    if next == 0 {
-        return;
+    if let Some(tick) = next {
+        let k = step as usize;
+        let start = tick.saturating_sub(at).saturating_sub(1) as u32;
+        latest[k] = latest[k].min(start);
     }
-    let k = step as usize;
-    let start = since(next - 1, at + 1) as u32;
-    if start < latest[k] {
-        latest[k] = start;
-    }
-}
-
-// Rule 2: an effect of another value comes before the first timed fact that it lies before.
-pub fn lower_setter(starts: &[u32], word: u64, next: usize, latest: &mut [u32])
-    requires { (word_step word < length latest.old) × (schedule_of starts.now (word_step word) ≤ word_tick word) × (next ≤ last_timed + 1) }
-    ensures { Moved Down (Before next (word_step word) (word_tick word - schedule_of starts.now (word_step word)))
-        latest.old latest.new }
-{
-    let step = step_of(word);
-    let at = tick_of(word) - start_of(starts, step);
-    lower_start(step, at, next, latest);
-}
-
-// Rule 3: a condition that wants another value ends before the timed fact that it begins before, as the schedule is valid.
-pub fn lower_condition(s: &[u8], job: Job, word: u64, next: usize, latest: &mut [u32])
-    requires { (word_step word < length latest.old) × (next ≤ last_timed + 1) × WellFormed (view job s.now) × Laid job s.now
-        × (word_number word < job.count.conditions) }
-    ensures { Moved Down (Before next (word_step word) ((view job s.now).condition_to (word_number word)))
-        latest.old latest.new }
-{
-    let condition = condition_of(s, job, number_of(word));
-    lower_start(step_of(word), condition.to, next, latest);
 }

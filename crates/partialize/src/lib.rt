@@ -6,10 +6,9 @@ ghost use Rattle.job.specs.Laid.{Laid};
 ghost use Rattle.validity.specs.Ticks.{schedule_of};
 ghost use Rattle.orders.specs.File.{file_of};
 ghost use Rattle.schedule.specs.Opened.{Planned};
-ghost use Rattle.points.specs.Words.{Small};
 ghost use Rattle.order_file.specs.Contents.{no_latest};
 ghost use Rattle.limits.specs.Timed.{TimedPoints, TimedLinks, AllAre};
-ghost use Rattle.partialize.specs.Formed.{Formed};
+ghost use Rattle.partialize.specs.Formed.{Formed, Room};
 ghost use Rattle.partialize.specs.Found.{ValidSchedule, Timed, Linked, LimitsFound, LatestFound};
 ghost use Rattle.partialize.specs.Holds.{Fileable, Filing, FiledOf};
 ghost use Rattle.partialize.specs.Demands.{Promise};
@@ -31,6 +30,11 @@ use points::words::{
 use ticks::planned_starts;
 use verdict::number;
 use windows::{starts, window};
+
+// Room for the beginnings of groups, in a small job and in any.
+const FEW_BEGINS: usize = FEW_GROUPS + 2;
+
+const MOST_BEGINS: usize = MOST_GROUPS + 2;
 
 // Finds the limits of a valid schedule, in a list of zeros: those that timed facts leave, then written starts.
 fn find_limits(
@@ -130,7 +134,7 @@ fn file_timed(s: &[u8], job: Job, starts: &[u32], links: &mut [u16], out: &mut [
 {
     let mut spare = [0u64; MOST_POINTS];
     let mut points = [0u64; MOST_POINTS];
-    let mut begins = [0u16; MOST_GROUPS + 2];
+    let mut begins = [0u16; MOST_BEGINS];
     list_own_points(s, job, starts, &mut spare, &mut points, &mut begins);
     file_points(s, job, starts, &points, &begins, links, out)
 }
@@ -174,31 +178,33 @@ fn loosen_ordered(
     file_schedule(s, job, starts, points, begins, out)
 }
 
-// Puts the points of a small job in order, once for the check and the file.
-fn loosen_small(s: &[u8], job: Job, starts: &[u32], out: &mut [u8]) -> Answer
-    requires { Formed s.now job starts.now × Small job.count }
+// Puts the points of a job in order where there is room for them, once for the check and the file.
+fn loosen_within<const POINTS: usize, const BEGINS: usize>(
+    s: &[u8],
+    job: Job,
+    starts: &[u32],
+    out: &mut [u8],
+) -> Answer
+    requires { Formed s.now job starts.now × Room job.count POINTS BEGINS }
     ensures { Promise s.now out.old out.new result }
 {
-    let mut spare = [0u64; FEW_POINTS];
-    let mut points = [0u64; FEW_POINTS];
-    let mut begins = [0u16; FEW_GROUPS + 2];
+    let mut spare = [0u64; POINTS];
+    let mut points = [0u64; POINTS];
+    let mut begins = [0u16; BEGINS];
     list_points(s, job, starts, &mut spare, &mut points, &mut begins);
     loosen_ordered(s, job, starts, &points, &begins, out)
 }
 
-// The same of any job.
+// With little room for a small job.
 fn loosen(s: &[u8], job: Job, starts: &[u32], out: &mut [u8]) -> Answer
     requires { Formed s.now job starts.now }
     ensures { Promise s.now out.old out.new result }
 {
     if is_small(job) {
-        return loosen_small(s, job, starts, out);
+        loosen_within::<FEW_POINTS, FEW_BEGINS>(s, job, starts, out)
+    } else {
+        loosen_within::<MOST_POINTS, MOST_BEGINS>(s, job, starts, out)
     }
-    let mut spare = [0u64; MOST_POINTS];
-    let mut points = [0u64; MOST_POINTS];
-    let mut begins = [0u16; MOST_GROUPS + 2];
-    list_points(s, job, starts, &mut spare, &mut points, &mut begins);
-    loosen_ordered(s, job, starts, &points, &begins, out)
 }
 
 // Loosens a job into an order file: the file's length, with the file at the front of the buffer and every byte past it as it was; or

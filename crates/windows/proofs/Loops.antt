@@ -1,6 +1,6 @@
 -- What the loops over starts keep: filled so far, raised by the rows so far, reached so far.
 use Prim.Native.Nat.{ℕ, ◌+◌, ◌*◌, ◌-◌, ◌≤◌, ◌<◌, max}
-use mathlib.Core.Path.{◌≡◌, refl, sym, ap, ap₂, ◌∙◌}
+use mathlib.Core.Path.{◌≡◌, refl, sym, ap, ap₂, subst, ◌∙◌}
 use mathlib.Core.Bool.{Bool, true, false}
 use mathlib.Core.List.{List}
 use native.Mathlib.Numerals.{add-one}
@@ -137,13 +137,17 @@ module _ (n : ℕ) (gap : ℕ → ℕ → ℕ) (bias : ℕ) (before : List ℕ) 
   -- all rounds are done
   pub reached_end :
       (r : ℕ) (starts : List ℕ) → Reached n gap bias before r starts → n ≤ r
-      → (r ≡ rounds n gap bias (start_in before)) × (Filled n (earliest n gap bias (start_in before)) before starts × (r ≤ n))
+      → (n ≡ rounds n gap bias (start_in before)) × (Filled n (earliest n gap bias (start_in before)) before starts × (n ≤ n))
   unfolding rounds
   reached_end r starts w g =
-      let e : r ≡ rounds n gap bias (start_in before) =
-      omega (arith, lowest_end (λ q. unchanged n gap bias (after n gap bias (start_in before) q)) n r w.changing w.count g)
+      let e : n ≡ rounds n gap bias (start_in before) =
+      omega (arith, w.count, lowest_end (λ q. unchanged n gap bias (after n gap bias (start_in before) q)) n r w.changing w.count g)
       in
-      (e, (filled_earliest r starts e w.filled, w.count))
+      let q : r ≡ n = omega (arith, w.count) in
+      let all : Filled n (after n gap bias (start_in before) n) before starts =
+      subst (λ m. Filled n (after n gap bias (start_in before) m) before starts) q w.filled
+      in
+      (e, (filled_earliest n starts e all, omega arith))
 
   -- one more round, from starts to next, and whether these are the same
   module _ (r : ℕ) (starts next : List ℕ) (w : Reached n gap bias before r starts) (v : Filled n (raised n gap bias (start_in starts)) starts next) where

@@ -1,6 +1,5 @@
 // Earliest starts: rounds over a table of gaps, until the first that changes nothing.
-ghost use Rattle.std.specs.Prelude.{◌≡◌, max, ◌+◌, ◌-◌, ◌≤◌, ◌<◌, eqb};
-ghost use Rattle.laws.specs.Search.{all};
+ghost use Rattle.std.specs.Prelude.{◌≡◌, max, ◌+◌, ◌-◌, ◌≤◌, ◌<◌};
 ghost use Rattle.rounds.specs.Rounds.{demand, raised, rounds, earliest};
 ghost use Rattle.windows.specs.Loops.{above_starts, Given};
 ghost use Rattle.limits.specs.Timed.{most_limit};
@@ -57,10 +56,8 @@ fn raise_first(n: usize, gaps: &[u32], i: usize, t: u32, at: &mut [u32; WIDTH])
     ensures { Filled n (λ k. max (start_in at.old k) (demand (gap_in gaps.now) gap_bias i k t)) at.old
         at.new }
 {
-    let mut k = 0;
-    while k < n {
+    for k in 0..n {
         at[k] = raised_to(at[k], gaps, i, k, t);
-        k += 1;
     }
 }
 
@@ -70,10 +67,8 @@ fn raise_all(gaps: &[u32], i: usize, t: u32, at: &mut [u32; WIDTH])
     ensures { Filled row_width (λ k. max (start_in at.old k) (demand (gap_in gaps.now) gap_bias i k t)) at.old
         at.new }
 {
-    let mut k = 0;
-    while k < WIDTH {
+    for k in 0..WIDTH {
         at[k] = raised_to(at[k], gaps, i, k, t);
-        k += 1;
     }
 }
 
@@ -90,21 +85,6 @@ fn raise_starts(n: usize, gaps: &[u32], i: usize, t: u32, at: &mut [u32; WIDTH])
     }
 }
 
-// Whether the first n starts of two lists are the same.
-fn same_starts(a: &[u32; WIDTH], b: &[u32; WIDTH], n: usize) -> bool
-    requires { n ≤ row_width }
-    ensures { result ≡ all n (λ k. eqb (start_in a.now k) (start_in b.now k)) }
-{
-    let mut k = 0;
-    while k < n {
-        if a[k] != b[k] {
-            return false;
-        }
-        k += 1;
-    }
-    true
-}
-
 impl Starts {
     // The starts of the first n steps after a round, from those before it. A step that starts as it did before the last round, in last,
     // demanded the same then, so its row is skipped.
@@ -119,12 +99,10 @@ impl Starts {
             × Given n (gap_in gaps.now) gap_bias (start_in last.now) (start_in before.now) × (self.at ≡ before.now) }
         ensures { Filled n (raised n (gap_in gaps.now) gap_bias (start_in before.now)) before.now result.at }
     {
-        let mut i = 0;
-        while i < n {
+        for i in 0..n {
             if last[i] != before[i] {
                 raise_starts(n, gaps, i, before[i], &mut self.at);
             }
-            i += 1;
         }
         self
     }
@@ -145,17 +123,15 @@ pub fn earliest_starts(
 {
     let mut starts = Starts { at: *limits };
     let mut last = [NO_START; WIDTH];
-    let mut rounds = 0;
-    while rounds < n {
+    for rounds in 0..n {
         let next = starts.round(&starts.at, &last, n, gaps);
-        rounds += 1;
-        if same_starts(&next.at, &starts.at, n) {
+        if next.at[..n] == starts.at[..n] {
             *at = next.at;
-            return rounds;
+            return rounds + 1;
         }
         last = starts.at;
         starts = next;
     }
     *at = starts.at;
-    rounds
+    n
 }

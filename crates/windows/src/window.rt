@@ -1,5 +1,5 @@
 // The earliest limit and the latest start of each step.
-ghost use Rattle.std.specs.Prelude.{◌≡◌, ℕ, ◌+◌, ◌-◌, ◌≤◌, ◌<◌, min, length};
+ghost use Rattle.std.specs.Prelude.{◌≡◌, ℕ, ◌+◌, ◌≤◌, ◌<◌, length};
 ghost use Rattle.job.specs.Model.{view};
 ghost use Rattle.job.specs.WellFormed.{WellFormed};
 ghost use Rattle.order_file.specs.Table.{row_width};
@@ -28,11 +28,8 @@ fn fix_starts(s: &[u8], job: Job, at: &mut [u32])
     requires { WellFormed (view job s.now) × (length at.old ≡ row_width) }
     ensures { FixedStarts (view job s.now) at.old at.new }
 {
-    let n = job.count.steps;
-    let mut k = 0;
-    while k < n {
+    for k in 0..job.count.steps {
         at[k as usize] = fixed_start(s, job, at[k as usize], k);
-        k += 1;
     }
 }
 
@@ -43,19 +40,6 @@ pub fn limits(s: &[u8], job: Job, at: &mut [u32])
     ensures bounded { Bounded job.count.steps most_limit at.new }
 {
     fix_starts(s, job, at);
-}
-
-// A difference, 0 where it would lie below 0.
-fn since(a: usize, b: usize) -> usize
-    ensures { result ≡ a - b }
-{
-    if a < b { 0 } else { a - b }
-}
-
-fn lower(a: u32, b: u32) -> u32
-    ensures { result ≡ min a b }
-{
-    if b < a { b } else { a }
 }
 
 // Lowers the latest start of the step whose effect supports goal g to what the deadline allows; a fixed step keeps its own. A goal supported
@@ -73,8 +57,8 @@ fn lower_latest(s: &[u8], job: Job, links: &[u16], g: u16, at: &mut [u32])
         & (k < job.count.steps)
         & (step_fixed(s, job, k) != 1)
     {
-        let allowed = since(deadline, effect_at(s, job, link)) as u32;
-        at[k as usize] = lower(at[k as usize], allowed);
+        let allowed = deadline.saturating_sub(effect_at(s, job, link)) as u32;
+        at[k as usize] = at[k as usize].min(allowed);
     }
 }
 
@@ -85,11 +69,8 @@ pub fn latest_starts(s: &[u8], job: Job, links: &[u16], at: &mut [u32])
     ensures latest_starts { LatestStarts (view job s.now) links.now at.old at.new }
     ensures at_len { length at.new ≡ row_width }
 {
-    let n = job.count.goals;
     fix_starts(s, job, at);
-    let mut g = 0;
-    while g < n {
+    for g in 0..job.count.goals {
         lower_latest(s, job, links, g, at);
-        g += 1;
     }
 }

@@ -1,18 +1,17 @@
--- What the code reads of the point is what it holds.
-use mathlib.Core.Path.{ap}
+-- The step and the offset are the point's.
 use native.Mathlib.Omega.{arith}
-use Rattle.validity.specs.Ticks.{schedule_of}
+use Rattle.moves.specs.Moved.{Up}
+use Rattle.moves.proofs.Moved.{up_same, up_on, moved_none, after_one}
 use Rattle.moves.proofs.raise_point.Goals as goal
 
-pub overflow_sub-at : goal.overflow_sub-at
-overflow_sub-at c =
-    omega (
-      arith,
-      c.requires.1,
-      c.tick_of.ensures.0,
-      c.start_of.ensures.0,
-      ap (schedule_of c.args.starts.now) c.step_of-step.ensures.0,
-    )
+pub overflow_add-tick : goal.overflow_add-tick
+overflow_add-tick c = omega (arith, c.requires.2 _ c.in-Some.is)
 
-pub returns : goal.returns
-returns c = rw (c.tick_of.ensures.0, c.start_of.ensures.0, c.step_of-step.ensures.0) at c.raise_limit.ensures
+pub raise_limit-requires : goal.raise_limit-requires
+raise_limit-requires c = (omega (arith, c.step_of.ensures.0, c.requires.0), omega (arith, c.requires.2 _ c.in-Some.is))
+
+pub returns-in-Some : goal.returns-in-Some
+returns-in-Some c = after_one _ _ _ c.in-Some.is (rw (c.step_of.ensures.0, c.offset_in.ensures) at c.raise_limit.ensures)
+
+pub returns-in_default : goal.returns-in_default
+returns-in_default c = moved_none Up up_same up_on _ _ (λ k v o. c.in_default.not-Some o.0 o.1)

@@ -1,5 +1,4 @@
 -- Each point in turn; the timed facts before it have been passed.
-use Prim.Native.Nat.{◌-◌}
 use native.Mathlib.Omega.{arith}
 use borrow.Author.Rules.{rules}
 use lib.ListN.{get_or}
@@ -7,62 +6,54 @@ use Rattle.timeline.specs.Words.{tick_at}
 use Rattle.validity.specs.Ticks.{schedule_of}
 use Rattle.moves.specs.Moved.{Up}
 use Rattle.moves.proofs.Moved.{up_same, up_on, moved_none, moved_empty, moved_more, moved_all}
-use Rattle.limits.proofs.Walked.{walking_first, walking_later, walking_passed, other_most, later_all}
+use Rattle.limits.proofs.Walked.{walking_first, walking_later, walking_passed, other_timed, later_all}
 use Rattle.limits.proofs.earliest.raise_points.Goals as goal
 
 pub returns-then-span : goal.returns-then-span
 returns-then-span c = moved_none Up up_same up_on _ _ (λ k v o. absurd (omega (arith, o.3.1, o.3.2, c.if-span.true)))
 
 pub loop-p-init : goal.loop-p-init
-loop-p-init c =
-    (omega arith, c.requires.0.begins, λ q a b. walking_first (tick_at c.args.points.now q) c.requires.1, moved_empty Up up_same up_on _ _ _)
+loop-p-init c = (λ q a b. walking_first (tick_at c.args.points.now q) c.requires.1, moved_empty Up up_same up_on _ _ _)
 
 pub offset_bounds-points-p : goal.offset_bounds-points-p
-offset_bounds-points-p c = search (rules, c.loop-p-test.true, c.requires.0.ends)
+offset_bounds-points-p c = search (rules, c.loop-p-test.true, c.requires.0.spanned.ends)
 
 pub bounds-points-p : goal.bounds-points-p
-bounds-points-p c = omega (arith, c.loop-p-test.true, c.requires.0.ends)
+bounds-points-p c = omega (arith, c.loop-p-test.true, c.requires.0.spanned.ends)
 
 pub advance-cursor-requires : goal.advance-cursor-requires
-advance-cursor-requires c = rw c.tick_of.ensures.0 (c.loop-p.invariant.2 _ (omega arith) c.loop-p-test.true)
+advance-cursor-requires c = rw c.tick_of.ensures.0 (c.loop-p.invariant.0 _ (omega arith) c.loop-p-test.true)
 
-pub last_other-first-requires : goal.last_other-first-requires
-last_other-first-requires c = walking_passed c.requires.1 c.advance-cursor.ensures.0 c.advance-cursor.ensures.1
+pub last_other-last-requires : goal.last_other-last-requires
+last_other-last-requires c = walking_passed c.requires.1 c.advance-cursor.ensures.0 c.advance-cursor.ensures.1
 
 pub raise_point-requires : goal.raise_point-requires
 raise_point-requires c =
-    let i = c.loop-p.invariant in (
-      omega (arith, c.requires.0.step _ i.0 c.loop-p-test.true, i.3.size),
-      c.requires.0.begun _ i.0 c.loop-p-test.true,
-      other_most c.requires.1 c.advance-cursor.ensures.0 c.advance-cursor.ensures.1 c.last_other-first.ensures,
+    let low = c.loop-p.auto.p in (
+      omega (arith, c.requires.0.spanned.step _ low c.loop-p-test.true, c.loop-p.invariant.1.size),
+      c.requires.0.begun _ low c.loop-p-test.true,
+      other_timed c.requires.1 c.advance-cursor.ensures.0 c.advance-cursor.ensures.1 c.last_other-last.ensures,
     )
-
-pub overflow_add-p : goal.overflow_add-p
-overflow_add-p c = omega (arith, c.loop-p-test.true, c.requires.0.ends)
-
-pub loop-p-smaller : goal.loop-p-smaller
-loop-p-smaller c = omega (arith, c.loop-p-test.true)
 
 pub loop-p-preserved : goal.loop-p-preserved
 loop-p-preserved c =
     let i = c.loop-p.invariant in
+    let low = c.loop-p.auto.p in
     let p = c.loop-p.p in
     let points = c.args.points.now in
     let parted = c.advance-cursor.ensures.0 in
     let run = c.advance-cursor.ensures.1 in
     let here = c.tick_of.ensures.0 in (
-      omega (arith, i.0),
-      omega (arith, c.loop-p-test.true),
-      λ q a b. walking_later c.requires.1 parted run (omega (arith, here, c.requires.0.rises p q i.0 (omega arith) b)),
-      moved_more Up up_same up_on _ _ _ _ _ _ i.0 i.3
-          (later_all c.requires.1 parted run c.last_other-first.ensures (schedule_of c.args.starts.now) (get_or points p 0) _ _
+      λ q a b. walking_later c.requires.1 parted run (omega (arith, here, c.requires.0.spanned.rises p q low (omega arith) b)),
+      moved_more Up up_same up_on _ _ _ _ _ _ low i.1
+          (later_all c.requires.1 parted run c.last_other-last.ensures (schedule_of c.args.starts.now) (get_or points p 0) _ _
           here c.value_of.ensures.0 c.raise_point.ensures),
     )
 
 pub shape_of-limits : goal.shape_of-limits
-shape_of-limits c = omega (arith, c.loop-p.invariant.3.size)
+shape_of-limits c = omega (arith, c.loop-p.invariant.1.size)
 
 pub returns : goal.returns
 returns c =
-    let i = c.loop-p.invariant in
-    moved_all Up up_same up_on _ _ _ _ _ _ i.1 (omega (arith, c.loop-p-test.false)) i.3
+    let high = c.loop-p.auto.p-end c.requires.0.spanned.begins in
+    moved_all Up up_same up_on _ _ _ _ _ _ high (omega (arith, c.loop-p-test.false)) c.loop-p.invariant.1

@@ -1,4 +1,4 @@
-use Prim.Native.Nat.{ℕ, ◌-◌, ◌≤◌, ◌<◌}
+use Prim.Native.Nat.{ℕ, ◌≤◌, ◌<◌}
 use Rattle.timeline.specs.Words.{tick_at}
 use Rattle.timeline.specs.Walking.{Walking}
 use Rattle.validity.specs.Ticks.{schedule_of}
@@ -8,9 +8,5 @@ use Rattle.limits.proofs.earliest.raise_points.Given as goal
 
 abbrev pub invariant-loop-p : goal.invariant-loop-p
 invariant-loop-p l =
-    (l.span.low ≤ l.p) × (l.p ≤ l.span.high)
-    × ((q : ℕ) → l.p ≤ q → q < l.span.high → Walking l.order l.span.from l.span.until (tick_at l.points q) l.cursor)
+    ((q : ℕ) → l.p ≤ q → q < l.span.high → Walking l.order l.span.from l.span.until (tick_at l.points q) l.cursor)
     × Moved Up (OfWords l.points l.span.low l.p (OfTimed l.order l.span.from l.span.until (LaterThan (schedule_of l.starts)))) l.initial.limits l.limits
-
-abbrev pub decreases-loop-p : goal.decreases-loop-p
-decreases-loop-p l = l.span.high - l.p

@@ -1,5 +1,4 @@
 -- Each condition in turn.
-use Prim.Native.Nat.{◌-◌}
 use native.Mathlib.Omega.{arith}
 use Rattle.moves.specs.Moved.{Up}
 use Rattle.moves.proofs.Moved.{up_same, up_on, moved_none, moved_empty, moved_more, moved_all}
@@ -12,27 +11,21 @@ returns-then-job-eq0 c =
     (λ k v o. absurd (omega (arith, c.if-job-eq0.true, o.3.0, p.1.named o.0 o.2 o.3.1)))
 
 pub loop-c-init : goal.loop-c-init
-loop-c-init c = (omega arith, moved_empty Up up_same up_on _ _ _)
+loop-c-init c = moved_empty Up up_same up_on _ _ _
 
 pub raise_linked-requires : goal.raise_linked-requires
 raise_linked-requires c =
-    (c.requires.0, c.requires.1, c.loop-c-test.true, c.requires.2, omega (arith, c.requires.3, c.loop-c.invariant.1.size))
-
-pub overflow_add-c : goal.overflow_add-c
-overflow_add-c c = omega (arith, c.loop-c-test.true)
-
-pub loop-c-smaller : goal.loop-c-smaller
-loop-c-smaller c = omega (arith, c.loop-c-test.true)
+    (c.requires.0, c.requires.1, c.loop-c-test.true, c.requires.2, omega (arith, c.requires.3, c.loop-c.invariant.size))
 
 pub loop-c-preserved : goal.loop-c-preserved
 loop-c-preserved c =
     let i = c.loop-c.invariant in
-    (omega (arith, c.loop-c-test.true), moved_more Up up_same up_on _ _ _ _ _ _ (omega arith) i.1 c.raise_linked.ensures)
+    moved_more Up up_same up_on _ _ _ _ _ _ (omega arith) i c.raise_linked.ensures
 
 pub shape_of-limits : goal.shape_of-limits
-shape_of-limits c = omega (arith, c.loop-c.invariant.1.size)
+shape_of-limits c = omega (arith, c.loop-c.invariant.size)
 
 pub returns : goal.returns
 returns c =
     let i = c.loop-c.invariant in
-    moved_all Up up_same up_on _ _ _ _ _ _ i.0 (omega (arith, c.loop-c-test.false)) i.1
+    moved_all Up up_same up_on _ _ _ _ _ _ c.loop-c.auto.c-end (omega (arith, c.loop-c-test.false)) i

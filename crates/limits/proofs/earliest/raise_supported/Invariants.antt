@@ -1,11 +1,7 @@
-use Prim.Native.Nat.{◌-◌, ◌≤◌}
 use Rattle.job.specs.Model.{view}
 use Rattle.moves.specs.Moved.{Up, Moved, Among}
 use Rattle.limits.specs.Beside.{LimitByLink}
 use Rattle.limits.proofs.earliest.raise_supported.Given as goal
 
 abbrev pub invariant-loop-c : goal.invariant-loop-c
-invariant-loop-c l = (l.c ≤ l.n) × Moved Up (Among 0 l.c (LimitByLink (view l.job l.s) l.links)) l.initial.limits l.limits
-
-abbrev pub decreases-loop-c : goal.decreases-loop-c
-decreases-loop-c l = l.n - l.c
+invariant-loop-c l = Moved Up (Among 0 l.c (LimitByLink (view l.job l.s) l.links)) l.initial.limits l.limits

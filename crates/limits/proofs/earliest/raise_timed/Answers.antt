@@ -1,5 +1,4 @@
 -- Each fact in turn.
-use Prim.Native.Nat.{◌-◌}
 use native.Mathlib.Omega.{arith}
 use borrow.Author.Rules.{rules}
 use Rattle.job.specs.Model.{view}
@@ -19,7 +18,7 @@ pub list_timed-requires : goal.list_timed-requires
 list_timed-requires c = (c.requires.0.form, c.requires.1, c.requires.0.clock, search rules, search rules)
 
 pub loop-f-init : goal.loop-f-init
-loop-f-init c = (omega arith, moved_empty Up up_same up_on _ _ _)
+loop-f-init c = moved_empty Up up_same up_on _ _ _
 
 pub span_of-setters-requires : goal.span_of-setters-requires
 span_of-setters-requires c = (omega (arith, c.requires.0.known.room, c.loop-f-test.true), c.list_timed.ensures.room _ c.loop-f-test.true)
@@ -28,7 +27,7 @@ pub raise_points-requires : goal.raise_points-requires
 raise_points-requires c =
     let span = c.span_of-setters.ensures in (
       fact_setters c.requires.0 c.loop-f-test.true
-          (omega (arith, c.requires.0.form.step_count, c.requires.2, c.loop-f.invariant.1.size)) span.0 span.1,
+          (omega (arith, c.requires.0.form.step_count, c.requires.2, c.loop-f.invariant.size)) span.0 span.1,
       timed_row_lem c.requires.0.form c.list_timed.ensures _ c.loop-f-test.true span.2 span.3,
     )
 
@@ -42,33 +41,25 @@ pub raise_points-requires-in-loop-f : goal.raise_points-requires-in-loop-f
 raise_points-requires-in-loop-f c =
     let span = c.span_of-wanted.ensures in (
       fact_wanted c.requires.0 c.loop-f-test.true
-          (omega (arith, c.requires.0.form.step_count, c.requires.2, c.loop-f.invariant.1.size, c.raise_points.ensures.size)) span.0 span.1,
+          (omega (arith, c.requires.0.form.step_count, c.requires.2, c.loop-f.invariant.size, c.raise_points.ensures.size)) span.0 span.1,
       timed_row_lem c.requires.0.form c.list_timed.ensures _ c.loop-f-test.true span.2 span.3,
     )
-
-pub overflow_add-f : goal.overflow_add-f
-overflow_add-f c = omega (arith, c.requires.0.form.fact_count, c.loop-f-test.true)
-
-pub loop-f-smaller : goal.loop-f-smaller
-loop-f-smaller c = omega (arith, c.loop-f-test.true)
 
 pub loop-f-preserved : goal.loop-f-preserved
 loop-f-preserved c =
     let wanted = c.span_of-wanted.ensures in
     let setters = c.span_of-setters.ensures in
     let i = c.loop-f.invariant in
-    let a = c.args in (
-      omega (arith, c.loop-f-test.true),
-      moved_more Up up_same up_on _ _ _ _ _ _ (omega arith) i.1
-          (moved_points Up up_same up_on (view a.job a.s.now) a.points.now a.begins.now _ _
-          (LaterThan (schedule_of a.starts.now)) (LaterThan (schedule_of a.starts.now)) c.requires.0.form c.list_timed.ensures
-          _ _ _ c.loop-f.f
-          setters.0 setters.1 setters.2 setters.3 wanted.0 wanted.1 wanted.2 wanted.3
-          c.raise_points.ensures c.raise_points-in-loop-f.ensures),
-    )
+    let a = c.args in
+    moved_more Up up_same up_on _ _ _ _ _ _ (omega arith) i
+    (moved_points Up up_same up_on (view a.job a.s.now) a.points.now a.begins.now _ _
+    (LaterThan (schedule_of a.starts.now)) (LaterThan (schedule_of a.starts.now)) c.requires.0.form c.list_timed.ensures
+    _ _ _ c.loop-f.f
+    setters.0 setters.1 setters.2 setters.3 wanted.0 wanted.1 wanted.2 wanted.3
+    c.raise_points.ensures c.raise_points-in-loop-f.ensures)
 
 pub shape_of-limits : goal.shape_of-limits
-shape_of-limits c = omega (arith, c.loop-f.invariant.1.size)
+shape_of-limits c = omega (arith, c.loop-f.invariant.size)
 
 pub returns : goal.returns
 returns c =
@@ -76,4 +67,4 @@ returns c =
     let a = c.args in
     moved_timed Up up_same up_on (view a.job a.s.now) a.points.now a.begins.now _ _
     (LaterThan (schedule_of a.starts.now)) (LaterThan (schedule_of a.starts.now)) c.requires.0.form c.list_timed.ensures _ _
-    (moved_all Up up_same up_on _ _ _ _ _ _ i.0 (omega (arith, c.loop-f-test.false)) i.1)
+    (moved_all Up up_same up_on _ _ _ _ _ _ c.loop-f.auto.f-end (omega (arith, c.loop-f-test.false)) i)

@@ -1,17 +1,11 @@
 -- Nothing, or what is read.
-use mathlib.Core.Path.{refl}
+use mathlib.Core.Path.{refl, ap}
 use native.Mathlib.Omega.{arith}
-use borrow.Author.Rules.{rules}
+use Rattle.std.specs.Prelude.{Some}
 use Rattle.moves.proofs.others.next_tick.Goals as goal
 
-pub returns-then-until-place : goal.returns-then-until-place
-returns-then-until-place c = (λ _. refl, λ l. absurd (omega (arith, c.if-until-place.true)))
+pub returns-then-place-until : goal.returns-then-place-until
+returns-then-place-until c = (λ l. absurd (omega (arith, c.if-place-until.true)), λ _. ap Some c.tick_of.ensures.0)
 
-pub offset_bounds-order-place : goal.offset_bounds-order-place
-offset_bounds-order-place c = search (rules, c.if-until-place.false, c.requires)
-
-pub bounds-order-place : goal.bounds-order-place
-bounds-order-place c = omega (arith, c.if-until-place.false, c.requires)
-
-pub returns : goal.returns
-returns c = (λ l. absurd (omega (arith, c.if-until-place.false)), λ _. omega (arith, c.tick_of.ensures.0))
+pub returns-else-place-until : goal.returns-else-place-until
+returns-else-place-until c = (λ _. refl, λ l. absurd (omega (arith, c.if-place-until.false)))

@@ -1,4 +1,4 @@
-use Prim.Native.Nat.{◌≤◌, ◌-◌, max}
+use Prim.Native.Nat.{max}
 use Rattle.rounds.specs.Rounds.{demand}
 use Rattle.order_file.specs.Contents.{gap_bias}
 use Rattle.order_file.specs.Table.{gap_in, start_in}
@@ -7,7 +7,4 @@ use Rattle.windows.proofs.starts.raise_first.Given as goal
 
 abbrev pub invariant-loop-k : goal.invariant-loop-k
 invariant-loop-k l =
-    (l.k ≤ l.n) × Filled l.k (λ j. max (start_in l.initial.at j) (demand (gap_in l.gaps) gap_bias l.i j l.t)) l.initial.at l.at
-
-abbrev pub decreases-loop-k : goal.decreases-loop-k
-decreases-loop-k l = l.n - l.k
+    Filled l.k (λ j. max (start_in l.initial.at j) (demand (gap_in l.gaps) gap_bias l.i j l.t)) l.initial.at l.at

@@ -1,4 +1,3 @@
-use Prim.Native.Nat.{◌≤◌, ◌-◌}
 use Rattle.job.specs.Model.{view}
 use Rattle.order_file.specs.Table.{start_in}
 use Rattle.laws.specs.Listed.{Filled}
@@ -6,7 +5,4 @@ use Rattle.windows.specs.Loops.{fixed_start}
 use Rattle.windows.proofs.window.fix_starts.Given as goal
 
 abbrev pub invariant-loop-k : goal.invariant-loop-k
-invariant-loop-k l = (l.k ≤ l.n) × Filled l.k (λ i. fixed_start (view l.job l.s) (start_in l.initial.at i) i) l.initial.at l.at
-
-abbrev pub decreases-loop-k : goal.decreases-loop-k
-decreases-loop-k l = l.n - l.k
+invariant-loop-k l = Filled l.k (λ i. fixed_start (view l.job l.s) (start_in l.initial.at i) i) l.initial.at l.at

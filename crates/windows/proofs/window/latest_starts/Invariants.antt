@@ -1,4 +1,4 @@
-use Prim.Native.Nat.{ℕ, ◌≤◌, ◌-◌}
+use Prim.Native.Nat.{ℕ}
 use mathlib.Core.Path.{◌≡◌}
 use lib.ListN.{length}
 use Rattle.job.specs.Clocked.{clocked}
@@ -10,8 +10,5 @@ use Rattle.windows.proofs.window.latest_starts.Given as goal
 
 abbrev pub invariant-loop-g : goal.invariant-loop-g
 invariant-loop-g l =
-    (l.g ≤ l.n) × (length l.at ≡ row_width)
+    (length l.at ≡ row_width)
     × ((x : ℕ → ℕ) → LinksOf (clocked (view l.job l.s)) x l.links → LatestBy (view l.job l.s) x 0 l.initial.at → LatestBy (view l.job l.s) x l.g l.at)
-
-abbrev pub decreases-loop-g : goal.decreases-loop-g
-decreases-loop-g l = l.n - l.g

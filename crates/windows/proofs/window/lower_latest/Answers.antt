@@ -12,7 +12,7 @@ use Rattle.windows.proofs.window.lower_latest.Goals as goal
 pub overflow_cast-allowed : goal.overflow_cast-allowed
 overflow_cast-allowed c =
     let p = c.requires in
-    omega (arith, c.since-allowed.ensures, deadline_low p.0.form _ p.1 (ap (λ n. n.deadline) c.goal_at-goal.ensures))
+    omega (arith, c.saturating_sub-allowed.ensures, deadline_low p.0.form _ p.1 (ap (λ n. n.deadline) c.goal_at-goal.ensures))
 
 pub bounds-at-k : goal.bounds-at-k
 bounds-at-k c =
@@ -25,7 +25,7 @@ bounds-at-k-then-deadline-link c =
     omega (arith, within, c.requires.0.form.step_count)
 
 pub shape_of-at : goal.shape_of-at
-shape_of-at c = length-set c.args.at.now c.effect_step-k.result c.lower.result
+shape_of-at c = length-set c.args.at.now c.effect_step-k.result c.min.result
 
 pub returns-then-deadline-link : goal.returns-then-deadline-link
 returns-then-deadline-link c =
@@ -37,7 +37,7 @@ returns-then-deadline-link c =
           latest_set _ x p.0.form _ _ w (ap (λ n. n.deadline) c.goal_at-goal.ensures) (goal_link_lem _ _ _ l _ p.1) c.effect_step-k.ensures
           c.step_fixed.ensures _ c.if-deadline-link.true
           (omega (arith, within, p.0.form.step_count, p.0.size))
-          (c.lower.ensures ∙ ap (min _) (c.since-allowed.ensures ∙ ap (◌-◌ _) c.effect_at.ensures.0));
+          (c.min.ensures ∙ ap (min _) (c.saturating_sub-allowed.ensures ∙ ap (◌-◌ _) c.effect_at.ensures.0));
     }
 
 pub returns-else-deadline-link : goal.returns-else-deadline-link

@@ -1,4 +1,3 @@
-use Prim.Native.Nat.{◌≤◌, ◌-◌}
 use Rattle.rounds.specs.Rounds.{raised}
 use Rattle.order_file.specs.Contents.{gap_bias}
 use Rattle.order_file.specs.Table.{gap_in, start_in}
@@ -6,7 +5,4 @@ use Rattle.laws.specs.Listed.{Filled}
 use Rattle.windows.proofs.starts.Starts.round.Given as goal
 
 abbrev pub invariant-loop-i : goal.invariant-loop-i
-invariant-loop-i l = (l.i ≤ l.n) × Filled l.n (raised l.i (gap_in l.gaps) gap_bias (start_in l.before)) l.before l.self.at
-
-abbrev pub decreases-loop-i : goal.decreases-loop-i
-decreases-loop-i l = l.n - l.i
+invariant-loop-i l = Filled l.n (raised l.i (gap_in l.gaps) gap_bias (start_in l.before)) l.before l.self.at
