@@ -19,10 +19,8 @@ fn put(at: usize, n: u32, list: &mut [u32])
 fn fill(numbers: &[u32], list: &mut [u32])
     ensures { list.new ≡ spec.filled list.old numbers.now }
 {
-    let mut k = 0;
-    while k < numbers.len() {
+    for k in 0..numbers.len() {
         put(k, numbers[k], list);
-        k += 1;
     }
 }
 

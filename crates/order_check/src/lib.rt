@@ -59,15 +59,7 @@ fn order_holds(file: &[u8], k: usize) -> bool
 fn orders_hold(file: &[u8]) -> bool
     ensures { result ≡ all (contents_of file.now).orders (order_holds (contents_of file.now)) }
 {
-    let orders = layout::orders(file);
-    let mut k = 0;
-    while k < orders {
-        if !order_holds(file, k) {
-            return false;
-        }
-        k += 1;
-    }
-    true
+    (0..layout::orders(file)).all(|k| order_holds(file, k))
 }
 
 // An order and the next one, by first and then second.
@@ -85,15 +77,7 @@ fn ascends_at(file: &[u8], k: usize) -> bool
 fn orders_ascend(file: &[u8]) -> bool
     ensures { result ≡ all ((contents_of file.now).orders - 1) (ascends (contents_of file.now)) }
 {
-    let orders = layout::orders(file);
-    let mut k = 0;
-    while k + 1 < orders {
-        if !ascends_at(file, k) {
-            return false;
-        }
-        k += 1;
-    }
-    true
+    (0..layout::orders(file).saturating_sub(1)).all(|k| ascends_at(file, k))
 }
 
 // One link: the number of an effect or of a timed fact, or the initial state.
@@ -108,15 +92,7 @@ fn link_holds(file: &[u8], k: usize) -> bool
 fn links_hold(file: &[u8]) -> bool
     ensures { result ≡ all (contents_of file.now).links (link_holds (contents_of file.now)) }
 {
-    let links = layout::links(file);
-    let mut k = 0;
-    while k < links {
-        if !link_holds(file, k) {
-            return false;
-        }
-        k += 1;
-    }
-    true
+    (0..layout::links(file)).all(|k| link_holds(file, k))
 }
 
 // No more rounds than steps.
@@ -138,15 +114,7 @@ fn window_holds(file: &[u8], k: usize) -> bool
 fn windows_hold(file: &[u8]) -> bool
     ensures { result ≡ all (contents_of file.now).steps (window_holds (contents_of file.now)) }
 {
-    let steps = layout::steps(file);
-    let mut k = 0;
-    while k < steps {
-        if !window_holds(file, k) {
-            return false;
-        }
-        k += 1;
-    }
-    true
+    (0..layout::steps(file)).all(|k| window_holds(file, k))
 }
 
 // All of refusal 16.

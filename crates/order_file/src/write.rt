@@ -32,14 +32,11 @@ pub fn count_orders(gaps: &[u32], steps: usize) -> usize
     requires { (length gaps.now ≡ table_size) × (steps ≤ step_limit) × NoneBeyond steps gaps.now }
     ensures { (result ≡ count table_size (entered gaps.now)) × (result ≤ table_size) }
 {
-    let end = WIDTH * steps;
     let mut orders = 0u32;
-    let mut q = 0;
-    while q < end {
+    for q in 0..WIDTH * steps {
         if TABLE_BIAS < gaps[q] {
             orders += 1;
         }
-        q += 1;
     }
     orders as usize
 }
@@ -78,8 +75,7 @@ fn write_windows(steps: usize, limits: &[u32], latest: &[u32], earliest: &[u32],
     ensures { out.new
         ≡ sets out.old windows_at (concatenate steps (window_in limits.now latest.now earliest.now)) }
 {
-    let mut k = 0;
-    while k < steps {
+    for k in 0..steps {
         write_window(
             layout::window_at(k),
             limits[k] as usize,
@@ -87,7 +83,6 @@ fn write_windows(steps: usize, limits: &[u32], latest: &[u32], earliest: &[u32],
             earliest[k] as usize,
             out,
         );
-        k += 1;
     }
 }
 
@@ -108,15 +103,13 @@ fn write_row(from: usize, gaps: &[u32], i: usize, steps: usize, out: &mut [u8]) 
     ensures { (before : List ℕ) (start : ℕ) → OrdersPut gaps.now before start (row_width * i) from out.old
         → OrdersPut gaps.now before start (row_width * (i + 1)) result out.new }
 {
-    let end = WIDTH * i + steps;
+    let row = WIDTH * i;
     let mut at = from;
-    let mut q = WIDTH * i;
-    while q < end {
+    for q in row..row + steps {
         if TABLE_BIAS < gaps[q] {
             write_order(at, q, gaps[q] as usize, out);
             at += FILE_WIDTHS[ORDER];
         }
-        q += 1;
     }
     at
 }
@@ -129,10 +122,8 @@ fn write_orders(from: usize, gaps: &[u32], steps: usize, out: &mut [u8])
         ≡ sets out.old from (concatenate (count table_size (entered gaps.now)) (order_in gaps.now)) }
 {
     let mut at = from;
-    let mut i = 0;
-    while i < steps {
+    for i in 0..steps {
         at = write_row(at, gaps, i, steps, out);
-        i += 1;
     }
 }
 
@@ -141,10 +132,8 @@ fn write_links(from: usize, links: usize, linked: &[u16], out: &mut [u8])
     requires { (from + 2 * links ≤ length out.old) × (links ≤ length linked.now) }
     ensures { out.new ≡ sets out.old from (concatenate links (link_in linked.now)) }
 {
-    let mut j = 0;
-    while j < links {
+    for j in 0..links {
         put_u16_within(from + FILE_WIDTHS[LINK] * j, linked[j] as usize, out);
-        j += 1;
     }
 }
 

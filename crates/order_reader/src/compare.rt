@@ -24,15 +24,7 @@ fn same_window(a: &[u8], b: &[u8], k: usize) -> bool
 fn same_windows(a: &[u8], b: &[u8]) -> bool
     ensures { result ≡ all (contents_of a.now).steps (same_window (contents_of a.now) (contents_of b.now)) }
 {
-    let steps = layout::steps(a);
-    let mut k = 0;
-    while k < steps {
-        if !same_window(a, b, k) {
-            return false;
-        }
-        k += 1;
-    }
-    true
+    (0..layout::steps(a)).all(|k| same_window(a, b, k))
 }
 
 // One order.
@@ -48,15 +40,7 @@ fn same_order(a: &[u8], b: &[u8], k: usize) -> bool
 fn same_orders(a: &[u8], b: &[u8]) -> bool
     ensures { result ≡ all (contents_of a.now).orders (same_order (contents_of a.now) (contents_of b.now)) }
 {
-    let orders = layout::orders(a);
-    let mut k = 0;
-    while k < orders {
-        if !same_order(a, b, k) {
-            return false;
-        }
-        k += 1;
-    }
-    true
+    (0..layout::orders(a)).all(|k| same_order(a, b, k))
 }
 
 pub fn same_contents(a: &[u8], b: &[u8]) -> bool

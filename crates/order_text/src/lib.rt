@@ -25,10 +25,8 @@ fn put_windows(file: &[u8], steps: usize, at: usize, out: &mut [u8]) -> usize
         × (result ≤ at + window_most * steps) }
 {
     let mut next = at;
-    let mut k = 0;
-    while k < steps {
+    for k in 0..steps {
         next = lines::put_window(file, k, next, out);
-        k += 1;
     }
     next
 }
@@ -40,10 +38,8 @@ fn put_links(file: &[u8], links: usize, at: usize, out: &mut [u8]) -> usize
         × (result ≤ at + link_most * links) }
 {
     let mut next = at;
-    let mut k = 0;
-    while k < links {
+    for k in 0..links {
         next = lines::put_link(file, k, next, out);
-        k += 1;
     }
     next
 }

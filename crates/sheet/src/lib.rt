@@ -19,10 +19,8 @@ fn put_windows(file: &[u8], steps: usize, at: usize, out: &mut [u8]) -> usize
         × (result ≤ at + window_most * steps) }
 {
     let mut next = at;
-    let mut k = 0;
-    while k < steps {
+    for k in 0..steps {
         next = lines::put_window(file, k, next, out);
-        k += 1;
     }
     next
 }
@@ -34,10 +32,8 @@ pub fn put_orders(file: &[u8], orders: usize, at: usize, out: &mut [u8]) -> usiz
         × (result ≤ at + order_most * orders) }
 {
     let mut next = at;
-    let mut k = 0;
-    while k < orders {
+    for k in 0..orders {
         next = lines::put_order(file, k, next, out);
-        k += 1;
     }
     next
 }

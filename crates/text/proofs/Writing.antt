@@ -39,8 +39,10 @@ word_more {l} {m} n word at k p h s =
     rw (e, add-one k, take-suc word k 0 h) (put_then p (put_byte m n (at + k) (get_or word k 0) s))
 
 -- the whole word
-pub word_end : {l m : List ℕ} (word : List ℕ) (at k : ℕ) → Put l at (take k word) m (at + k) → length word ≤ k → Put l at word m (at + k)
-word_end word at k p h = rw (take_all k word h) at p
+pub word_end :
+    {l m : List ℕ} (word : List ℕ) (at k : ℕ) → Put l at (take k word) m (at + k) → length word ≤ k → k ≤ length word
+    → Put l at word m (at + length word)
+word_end word at k p h g = let e : k ≡ length word = omega arith in rw e at (rw (take_all k word h) at p)
 
 -- a text at the very front of any list
 sets_front : (l text : List ℕ) → sets l 0 text ≡ take (length l) text ++ drop (length text) l

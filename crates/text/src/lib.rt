@@ -13,12 +13,10 @@ pub fn put_word(word: &[u8], at: usize, out: &mut [u8]) -> usize
     requires { (at < u32_values) × (length word.now ≤ word_most) }
     ensures { Put out.old at word.now out.new result }
 {
-    let mut k = 0;
-    while k < word.len() {
+    for k in 0..word.len() {
         little_endian::put_byte(at + k, word[k], out);
-        k += 1;
     }
-    at + k
+    at + word.len()
 }
 
 // Puts a digit.

@@ -1,4 +1,3 @@
-use Prim.Native.Nat.{◌-◌, ◌≤◌}
 use mathlib.Core.Path.{◌≡◌}
 use lib.ListN.{length, take}
 use Rattle.listing.specs.Listed.{filled}
@@ -6,7 +5,4 @@ use Rattle.listing.proofs.fill.Given as goal
 
 abbrev pub invariant-loop-k : goal.invariant-loop-k
 invariant-loop-k l =
-    (l.k ≤ length l.numbers) × ((length l.list ≡ length l.initial.list) × (l.list ≡ filled l.initial.list (take l.k l.numbers)))
-
-abbrev pub decreases-loop-k : goal.decreases-loop-k
-decreases-loop-k l = length l.numbers - l.k
+    (length l.list ≡ length l.initial.list) × (l.list ≡ filled l.initial.list (take l.k l.numbers))

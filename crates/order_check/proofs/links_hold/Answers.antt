@@ -1,20 +1,10 @@
-use Prim.Native.Nat.{◌-◌}
+use Rattle.std.proofs.Common.{arith, rules, tests}
+use Rattle.order_file.specs.Layout.{contents_of}
 use Rattle.order_check.specs.WellFormed.{link_holds}
-use Rattle.order_check.proofs.Passed.{passed_start, passed_more, passed_found, passed_end}
-use native.Mathlib.Omega.{arith}
-use mathlib.Core.Path.{ap}
-use mathlib.Core.Bool.{not}
+use Rattle.order_check.proofs.Passed.{all_told}
 use Rattle.order_check.proofs.links_hold.Goals as goal
 
-pub loop-k-init : goal.loop-k-init
-loop-k-init c = passed_start _ _
-
-pub returns-then-not-link_holds : goal.returns-then-not-link_holds
-returns-then-not-link_holds c =
-    passed_found c.loop-k.invariant _ (omega arith) (omega arith) c.link_holds.ensures (ap not c.if-not-link_holds.true)
-
-pub loop-k-preserved : goal.loop-k-preserved
-loop-k-preserved c = passed_more c.loop-k.invariant (omega arith) c.link_holds.ensures (ap not c.if-not-link_holds.false)
-
 pub returns : goal.returns
-returns c = passed_end c.loop-k.invariant _ (omega arith) (omega arith)
+returns c =
+    all_told _ _ 65536 (link_holds (contents_of c.args.file.now)) c.links.ensures.0 (omega arith) c.all.ensures.ran (λ x q k. search (rules, tests))
+    (λ x q k. search (rules, tests))

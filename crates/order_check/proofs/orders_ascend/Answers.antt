@@ -1,19 +1,10 @@
-use Prim.Native.Nat.{◌-◌}
-use Rattle.order_check.proofs.Passed.{passed_start, passed_more, passed_found, passed_end}
-use native.Mathlib.Omega.{arith}
-use mathlib.Core.Path.{ap}
-use mathlib.Core.Bool.{not}
+use Rattle.std.proofs.Common.{arith, rules, tests}
+use Rattle.order_file.specs.Layout.{contents_of}
+use Rattle.order_check.specs.WellFormed.{ascends}
+use Rattle.order_check.proofs.Passed.{all_told}
 use Rattle.order_check.proofs.orders_ascend.Goals as goal
 
-pub loop-k-init : goal.loop-k-init
-loop-k-init c = passed_start _ _
-
-pub returns-then-not-ascends_at : goal.returns-then-not-ascends_at
-returns-then-not-ascends_at c =
-    passed_found c.loop-k.invariant _ (omega arith) (omega arith) c.ascends_at.ensures (ap not c.if-not-ascends_at.true)
-
-pub loop-k-preserved : goal.loop-k-preserved
-loop-k-preserved c = passed_more c.loop-k.invariant (omega arith) c.ascends_at.ensures (ap not c.if-not-ascends_at.false)
-
 pub returns : goal.returns
-returns c = passed_end c.loop-k.invariant _ (omega arith) (omega arith)
+returns c =
+    all_told _ _ 65535 (ascends (contents_of c.args.file.now)) (omega arith) (omega arith) c.all.ensures.ran (λ x q k. search (rules, tests))
+    (λ x q k. search (rules, tests))

@@ -1,4 +1,3 @@
-use Prim.Native.Nat.{◌-◌}
 use Rattle.order_file.specs.Layout.{contents_of}
 use Rattle.order_text.specs.Text.{link_line, link_most}
 use Rattle.sheet.proofs.LineByLine.{LinesPut}
@@ -6,6 +5,3 @@ use Rattle.order_text.proofs.put_links.Given as goal
 
 abbrev pub invariant-loop-k : goal.invariant-loop-k
 invariant-loop-k l = LinesPut (link_line (contents_of l.file)) link_most l.links l.initial.out l.at l.k l.out l.next
-
-abbrev pub decreases-loop-k : goal.decreases-loop-k
-decreases-loop-k l = l.links - l.k

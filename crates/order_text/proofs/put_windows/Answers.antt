@@ -1,5 +1,4 @@
 -- The lines of the steps, one behind the other.
-use Prim.Native.Nat.{◌-◌}
 use Rattle.sheet.proofs.LineByLine.{lines_start, lines_more, lines_length, lines_end}
 use native.Mathlib.Omega.{arith}
 use Rattle.order_text.proofs.put_windows.Goals as goal

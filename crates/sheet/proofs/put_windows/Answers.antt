@@ -1,4 +1,3 @@
-use Prim.Native.Nat.{◌-◌}
 use Rattle.sheet.proofs.LineByLine.{lines_start, lines_more, lines_length, lines_end}
 use native.Mathlib.Omega.{arith}
 use Rattle.sheet.proofs.put_windows.Goals as goal

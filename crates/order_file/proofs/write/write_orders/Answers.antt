@@ -1,5 +1,4 @@
 -- The orders of one more row are put behind the others.
-use Prim.Native.Nat.{◌-◌}
 use native.Mathlib.Nat.{mul-le-mul_left}
 use native.Mathlib.Omega.{arith}
 use Rattle.order_file.specs.Table.{row_width}
@@ -14,16 +13,10 @@ write_row-at-requires c =
     let p = c.requires in (
       (_, _, record { so_far = c.loop-i.invariant; room = p.0 }),
       p.1,
-      c.loop-i-test.true,
+      omega arith,
       p.2,
       p.3,
     )
-
-pub overflow_add-i : goal.overflow_add-i
-overflow_add-i c = omega arith
-
-pub loop-i-smaller : goal.loop-i-smaller
-loop-i-smaller c = omega (arith, c.loop-i-test.true)
 
 pub loop-i-preserved : goal.loop-i-preserved
 loop-i-preserved c = c.write_row-at.ensures _ _ c.loop-i.invariant
@@ -34,4 +27,4 @@ shape_of-out c = put_size _ _ _ _ c.loop-i.invariant.put
 pub returns : goal.returns
 returns c =
     let p = c.requires in
-    orders_end _ _ _ _ _ _ _ c.loop-i.invariant p.3 (mul-le-mul_left row_width c.loop-i-test.false)
+    orders_end _ _ _ _ _ _ _ c.loop-i.invariant p.3 (mul-le-mul_left row_width (omega arith))

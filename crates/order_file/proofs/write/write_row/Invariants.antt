@@ -1,4 +1,4 @@
-use Prim.Native.Nat.{ℕ, ◌*◌, ◌-◌, ◌≤◌}
+use Prim.Native.Nat.{ℕ, ◌*◌}
 use mathlib.Core.List.{List}
 use Rattle.order_file.specs.Table.{row_width}
 use Rattle.order_file.specs.Held.{OrdersPut}
@@ -6,7 +6,4 @@ use Rattle.order_file.proofs.write.write_row.Given as goal
 
 abbrev pub invariant-loop-q : goal.invariant-loop-q
 invariant-loop-q l =
-    (l.q ≤ l.end) × ((b : List ℕ) (s : ℕ) → OrdersPut l.gaps b s (row_width * l.i) l.from l.initial.out → OrdersPut l.gaps b s l.q l.at l.out)
-
-abbrev pub decreases-loop-q : goal.decreases-loop-q
-decreases-loop-q l = l.end - l.q
+    (b : List ℕ) (s : ℕ) → OrdersPut l.gaps b s (row_width * l.i) l.from l.initial.out → OrdersPut l.gaps b s l.q l.at l.out

@@ -1,4 +1,3 @@
-use Prim.Native.Nat.{◌≤◌, ◌-◌}
 use mathlib.Core.Path.{◌≡◌}
 use lib.Seq.{sets}
 use Rattle.laws.specs.Listed.{concatenate}
@@ -7,8 +6,4 @@ use Rattle.order_file.specs.Held.{window_in}
 use Rattle.order_file.proofs.write.write_windows.Given as goal
 
 abbrev pub invariant-loop-k : goal.invariant-loop-k
-invariant-loop-k l =
-    (l.k ≤ l.steps) × (l.out ≡ sets l.initial.out windows_at (concatenate l.k (window_in l.limits l.latest l.earliest)))
-
-abbrev pub decreases-loop-k : goal.decreases-loop-k
-decreases-loop-k l = l.steps - l.k
+invariant-loop-k l = l.out ≡ sets l.initial.out windows_at (concatenate l.k (window_in l.limits l.latest l.earliest))
