@@ -10,7 +10,7 @@ use lib.ListN.{length, get_or}
 use lib.Seq.{slice, length-slice}
 use Rattle.laws.specs.Search.{all}
 use Rattle.spelling.specs.Names.{name_most, is_letter, is_name_byte, is_reserved, is_name}
-use Rattle.spelling.proofs.Each.{part_at}
+use Rattle.spelling.proofs.Part.{part_at}
 
 -- the tests of a name, taken at its place in the text
 pub name_is :

@@ -5,41 +5,25 @@ ghost use Rattle.std.specs.Prelude.{◌≡◌, ◌-◌, ◌≤◌, ◌<◌, leng
 ghost use Rattle.std.proofs.Math.Seq.{slice};
 ghost use Rattle.laws.specs.Search.{all};
 ghost use Rattle.spelling.specs.Keywords.{same};
-ghost use Rattle.spelling.specs.Names.{is_letter, is_name_byte, is_reserved, is_name};
+ghost use Rattle.spelling.specs.Names.{is_name_byte, is_reserved, is_name};
 ghost use Rattle.spelling.specs.Cursor.{here, Standing, is_such, is_word};
 
 use spelling::Cursor;
 use spelling::here::at_some_word;
-use spelling::numbers::is_digit;
 
 // Whether the bytes from a place up to another are this word.
 pub fn word_is(text: &[u8], at: usize, end: usize, word: &[u8]) -> bool
     requires { (at ≤ end) × (end ≤ length text.now) }
     ensures { result ≡ same (slice at end text.now) word.now }
 {
-    if end - at != word.len() {
-        return false;
-    }
-    let mut k = 0;
-    while k < word.len() {
-        if text[at + k] != word[k] {
-            return false;
-        }
-        k += 1;
-    }
-    true
-}
-
-fn is_letter(b: u8) -> bool
-    ensures { result ≡ is_letter b }
-{
-    ((b'A' <= b) & (b <= b'Z')) | ((b'a' <= b) & (b <= b'z'))
+    let part = &text[at..end];
+    part == word
 }
 
 fn is_name_byte(b: u8) -> bool
     ensures { result ≡ is_name_byte b }
 {
-    is_letter(b) | is_digit(b) | (b == b'-') | (b == b'_')
+    b.is_ascii_alphabetic() | b.is_ascii_digit() | (b == b'-') | (b == b'_')
 }
 
 // Whether all bytes of a word may stand in a name.
@@ -47,14 +31,7 @@ fn name_bytes(text: &[u8], at: usize, end: usize) -> bool
     requires { (at ≤ end) × (end ≤ length text.now) }
     ensures { result ≡ all (end - at) (λ k. is_name_byte (get_or (slice at end text.now) k 0)) }
 {
-    let mut k = at;
-    while k < end {
-        if !is_name_byte(text[k]) {
-            return false;
-        }
-        k += 1;
-    }
-    true
+    text[at..end].iter().all(|b| is_name_byte(*b))
 }
 
 // Whether a word is one of the six that are no names.
@@ -79,7 +56,7 @@ pub fn is_name(text: &[u8], at: usize, end: usize) -> bool
     ensures { result ≡ is_name (slice at end text.now) }
 {
     (end - at <= NAME_MOST)
-        & is_letter(text[at])
+        & text[at].is_ascii_alphabetic()
         & name_bytes(text, at, end)
         & !is_reserved(text, at, end)
 }

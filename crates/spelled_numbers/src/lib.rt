@@ -8,67 +8,52 @@ ghost use Rattle.spelling.specs.Cursor.{here, Standing, whole_at, time_at};
 
 use spelling::Cursor;
 use spelling::here::at_some_word;
-use spelling::numbers::{Spelt, is_digit};
-
-fn wide(b: u8) -> u32
-    ensures { (result ≡ b) × (result < 256) }
-{
-    b as u32
-}
 
 // A number with one more digit.
 fn with_digit(n: u32, b: u8) -> u32
     requires { (n < 100000000) × (48 ≤ b) × (b ≤ 57) }
     ensures { result ≡ 10 * n + (b - 48) }
 {
-    10 * n + (wide(b) - 48)
+    10 * n + u32::from(b - b'0')
 }
 
 // From one to so many digits.
-fn digits(text: &[u8], at: usize, end: usize, most: usize) -> Spelt
-    requires { (at ≤ end) × (end ≤ length text.now) × (most ≤ 9) }
-    ensures { (result ≡ digits_of most (slice at end text.now)) × Below most result }
+fn digits(word: &[u8], most: usize) -> Option<u32>
+    requires { most ≤ 9 }
+    ensures { (result ≡ digits_of most word.now) × Below most result }
 {
-    if (at == end) | (end - at > most) {
-        return Spelt::Nothing;
+    if (word.len() == 0) | (word.len() > most) {
+        return None;
     }
     let mut n: u32 = 0;
-    let mut k = at;
-    while k < end {
-        let b = text[k];
-        if !is_digit(b) {
-            return Spelt::Nothing;
+    for b in word {
+        if !b.is_ascii_digit() {
+            return None;
         }
-        n = with_digit(n, b);
-        k += 1;
+        n = with_digit(n, *b);
     }
-    Spelt::Number(n)
+    Some(n)
 }
 
 // Digits of the longest W.
 const WHOLE_MOST: usize = 9;
 
 // A W.
-pub fn read_whole(text: &[u8], at: usize, end: usize) -> Spelt
+pub fn read_whole(text: &[u8], at: usize, end: usize) -> Option<u32>
     requires { (at ≤ end) × (end ≤ length text.now) }
     ensures { result ≡ whole_of (slice at end text.now) }
 {
-    digits(text, at, end, WHOLE_MOST)
+    digits(&text[at..end], WHOLE_MOST)
 }
 
 // Where the point of a word stands, or its end.
-fn point_at(text: &[u8], at: usize, end: usize) -> usize
-    requires { (at ≤ end) × (end ≤ length text.now) }
-    ensures { (result ≡ at + point_at (slice at end text.now)) × (result ≤ end) }
+fn point_at(word: &[u8]) -> usize
+    ensures { (result ≡ point_at word.now) × (result ≤ length word.now) }
 {
-    let mut k = at;
-    while k < end {
-        if text[k] == b'.' {
-            return k;
-        }
-        k += 1;
+    match word.iter().position(|b| *b == b'.') {
+        Some(k) => k,
+        None => word.len(),
     }
-    k
 }
 
 // So many digits behind the point, in thousandths.
@@ -90,44 +75,47 @@ const SECOND_MOST: usize = 6;
 
 const PART_MOST: usize = 3;
 
+// The ticks that a word spells as a T.
+fn ticks(word: &[u8]) -> Option<u32>
+    ensures { result ≡ time_of word.now }
+{
+    let point = point_at(word);
+    let whole = digits(&word[..point], SECOND_MOST)?;
+    if point == word.len() {
+        return Some(1000 * whole);
+    }
+    let decimals = &word[point + 1..];
+    let part = digits(decimals, PART_MOST)?;
+    let rest = thousandths(part, decimals.len());
+    Some(1000 * whole + rest)
+}
+
 // A T, in ticks.
-pub fn read_time(text: &[u8], at: usize, end: usize) -> Spelt
+pub fn read_time(text: &[u8], at: usize, end: usize) -> Option<u32>
     requires { (at ≤ end) × (end ≤ length text.now) }
     ensures { result ≡ time_of (slice at end text.now) }
 {
-    let point = point_at(text, at, end);
-    let Spelt::Number(whole) = digits(text, at, point, SECOND_MOST) else {
-        return Spelt::Nothing;
-    };
-    if point == end {
-        return Spelt::Number(1000 * whole);
-    }
-    let from = point + 1;
-    let Spelt::Number(part) = digits(text, from, end, PART_MOST) else {
-        return Spelt::Nothing;
-    };
-    let rest = thousandths(part, end - from);
-    Spelt::Number(1000 * whole + rest)
+    ticks(&text[at..end])
 }
 
 // A W, read.
-pub fn whole_at(plan: bool, text: &[u8], c: Cursor) -> Spelt
+pub fn whole_at(plan: bool, text: &[u8], c: Cursor) -> Option<u32>
     requires { Standing plan text.now c }
     ensures { result ≡ whole_at (here plan text.now c) }
 {
     if !at_some_word(plan, text, c) {
-        return Spelt::Nothing;
+        return None;
     }
     read_whole(text, c.at, c.end)
 }
 
 // A T, read in ticks.
-pub fn time_at(plan: bool, text: &[u8], c: Cursor) -> Spelt
+pub fn time_at(plan: bool, text: &[u8], c: Cursor) -> Option<u32>
     requires { Standing plan text.now c }
     ensures { result ≡ time_at (here plan text.now c) }
 {
     if !at_some_word(plan, text, c) {
-        return Spelt::Nothing;
+        return None;
     }
     read_time(text, c.at, c.end)
 }

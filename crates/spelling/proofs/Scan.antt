@@ -1,6 +1,6 @@
 -- The loops of the cursor: past blanks, along a word; and the token that stands there.
 use Prim.Native.Nat.{ℕ, ◌+◌, ◌≤◌, ◌<◌}
-use mathlib.Core.Path.{◌≡◌, refl, sym, ap, ◌∙◌}
+use mathlib.Core.Path.{◌≡◌, refl, sym, ap, subst, ◌∙◌}
 use mathlib.Core.Bool.{Bool, true, false, not}
 use mathlib.Core.List.{List}
 use native.Mathlib.Omega.{arith}
@@ -44,9 +44,11 @@ module _ (plan : Bool) (text : List ℕ) (from line : ℕ) where
   passed_full r blank p e f =
       record { onward = p.onward; within = p.within; lines = p.lines; same = p.same; full = λ h. sym e ∙ not-true _ f }
 
-  pub passed_out : (r : Spot) → Passed plan text from line r.at r.line → length text ≤ r.at → Skipped plan text from line r
-  passed_out r p f =
-      record { onward = p.onward; within = p.within; lines = p.lines; same = p.same; full = λ h. absurd (omega arith) }
+  pub passed_out : (at on : ℕ) → Passed plan text from line at on → length text ≤ at → Skipped plan text from line record { at = length text; line = on }
+  passed_out at on p f =
+      let e : at ≡ length text = omega (arith, p.within) in
+      let q = subst (λ k. Passed plan text from line k on) e p in
+      record { onward = q.onward; within = q.within; lines = q.lines; same = q.same; full = λ h. absurd (omega arith) }
 
 -- every byte passed is a word's
 pub record Run (plan : Bool) (text : List ℕ) (from end : ℕ) : Type 0 where
@@ -77,9 +79,11 @@ module _ (plan : Bool) (text : List ℕ) (from : ℕ) where
   run_stop end inside p e f =
       record { onward = p.onward; within = p.within; each = p.each; stops = λ h. sym e ∙ not-true _ f }
 
-  pub run_out : (end : ℕ) → Run plan text from end → length text ≤ end → RunsTo plan text from end
+  pub run_out : (end : ℕ) → Run plan text from end → length text ≤ end → RunsTo plan text from (length text)
   run_out end p f =
-      record { onward = p.onward; within = p.within; each = p.each; stops = λ h. absurd (omega arith) }
+      let e : end ≡ length text = omega (arith, p.within) in
+      let q = subst (Run plan text from) e p in
+      record { onward = q.onward; within = q.within; each = q.each; stops = λ h. absurd (omega arith) }
 
 -- a token at a place that holds no blank
 module _ (plan : Bool) (text : List ℕ) (c : Cursor) (k : c.line ≤ c.at) where

@@ -1,12 +1,10 @@
 -- What a cursor says, the token that stands at it and those behind it, and the tests of that token.
-use Rattle.std.specs.Prelude.{ℕ, ◌≤◌, ◌<◌, ◌≡◌, Bool, true, false, cond, List, [], ◌∷◌, eqb, ltb, length, get_or, drop}
+use Rattle.std.specs.Prelude.{ℕ, ◌≤◌, ◌<◌, ◌≡◌, Bool, true, false, cond, List, [], ◌∷◌, Option, None, eqb, ltb, length, get_or, drop}
 use Rattle.std.proofs.Math.Seq.{slice}
 use Rattle.spelling.specs.Tokens.{Token, mark, word, stop, Placed, placed, is_mark, line_after, tokens}
 use Rattle.spelling.specs.Keywords.{same}
 use Rattle.spelling.specs.Numbers.{whole_of, time_of}
 use Rattle.spelling.specs.declared.Cursor.{Cursor}
-use Rattle.spelling.specs.declared.numbers.Spelt.{Spelt}
-use Rattle.spelling.specs.declared.numbers.Spelt.TheVariants.{Nothing}
 
 -- the tokens from a cursor on
 abbrev pub rest : Bool → List ℕ → Cursor → List Placed
@@ -63,12 +61,12 @@ is_stop (word w) = false
 is_stop (mark m) = false
 
 -- what a token spells
-unfoldable pub whole_at : Token → Spelt
+unfoldable pub whole_at : Token → Option ℕ
 whole_at (word w) = whole_of w
-whole_at (mark m) = Nothing
-whole_at stop = Nothing
+whole_at (mark m) = None
+whole_at stop = None
 
-unfoldable pub time_at : Token → Spelt
+unfoldable pub time_at : Token → Option ℕ
 time_at (word w) = time_of w
-time_at (mark m) = Nothing
-time_at stop = Nothing
+time_at (mark m) = None
+time_at stop = None

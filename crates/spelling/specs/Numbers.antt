@@ -1,10 +1,8 @@
 -- What a number is. "W has one to nine digits; T one to six, then at will a point and one to three, a tick being a
 -- thousandth."
-use Rattle.std.specs.Prelude.{ℕ, ◌+◌, ◌-◌, ◌*◌, ◌^◌, ◌<◌, Bool, cond, ◌||◌, ◌&&◌, List, [], ◌∷◌, eqb, leb, length, get_or, take, drop}
+use Rattle.std.specs.Prelude.{ℕ, ◌+◌, ◌-◌, ◌*◌, ◌^◌, ◌<◌, Bool, cond, ◌||◌, ◌&&◌, List, [], ◌∷◌, Option, Some, None, eqb, leb, length, get_or, take, drop}
 use Rattle.laws.specs.Search.{all, lowest}
 use Rattle.spelling.specs.Names.{is_digit}
-use Rattle.spelling.specs.declared.numbers.Spelt.{Spelt}
-use Rattle.spelling.specs.declared.numbers.Spelt.TheVariants.{Number, Nothing}
 
 -- from one to so many digits
 unfoldable pub are_digits : ℕ → List ℕ → Bool
@@ -45,16 +43,16 @@ unfoldable pub ticks : List ℕ → ℕ
 ticks w = 1000 * spelled (before_point w) + spelled (behind_point w) * 10 ^ (3 - length (behind_point w))
 
 -- digits, a W and a T as read
-unfoldable pub digits_of : ℕ → List ℕ → Spelt
-digits_of most w = cond (are_digits most w) (Number (spelled w)) Nothing
+unfoldable pub digits_of : ℕ → List ℕ → Option ℕ
+digits_of most w = cond (are_digits most w) (Some (spelled w)) None
 
 -- a number of so many digits
-abbrev pub Below : ℕ → Spelt → Type 0
-Below most (Number n) = n < 10 ^ most
-Below most Nothing = Unit
+abbrev pub Below : ℕ → Option ℕ → Type 0
+Below most (Some n) = n < 10 ^ most
+Below most None = Unit
 
-unfoldable pub whole_of : List ℕ → Spelt
-whole_of w = cond (is_whole w) (Number (spelled w)) Nothing
+unfoldable pub whole_of : List ℕ → Option ℕ
+whole_of w = cond (is_whole w) (Some (spelled w)) None
 
-unfoldable pub time_of : List ℕ → Spelt
-time_of w = cond (is_time w) (Number (ticks w)) Nothing
+unfoldable pub time_of : List ℕ → Option ℕ
+time_of w = cond (is_time w) (Some (ticks w)) None

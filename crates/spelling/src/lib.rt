@@ -3,7 +3,6 @@
 #![tactic(auto)]
 
 pub mod here;
-pub mod numbers;
 
 ghost use Rattle.std.specs.Prelude.{◌≡◌, false, ◌+◌, ◌≤◌, ◌<◌, length, get_or};
 ghost use Rattle.spelling.specs.Tokens.{text_most, is_blank, is_mark, in_word, line_after};
@@ -52,17 +51,18 @@ fn skip(plan: bool, text: &[u8], from: usize, line: usize) -> Spot
     requires { (length text.now ≤ text_most) × (from ≤ length text.now) × (line ≤ from) }
     ensures { Skipped plan text.now from line result }
 {
-    let mut at = from;
     let mut on = line;
-    while at < text.len() {
+    for at in from..text.len() {
         let b = text[at];
         if !is_blank(plan, b) {
             return Spot { at: at, line: on };
         }
         on = line_after(b, on);
-        at += 1;
     }
-    Spot { at: at, line: on }
+    Spot {
+        at: text.len(),
+        line: on,
+    }
 }
 
 // Where the run of a word's bytes from a place on ends.
@@ -70,14 +70,12 @@ fn run_end(plan: bool, text: &[u8], from: usize) -> usize
     requires { from ≤ length text.now }
     ensures { RunsTo plan text.now from result }
 {
-    let mut end = from;
-    while end < text.len() {
+    for end in from..text.len() {
         if !in_word(plan, text[end]) {
             return end;
         }
-        end += 1;
     }
-    end
+    text.len()
 }
 
 // A token of a text: where it begins and ends, and its line. The text's end stands past the last byte.

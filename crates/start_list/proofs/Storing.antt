@@ -7,10 +7,9 @@ use native.Mathlib.Numerals.{add-one}
 use native.Mathlib.Omega.{arith}
 use lib.ListN.{length, set, take, drop, length-set, take-append-drop, drop_of_length-le}
 use lib.Seq.{slice, drop-nil, take_all, drop-cons, append_snoc, take-suc-set, drop-set-lt}
+use Rattle.std.specs.Prelude.{Option, Some, None}
 use Rattle.laws.proofs.Search.{contrary, and_both}
 use Rattle.spelling.specs.Numbers.{is_whole, spelled, whole_of}
-use Rattle.spelling.specs.declared.numbers.Spelt.{Spelt}
-use Rattle.spelling.specs.declared.numbers.Spelt.TheVariants.{Number, Nothing}
 use Rattle.listing.specs.Listed.{filled}
 use Rattle.listing.proofs.Filling.{filled_none}
 use Rattle.start_list.specs.Starts.{words, all_whole, is_list, starts_in}
@@ -57,16 +56,16 @@ module _ {text before list : List ℕ} {at n : ℕ} (s : Stored text before list
   pub store_full : length list ≤ n → list ≡ filled before (starts_in text)
   store_full h = sym (s.same ∙ fill_full n list (map spelled (words (drop at text))) h)
 
-  module _ {end : ℕ} {r : Spelt} (w : WordTo text at end) (e : r ≡ whole_of (slice at end text)) where
+  module _ {end : ℕ} {r : Option ℕ} (w : WordTo text at end) (e : r ≡ whole_of (slice at end text)) where
     -- the word is a start, and so are those behind it
     starts : (ws : List (List ℕ)) → words (drop at text) ≡ slice at end text ∷ ws → (is_whole (slice at end text) ≡ true) × (all_whole ws ≡ true)
     unfolding all_whole
     starts ws f = and_both (is_whole (slice at end text)) (all_whole ws) (rw f at s.whole)
 
-    pub store_odd : r ≡ Nothing → ⊥
+    pub store_odd : r ≡ None → ⊥
     store_odd q = let first = word_first w in contrary (starts first.0 first.1).0 (whole_not (slice at end text) e q)
 
-    module _ {m : ℕ} (q : r ≡ Number m) (h : n < length list) where
+    module _ {m : ℕ} (q : r ≡ Some m) (h : n < length list) where
       stored :
           (ws : List (List ℕ)) → words (drop at text) ≡ slice at end text ∷ ws →
           filled before (starts_in text) ≡ filled_from (n + 1) (set list n m) (map spelled ws)

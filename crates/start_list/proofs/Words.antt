@@ -1,6 +1,6 @@
 -- Laws of a text's words: the bytes passed of a word, one more of them, the word's end, and whether it is a whole number.
 use Prim.Native.Nat.{ℕ, ◌+◌, ◌≤◌, ◌<◌}
-use mathlib.Core.Path.{◌≡◌, refl, sym, ap, ◌∙◌}
+use mathlib.Core.Path.{◌≡◌, refl, sym, ap, subst, ◌∙◌}
 use mathlib.Core.Bool.{true, false}
 use mathlib.Core.List.{List, [], ◌∷◌, ◌++◌, append-nil, append_assoc}
 use native.Mathlib.Numerals.{add-one}
@@ -9,9 +9,8 @@ use native.Mathlib.Omega.{arith}
 use borrow.Author.Tests.{eq-eqb, ne_eqb}
 use lib.ListN.{length, get_or, drop, drop_of_length-le}
 use lib.Seq.{slice, slice_empty, drop-cons}
+use Rattle.std.specs.Prelude.{Option, Some, None}
 use Rattle.spelling.specs.Numbers.{is_whole, spelled, digits_of, whole_of, whole_most}
-use Rattle.spelling.specs.declared.numbers.Spelt.{Spelt}
-use Rattle.spelling.specs.declared.numbers.Spelt.TheVariants.{Number, Nothing}
 use Rattle.spelled_numbers.proofs.Numbers.{slice_more, digits_are, digits_not}
 use Rattle.start_list.specs.Starts.{comma, joined, words, listed}
 use Rattle.start_list.specs.Words.{WordTo}
@@ -79,12 +78,13 @@ module _ {text : List ℕ} {at k : ℕ} (p : Passed text at k) where
         more = λ _. ended (words (drop (k + 1) text)) (byte_comma text k h e);
       }
 
-  pub word_last : length text ≤ k → WordTo text at k
+  pub word_last : length text ≤ k → WordTo text at (length text)
   word_last h =
+      let e : k ≡ length text = omega (arith, p.within) in
       record {
-        onward = p.from;
-        within = p.within;
-        last = λ _. ended [] (byte_none text k h);
+        onward = omega (arith, p.from);
+        within = omega arith;
+        last = λ _. subst (λ j. words (drop at text) ≡ slice at j text ∷ []) e (ended [] (byte_none text k h));
         more = λ l. absurd (omega arith);
       }
 
@@ -103,11 +103,11 @@ word_first {text} {at} {end} w =
     ]
 
 -- what was read of a word says whether it is a whole number, and which
-module _ (w : List ℕ) {r : Spelt} (e : r ≡ whole_of w) where
-  pub whole_not : r ≡ Nothing → is_whole w ≡ false
+module _ (w : List ℕ) {r : Option ℕ} (e : r ≡ whole_of w) where
+  pub whole_not : r ≡ None → is_whole w ≡ false
   unfolding is_whole whole_of digits_of
   whole_not q = digits_not whole_most w (sym q ∙ e)
 
-  pub whole_is : {m : ℕ} → r ≡ Number m → (is_whole w ≡ true) × (m ≡ spelled w)
+  pub whole_is : {m : ℕ} → r ≡ Some m → (is_whole w ≡ true) × (m ≡ spelled w)
   unfolding is_whole whole_of digits_of
   whole_is q = digits_are whole_most w (sym q ∙ e)

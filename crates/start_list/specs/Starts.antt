@@ -1,8 +1,6 @@
 -- What a person's list of starts is and says: whole numbers of one to nine digits with commas between them, or no text at all.
-use Rattle.std.specs.Prelude.{ℕ, Bool, true, cond, ◌&&◌, List, [], ◌∷◌, ◌++◌, map, eqb, length}
+use Rattle.std.specs.Prelude.{ℕ, Bool, true, cond, ◌&&◌, List, [], ◌∷◌, ◌++◌, Option, Some, None, map, eqb, length}
 use Rattle.spelling.specs.Numbers.{is_whole, spelled}
-use Rattle.start_list.specs.declared.StartsRead.{StartsRead}
-use Rattle.start_list.specs.declared.StartsRead.TheVariants.{Starts, NotAList}
 
 abbrev pub comma : ℕ
 comma = 44
@@ -36,5 +34,5 @@ unfoldable pub starts_in : List ℕ → List ℕ
 starts_in text = cond (is_list text) (map spelled (listed text)) []
 
 -- what a text of starts is read as
-unfoldable pub starts_read : List ℕ → StartsRead
-starts_read text = cond (is_list text) (Starts (length (starts_in text))) NotAList
+unfoldable pub starts_read : List ℕ → Option ℕ
+starts_read text = cond (is_list text) (Some (length (starts_in text))) None

@@ -7,46 +7,34 @@ ghost use Rattle.start_list.specs.Starts.{is_list, starts_in, starts_read};
 ghost use Rattle.start_list.specs.Words.{WordTo};
 
 use spelled_numbers::read_whole;
-use spelling::numbers::Spelt;
-
-// What a text of starts is read as.
-#[derive(Clone, Copy)]
-pub enum StartsRead {
-    // How many starts it lists.
-    Starts(usize),
-    NotAList,
-}
 
 // Where the word that begins at a place ends: at the next comma, or with the text.
 fn word_end(text: &[u8], at: usize) -> usize
     requires { at ≤ length text.now }
     ensures { WordTo text.now at result }
 {
-    let mut k = at;
-    while k < text.len() {
+    for k in at..text.len() {
         if text[k] == b',' {
             return k;
         }
-        k += 1;
     }
-    k
+    text.len()
 }
 
-// How many starts a text lists, of one byte at least.
-fn count_starts(text: &[u8]) -> StartsRead
+// How many starts a text lists, of one byte at least, or none where it is no list.
+fn count_starts(text: &[u8]) -> Option<usize>
     requires { 0 < length text.now }
     ensures { result ≡ starts_read text.now }
 {
     let mut n = 0;
     let mut at = 0;
+    // No range: the next word begins where the last one ended.
     loop {
         let end = word_end(text, at);
-        let Spelt::Number(_) = read_whole(text, at, end) else {
-            return StartsRead::NotAList;
-        };
+        read_whole(text, at, end)?;
         n += 1;
         if end == text.len() {
-            return StartsRead::Starts(n);
+            return Some(n);
         }
         at = end + 1;
     }
@@ -57,35 +45,31 @@ fn put_starts(text: &[u8], list: &mut [u32])
     requires { (0 < length text.now) × (is_list text.now ≡ true) }
     ensures { list.new ≡ filled list.old (starts_in text.now) }
 {
-    let mut n = 0;
     let mut at = 0;
-    while n < list.len() {
+    for n in 0..list.len() {
         let end = word_end(text, at);
         // Every word of a list is a number.
-        let Spelt::Number(start) = read_whole(text, at, end) else {
+        let Some(start) = read_whole(text, at, end) else {
             return;
         };
         list[n] = start;
         if end == text.len() {
             return;
         }
-        n += 1;
         at = end + 1;
     }
 }
 
 // Reads a list of starts into the front of `list`, and answers how many it has, whether or not there was room for them.
-// A text that is no list leaves `list` as it was.
-pub fn read_starts(text: &[u8], list: &mut [u32]) -> StartsRead
+// A text that is no list leaves `list` as it was, and the answer is none.
+pub fn read_starts(text: &[u8], list: &mut [u32]) -> Option<usize>
     ensures value { result ≡ starts_read text.now }
     ensures list_after { list.new ≡ filled list.old (starts_in text.now) }
 {
     if text.len() == 0 {
-        return StartsRead::Starts(0);
+        return Some(0);
     }
-    let StartsRead::Starts(n) = count_starts(text) else {
-        return StartsRead::NotAList;
-    };
+    let n = count_starts(text)?;
     put_starts(text, list);
-    StartsRead::Starts(n)
+    Some(n)
 }

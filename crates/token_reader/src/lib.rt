@@ -12,7 +12,6 @@ use spelled_names::{at_name, at_word};
 use spelled_numbers::{time_at, whole_at};
 use spelling::Cursor;
 use spelling::here::{at_bracket, at_end};
-use spelling::numbers::Spelt;
 
 // The token [at, end) on a line at which the reader stands, the items noted so far, and a fault's number, 0 for none.
 #[derive(Clone, Copy)]
@@ -161,7 +160,7 @@ pub fn take_time(plan: bool, text: &[u8], said: &mut [u64], r: Reader) -> Reader
     if r.fault != 0 {
         return r;
     }
-    let Spelt::Number(n) = time_at(plan, text, cursor(r)) else {
+    let Some(n) = time_at(plan, text, cursor(r)) else {
         return refuse(r, 18);
     };
     let w = notes::note_number(n, r.line);
@@ -176,7 +175,7 @@ pub fn take_amount(plan: bool, text: &[u8], said: &mut [u64], r: Reader) -> Read
     if r.fault != 0 {
         return r;
     }
-    let Spelt::Number(n) = whole_at(plan, text, cursor(r)) else {
+    let Some(n) = whole_at(plan, text, cursor(r)) else {
         return refuse(r, 18);
     };
     let w = notes::note_number(n, r.line);

@@ -1,23 +1,20 @@
--- Every byte passed may stand in a name.
-use Prim.Native.Nat.{◌-◌}
+use Rattle.std.proofs.Common.{rules, ◌-◌, get_or, take, drop, ap, ◌∙◌}
+use borrow.Author.Tests.{tests}
+use Rattle.std.specs.List.{list_all}
+use Rattle.std.proofs.lemmas.Iterator.{YieldsList-from_slice}
+use Rattle.std.proofs.lemmas.Iterator.Search.{all_from_yields_List}
+use Rattle.std.proofs.Math.Seq.{slice, length-slice}
+use Rattle.laws.specs.Search.{all}
 use Rattle.spelling.specs.Names.{is_name_byte}
-use Rattle.spelling.proofs.Each.{each_start, each_more, each_fails, each_all}
-use mathlib.Core.Path.{ap}
-use mathlib.Core.Bool.{not}
+use Rattle.spelling.proofs.Part.{part_is}
+use Rattle.spelled_names.proofs.Words.{all_is}
 use Rattle.spelled_names.proofs.name_bytes.Goals as goal
 
-pub loop-k-init : goal.loop-k-init
-loop-k-init c = each_start _ _ _ _ c.requires.0
-
-pub returns-then-not-is_name_byte : goal.returns-then-not-is_name_byte
-returns-then-not-is_name_byte c =
-    let test = c in
-    each_fails _ _ _ _ _ test.loop-k.invariant test.loop-k-test.true c.is_name_byte.ensures (ap not c.if-not-is_name_byte.true)
-
-pub loop-k-preserved : goal.loop-k-preserved
-loop-k-preserved c =
-    let test = c in
-    each_more _ _ _ _ _ test.loop-k.invariant test.loop-k-test.true c.is_name_byte.ensures (ap not c.if-not-is_name_byte.false)
-
 pub returns : goal.returns
-returns c = each_all _ _ _ _ _ c.loop-k.invariant c.loop-k-test.false
+returns c =
+    let text = c.args.text.now in
+    let part = take (c.args.end - c.args.at) (drop c.args.at text) in
+    let word = slice c.args.at c.args.end text in
+    all_from_yields_List is_name_byte _ _ _ c.all.ensures.ran (YieldsList-from_slice part cc) (λ x b q k. search (rules, tests))
+    ∙ ap (list_all is_name_byte) (part_is _ _ _ c.requires.0) ∙ all_is is_name_byte word
+    ∙ ap (λ n. all n (λ k. is_name_byte (get_or word k 0))) (length-slice _ _ _ c.requires.1)

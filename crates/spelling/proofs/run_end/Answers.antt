@@ -1,5 +1,4 @@
 -- Every byte passed is a word's.
-use Prim.Native.Nat.{◌-◌}
 use Rattle.spelling.proofs.Scan.{run_start, run_more, run_stop, run_out}
 use mathlib.Core.Path.{ap}
 use mathlib.Core.Bool.{not}

@@ -1,5 +1,4 @@
 -- The bytes passed are blanks, and the lines are those that they end.
-use Prim.Native.Nat.{◌-◌}
 use native.Mathlib.Omega.{arith}
 use Rattle.spelling.proofs.Scan.{passed_start, passed_more, passed_full, passed_out}
 use mathlib.Core.Path.{ap}
@@ -24,4 +23,4 @@ loop-at-preserved c =
     (ap not c.if-not-is_blank.false) c.line_after-on.ensures
 
 pub returns : goal.returns
-returns c = passed_out _ _ _ _ _ c.loop-at.invariant c.loop-at-test.false
+returns c = passed_out _ _ _ _ _ _ c.loop-at.invariant c.loop-at-test.false

@@ -1,5 +1,4 @@
 -- The starts of the words passed stand, and every word to come is a start.
-use Prim.Native.Nat.{◌-◌}
 use Rattle.start_list.proofs.Storing.{store_start, store_full, store_odd, store_last, store_more}
 use Rattle.start_list.proofs.put_starts.Goals as goal
 
@@ -20,16 +19,16 @@ returns-in_default c = absurd (store_odd c.loop-n.invariant c.word_end-end.ensur
 
 pub returns-then-end-text : goal.returns-then-end-text
 returns-then-end-text c =
-    store_last c.loop-n.invariant c.word_end-end.ensures c.read_whole.ensures c.in-Number.is
-    c.loop-n-test.true c.if-end-text.true
+    store_last c.loop-n.invariant c.word_end-end.ensures c.read_whole.ensures c.in-Some.is
+    (rw c.loop-n.invariant.size c.loop-n-test.true) c.if-end-text.true
 
 pub loop-n-preserved : goal.loop-n-preserved
 loop-n-preserved c =
-    store_more c.loop-n.invariant c.word_end-end.ensures c.read_whole.ensures c.in-Number.is
-    c.loop-n-test.true c.if-end-text.false
+    store_more c.loop-n.invariant c.word_end-end.ensures c.read_whole.ensures c.in-Some.is
+    (rw c.loop-n.invariant.size c.loop-n-test.true) c.if-end-text.false
 
 pub shape_of-list : goal.shape_of-list
 shape_of-list c = c.loop-n.invariant.size
 
 pub returns : goal.returns
-returns c = store_full c.loop-n.invariant c.loop-n-test.false
+returns c = store_full c.loop-n.invariant (rw c.loop-n.invariant.size c.loop-n-test.false)

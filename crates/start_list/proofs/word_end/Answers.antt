@@ -1,5 +1,4 @@
 -- The bytes passed are of the word.
-use Prim.Native.Nat.{◌-◌}
 use Rattle.start_list.proofs.Words.{passed_start, passed_more, word_comma, word_last}
 use Rattle.start_list.proofs.word_end.Goals as goal
 

@@ -42,7 +42,7 @@ note-requires c =
     let p = start.requires.stands in (
       start.requires,
       time_inside _ _ p at-cursor.cursor.ensures at-time-at.time_at.ensures
-          at_n.in-Number.is,
+          at_n.in-Some.is,
       at-if1.if-r-ne0.false,
       numbered_sound p (search rules) at-note-number.note_number-w.ensures,
     )
@@ -55,5 +55,5 @@ returns c =
     let at-time-at = at_n in
     let at-cursor = at-time-at in
     let start = at-cursor in
-    time_reads _ _ start.requires.stands at-cursor.cursor.ensures at-time-at.time_at.ensures at_n.in-Number.is (search rules)
+    time_reads _ _ start.requires.stands at-cursor.cursor.ensures at-time-at.time_at.ensures at_n.in-Some.is (search rules)
     at-note-number.note_number-w.ensures at-note.note.ensures
