@@ -19,14 +19,13 @@ use Rattle.job_encoding.specs.Encode.{counts_in, encode}
 use Rattle.token_reader.specs.Reading.{heard, answer}
 use Rattle.token_reader.specs.declared.Reader.{Reader}
 use Rattle.text_reader.specs.Heard.{Heard}
-use Rattle.supplied.specs.Names.{facts, levels}
 use Rattle.supplied.specs.Plan.{lines_of}
 use Rattle.supplied.specs.Job.{step_of, model_in, tables_of, supplied_job}
 use Rattle.job_notes.proofs.Noted.{tables_noted_lem}
 use Rattle.naming.specs.declared.Names.{Names}
 use Rattle.naming.specs.Named.{Readable, AllNamed}
 use Rattle.job_from_notes.specs.Counted.{tables_in, Walked}
-use Rattle.plan_check.specs.Checked.{Checked}
+use Rattle.plan_check.specs.Checked.{Differing, Agreeing}
 use Rattle.std.specs.Prelude.{Err}
 use Rattle.verdict.specs.declared.Refusal.TheVariants.{CountTooHigh}
 use Rattle.texts_answer.specs.Answer.{TextsAnswer}
@@ -71,32 +70,29 @@ module _ (plan lines : List ℕ) (r : Reader) (h : Heard true (plan_reading plan
   unfolding plan_answer written
   plan_outside is out line z e = record { answer = rw (plan_refused z, e); buffer = refl }
 
-  module _ (text notes acts out : List ℕ) (first : ℕ) (c : Checked text notes plan (take r.count lines) acts first) (z : r.fault ≡ 0) where
+  module _ (text notes out : List ℕ) (z : r.fault ≡ 0) where
     -- a line that differs
     pub line_refused :
-        (line : ℕ) → first < r.count / 3 → line ≡ line_in (get_or lines (3 * first + 1) 0)
+        (first line : ℕ) → Differing text notes plan (take r.count lines) first → line ≡ line_in (get_or lines (3 * first + 1) 0)
         → Answered (items_in text notes) plan out (Err (PlanDiffers line)) out
     unfolding plan_answer written
-    line_refused line l e =
-        let m : first < length (lines_of said) = omega (arith, l, c.count, lines_length) in
-        let p = line_differs (items_in text notes) _ (lines_of said) first m c.same (c.differs m) in
+    line_refused first line c e =
+        let l : first < r.count / 3 = omega (arith, c.within, c.count, lines_length) in
+        let p = line_differs (items_in text notes) _ (lines_of said) first c.within c.same c.differs in
         record {
           answer =
-              ap (λ l. Err (PlanDiffers l)) (e ∙ sym (c.line m ∙ ap line_in (get_or-take r.count lines (3 * first + 1) 0 (omega (arith, l)))))
+              ap (λ l. Err (PlanDiffers l)) (e ∙ sym (c.line ∙ ap line_in (get_or-take r.count lines (3 * first + 1) 0 (omega (arith, l)))))
               ∙ sym (ap (λ o. plan_answer (items_in text notes) o (length out)) (plan_read_lem z) ∙ p);
           buffer = refl;
         }
 
-    module _ (all : r.count / 3 ≤ first) where
-      no_more : first ≡ length (lines_of said)
-      no_more = omega (arith, all, c.count, c.within, lines_length)
-
+    module _ (acts : List ℕ) (c : Agreeing text notes plan (take r.count lines) acts) where
       lines_pass :
           plan_answer (items_in text notes) (plan_reading plan) (length out) ≡ counted (supplied_job (items_in text notes) said) (length out)
       unfolding plan_answer
       lines_pass =
           ap (λ o. plan_answer (items_in text notes) o (length out)) (plan_read_lem z)
-          ∙ no_line_differs (items_in text notes) _ (lines_of said) (λ j l. c.same j (omega (arith, l, no_more)))
+          ∙ no_line_differs (items_in text notes) _ (lines_of said) c.same
 
       -- more lines than a job has steps
       pub too_many_lines : 64 < r.count / 3 → Answered (items_in text notes) plan out (Err (Refused CountTooHigh)) out
@@ -110,7 +106,7 @@ module _ (plan lines : List ℕ) (r : Reader) (h : Heard true (plan_reading plan
       -- the notes of at most 64 steps can be walked
       pub notes_walked : Readable text notes → r.count / 3 ≤ 64 → Walked notes (take r.count lines) acts
       notes_walked p l =
-          let a = c.acting no_more (omega (arith, l, c.count, lines_length)) in
+          let a = c.acting (omega (arith, l, c.count, lines_length)) in
           record {
             few = p.few;
             steps = omega (arith, l, lines_length);
@@ -130,7 +126,7 @@ module _ (plan lines : List ℕ) (r : Reader) (h : Heard true (plan_reading plan
       rest_answered numbers index names a after p n l f =
           let same =
           ap model_in (tables_noted_lem text plan notes (take r.count lines) numbers acts _ p.each p.few n.numbered
-          (c.acting no_more (omega (arith, l, c.count, lines_length))) refl (sym c.count) n.facts n.levels)
+          (c.acting (omega (arith, l, c.count, lines_length))) refl (sym c.count) n.facts n.levels)
           in
           record {
             answer = f.answer ∙ ap (λ m. counted m (length out)) same ∙ sym lines_pass;

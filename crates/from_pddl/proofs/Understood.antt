@@ -1,12 +1,12 @@
 -- An action text whose names are looked at: a clash refuses it, and else the reader's answer stands.
-use Prim.Native.Nat.{ℕ, ◌≤◌, ◌<◌}
+use Prim.Native.Nat.{ℕ, ◌<◌}
 use mathlib.Core.Path.{◌≡◌, refl, sym, ap, subst, ◌∙◌}
-use mathlib.Core.Bool.{false, cond}
-use mathlib.Core.List.{List}
+use mathlib.Core.Bool.{false}
+use mathlib.Core.List.{List, []}
 use mathlib.Core.Logic.{inl, inr}
 use native.Mathlib.Omega.{arith}
-use borrow.Author.Tests.{eq-eqb, ne_eqb, lt-ltb, le-ltb}
-use lib.Dec.{eqb, ltb}
+use borrow.Author.Tests.{eq-eqb, ne_eqb}
+use lib.Dec.{eqb}
 use lib.ListN.{length, get_or, take}
 use lib.Seq.{length-take-le, get_or-take}
 use Rattle.grammar.specs.Said.{Item}
@@ -16,9 +16,9 @@ use Rattle.notes.specs.Notes.{line_in, item_in, nothing, items_in, Sound}
 use Rattle.token_reader.specs.Reading.{heard, answer}
 use Rattle.token_reader.specs.declared.Reader.{Reader}
 use Rattle.text_reader.specs.Heard.{Heard}
-use Rattle.supplied.specs.Names.{with_names}
+use Rattle.supplied.specs.Names.{names_from, with_names}
 use Rattle.naming.specs.declared.Names.{Names}
-use Rattle.naming.specs.Named.{Readable, Found}
+use Rattle.naming.specs.Named.{Readable, Standing, Clashing}
 use Rattle.texts_answer.specs.FromTexts.{actions_read}
 use Rattle.from_pddl.specs.Understood.{Understood}
 use Rattle.from_pddl.proofs.Named.{names_first}
@@ -35,49 +35,45 @@ module _ (text said : List ℕ) (r : Reader) (h : Heard false (action_reading te
         subst (λ w. Sound text w) (sym (get_or-take r.count said k 0 (omega (arith, l, notes_length)))) (h.noted.sound k);
   }
 
-  module _ (numbers index : List ℕ) (n : Names) (f : Found text (take r.count said) numbers index n) where
+  module _ (numbers index : List ℕ) where
     abbrev items : List Item
     items = items_in text (take r.count said)
 
-    named_reading :
-        actions_read text
-        ≡ cond (ltb n.clash r.count) (refused 18 (get_or items n.clash nothing).line (take n.clash items)) (answer text said r)
+    names_looked : actions_read text ≡ names_from [] items (answer text said r)
     unfolding actions_read answer heard
-    named_reading =
-        ap with_names h.same ∙ names_first (eqb r.fault 0) items r.fault r.line
-        ∙ f.clashing (answer text said r)
-        ∙ ap (λ k. cond (ltb n.clash k) (refused 18 (get_or items n.clash nothing).line (take n.clash items)) (answer text said r)) notes_length
+    names_looked = ap with_names h.same ∙ names_first (eqb r.fault 0) items r.fault r.line
 
     -- a name that may not stand there is refused at its line
     pub clash_understood :
-        (line : ℕ) → n.clash < r.count → line ≡ line_in (get_or said n.clash 0) → line < 65536
+        (k line : ℕ) (n : Names) → Clashing text (take r.count said) k → line ≡ line_in (get_or said k 0) → line < 65536
         → Understood text said numbers index (record { fault = 18; line = line; count = r.count; names = n })
     unfolding item_in heard
-    clash_understood line l e b = record {
+    clash_understood k line n c e b = record {
       size = h.size;
       few = h.few;
       line = omega (arith, b);
       fault = inr (inl refl);
-      refuses = λ _. (take n.clash items, named_reading ∙ rw (lt-ltb n.clash r.count l) there);
+      refuses = λ _. (take k items, names_looked ∙ c.refuses (answer text said r) ∙ there);
       reads = λ z. absurd (omega (arith, z));
       readable = notes_readable;
       named = λ z. absurd (omega (arith, z));
     }
       where
-        there : refused 18 (get_or items n.clash nothing).line (take n.clash items) ≡ refused 18 line (take n.clash items)
-        there = ap (λ k. refused 18 k (take n.clash items)) (ap (λ (i : Item). i.line) (h.noted.each n.clash) ∙ sym e)
+        there : refused 18 (get_or items k nothing).line (take k items) ≡ refused 18 line (take k items)
+        there = ap (λ l. refused 18 l (take k items)) (ap (λ (i : Item). i.line) (h.noted.each k) ∙ sym e)
 
     -- else the reader's answer stands
     pub reader_understood :
-        r.count ≤ n.clash → Understood text said numbers index (record { fault = r.fault; line = r.line; count = r.count; names = n })
+        (n : Names) → Standing text (take r.count said) numbers index n
+        → Understood text said numbers index (record { fault = r.fault; line = r.line; count = r.count; names = n })
     unfolding answer heard
-    reader_understood l = record {
+    reader_understood n s = record {
       size = h.size;
       few = h.few;
       line = h.line;
       fault = h.fault;
-      refuses = λ z. (items, named_reading ∙ rw (le-ltb n.clash r.count l, ne_eqb r.fault 0 z));
-      reads = λ z. named_reading ∙ rw (le-ltb n.clash r.count l, eq-eqb r.fault 0 z);
+      refuses = λ z. (items, names_looked ∙ s.stands (answer text said r) ∙ rw (ne_eqb r.fault 0 z));
+      reads = λ z. names_looked ∙ s.stands (answer text said r) ∙ rw (eq-eqb r.fault 0 z);
       readable = notes_readable;
-      named = λ z. f.named (omega (arith, l, f.within, notes_length));
+      named = λ z. s.named;
     }

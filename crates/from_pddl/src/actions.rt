@@ -24,21 +24,21 @@ pub fn read_named(text: &[u8], said: &mut [u64], index: &mut [u16], numbers: &mu
 {
     let r = read_actions(text, said);
     let count = r.count;
-    let names = number_names(text, &said[..count], index, numbers);
-    let clash = names.clash;
-    if clash < count {
-        let w = said[clash];
-        return Actions {
-            fault: 18,
-            line: notes::line(w),
+    match number_names(text, &said[..count], index, numbers) {
+        Ok(names) => Actions {
+            fault: r.fault,
+            line: r.line,
             count,
             names,
-        };
-    }
-    Actions {
-        fault: r.fault,
-        line: r.line,
-        count,
-        names,
+        },
+        Err(clash) => Actions {
+            fault: 18,
+            line: notes::line(said[clash.item]),
+            count,
+            names: Names {
+                facts: 0,
+                levels: 0,
+            },
+        },
     }
 }

@@ -32,8 +32,7 @@ pub fn file_plan(
     }
     let n = r.count;
     let mut acts = [0u16; Job::STEPS as usize];
-    let first = check_lines(text, said, index, plan, &lines[..n], &mut acts);
-    if first < n / 3 {
+    if let Some(first) = check_lines(text, said, index, plan, &lines[..n], &mut acts) {
         let w = lines[3 * first + 1];
         return Err(TextsRefusal::PlanDiffers(notes::line(w) as u16));
     }

@@ -1,5 +1,5 @@
 -- The action of a name: the first appearance of the name, or none.
-use Prim.Native.Nat.{ℕ, zero, suc, ◌+◌, ◌≤◌, ◌<◌}
+use Prim.Native.Nat.{ℕ, zero, suc, ◌+◌, ◌<◌}
 use mathlib.Core.Path.{◌≡◌, refl, sym, ap, ◌∙◌}
 use mathlib.Core.Bool.{Bool, true, false, ◌||◌}
 use mathlib.Core.List.{List, [], ◌∷◌}
@@ -9,6 +9,7 @@ use native.Mathlib.Numerals.{add-one}
 use native.Mathlib.Decide.{ℕ_discrete}
 use native.Mathlib.Omega.{arith}
 use lib.ListN.{length, get_or, drop, length-map}
+use Rattle.std.specs.Prelude.{None}
 use Rattle.laws.proofs.Search.{either, contrary}
 use Rattle.spelling.proofs.Same.{same_refl, same_eq}
 use Rattle.grammar.specs.Said.{Role, action, fact, rise, fall, stock, planned, Said, name, number, Item}
@@ -17,8 +18,8 @@ use Rattle.notes.specs.Notes.{role_in, action_role, role_of, item_in, items_in}
 use Rattle.supplied.specs.Names.{actions, kind_of, kind_number}
 use Rattle.supplied.specs.Plan.{is_action, has_action, behind}
 use Rattle.naming.specs.Index.{said_at, says, Indexed}
-use Rattle.naming.specs.Named.{Readable, ActionAt}
-use Rattle.naming.specs.Passed.{Looked}
+use Rattle.naming.specs.Named.{Readable, Acts}
+use Rattle.naming.specs.Passed.{Appears, Looked}
 use Rattle.naming.proofs.Roles.{role_action}
 use Rattle.naming.proofs.Firsts.{number_at_lem, name_at_lem, says_name, first_none}
 
@@ -82,49 +83,43 @@ role_at text said j {r} {v} e =
       | no z ↦ let n = name_at_lem text said j z in cc
     ]
 
-module _ (text said : List ℕ) (v : Word) (first : ℕ) (looked : Looked (items_in text said) (length said) v first) where
-  pub action_found : first < length said → role_in (get_or said first 0) ≡ action_role → ActionAt text said v first
-  unfolding role_of
-  action_found l e =
-      let o = says_name (said_at (items_in text said) first) (looked.there l) in
-      let r : o.0 ≡ action = role_at text said first o.1 ∙ ap role_of e in
-      let here : said_at (items_in text said) first ≡ name action v = o.1 ∙ ap (λ r. name r v) r in
-      let size = length-map said (item_in text) in
-      record {
-        within = omega arith;
-        has = λ _. has_action_lem v (items_in text said) first (omega (arith, size)) here;
-        behind =
-            λ _. behind_first v (items_in text said) first (omega (arith, size)) here (first_none (items_in text said) first (looked.first l) here);
-        none = λ q. absurd (omega arith);
-      }
+module _ (text said : List ℕ) (v : Word) where
+  absent : ((j : ℕ) → j < length said → is_action v (said_at (items_in text said) j) ≡ false) → has_action v (items_in text said) ≡ false
+  absent f = no_action v (items_in text said) (λ j l. f j (omega (arith, length-map said (item_in text), l)))
 
-  absent : ((j : ℕ) → j < length said → is_action v (said_at (items_in text said) j) ≡ false) → ActionAt text said v (length said)
-  absent f =
-      let size = length-map said (item_in text) in
-      record {
-        within = omega arith;
-        has = λ l. absurd (omega (arith, l));
-        behind = λ l. absurd (omega (arith, l));
-        none = λ _. no_action v (items_in text said) (λ j l. f j (omega (arith, size, l)));
-      }
+  pub action_none : Looked (items_in text said) (length said) v None → has_action v (items_in text said) ≡ false
+  action_none none = absent (λ j h. unsaid v (said_at (items_in text said) j) (none j h))
 
-  pub action_none : length said ≤ first → ActionAt text said v (length said)
-  action_none l =
-      absent (λ j h. unsaid v (said_at (items_in text said) j) (looked.none (let q : first ≡ length said = omega (arith, looked.within) in q) j h))
+  module _ (first : ℕ) (looked : Appears (items_in text said) (length said) v first) where
+    pub action_found : role_in (get_or said first 0) ≡ action_role → Acts text said v first
+    unfolding role_of
+    action_found e =
+        let o = says_name (said_at (items_in text said) first) looked.there in
+        let r : o.0 ≡ action = role_at text said first o.1 ∙ ap role_of e in
+        let here : said_at (items_in text said) first ≡ name action v = o.1 ∙ ap (λ r. name r v) r in
+        let l : first < length (items_in text said) = omega (arith, looked.within, length-map said (item_in text)) in
+        record {
+          within = looked.within;
+          has = has_action_lem v (items_in text said) first l here;
+          behind = behind_first v (items_in text said) first l here (first_none (items_in text said) first looked.first here);
+        }
 
-  pub action_other :
-      (index : List ℕ) → Readable text said → Indexed (items_in text said) (length said) index → first < length said
-      → (role_in (get_or said first 0) ≡ action_role → ⊥) → ActionAt text said v (length said)
-  unfolding kind_of
-  action_other index sound indexed l ne =
-      absent
-      (λ j h.
-      ⊎_elim
-      (λ (t : is_action v (said_at (items_in text said) j) ≡ true).
-      let o = says_name (said_at (items_in text said) first) (looked.there l) in
-      let a = action_name (said_at (items_in text said) j) t in
-      let k : kind_of o.0 ≡ actions = indexed.kinds first j o.0 action v l h o.1 a in
-      let r = role_at text said first o.1 in
-      absurd (ne (role_action (role_in (get_or said first 0)) (sound.each first l).known (ap (λ q. kind_number (kind_of q)) (sym r) ∙ ap kind_number k))))
-      (λ (f : is_action v (said_at (items_in text said) j) ≡ false). f)
-      (either (is_action v (said_at (items_in text said) j))))
+    pub action_other :
+        (index : List ℕ) → Readable text said → Indexed (items_in text said) (length said) index
+        → (role_in (get_or said first 0) ≡ action_role → ⊥) → has_action v (items_in text said) ≡ false
+    unfolding kind_of
+    action_other index sound indexed ne =
+        absent
+        (λ j h.
+        ⊎_elim
+        (λ (t : is_action v (said_at (items_in text said) j) ≡ true).
+        let o = says_name (said_at (items_in text said) first) looked.there in
+        let a = action_name (said_at (items_in text said) j) t in
+        let k : kind_of o.0 ≡ actions = indexed.kinds first j o.0 action v looked.within h o.1 a in
+        let r = role_at text said first o.1 in
+        absurd
+        (ne
+        (role_action (role_in (get_or said first 0)) (sound.each first looked.within).known
+        (ap (λ q. kind_number (kind_of q)) (sym r) ∙ ap kind_number k))))
+        (λ (f : is_action v (said_at (items_in text said) j) ≡ false). f)
+        (either (is_action v (said_at (items_in text said) j))))

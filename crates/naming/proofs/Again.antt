@@ -1,7 +1,7 @@
 -- One more item is passed: a name that has appeared.
 use Prim.Native.Nat.{ℕ, ◌+◌, ◌<◌}
 use mathlib.Core.Path.{◌≡◌, sym, ap, subst, ◌∙◌}
-use mathlib.Core.Bool.{true, false, cond, ◌&&◌}
+use mathlib.Core.Bool.{Bool, true, false, ◌||◌, ◌&&◌}
 use mathlib.Core.List.{List}
 use mathlib.Core.Logic.{⊎_elim}
 use native.Mathlib.Decide.{dec_lt, ℕ_discrete}
@@ -22,7 +22,7 @@ use Rattle.naming.proofs.Clashing.{clashes_at, passes_again, onward_more}
 use Rattle.naming.proofs.Marks.{unmarked, marks_own, else_unsaid}
 use Rattle.naming.proofs.Onward.{numbers_more, first_one, still}
 
-module _ {is : List Item} {k : ℕ} {index numbers marks counts : List ℕ} (passed : Passed is k index numbers marks counts)
+module _ {is : List Item} {k : ℕ} {index numbers : List ℕ} {marks : List Bool} {counts : List ℕ} (passed : Passed is k index numbers marks counts)
     (h : k < length is) (few : k < unlinked) {r : Role} {w : Word} (e : said_at is k ≡ name r w) where
   module _ (f : ℕ) {q : Role} (l : f < k) (first : is_first is f ≡ true) (p : said_at is f ≡ name q w) (kind : kind_of q ≡ kind_of r) where
     kind_again : (j : ℕ) (r' q' : Role) (u : Word) → j < k → said_at is k ≡ name r' u → said_at is j ≡ name q' u → kind_of q' ≡ kind_of r'
@@ -49,12 +49,12 @@ module _ {is : List Item} {k : ℕ} {index numbers marks counts : List ℕ} (pas
 
     pub passed_again :
         (gives r && any k (λ i. gives_name w (said_at is i))) ≡ false
-        → Passed is (k + 1) index (set numbers k (get_or numbers f 0)) (set marks f (cond (gives r) 1 (get_or marks f 0))) counts
+        → Passed is (k + 1) index (set numbers k (get_or numbers f 0)) (set marks f (get_or marks f false || gives r)) counts
     passed_again g = record {
       indexed = still passed h few later kind_again;
       fresh = λ j m. passed.fresh j (omega arith);
       numbers_size = length-set numbers k (get_or numbers f 0) ∙ passed.numbers_size;
-      marks_size = length-set marks f (cond (gives r) 1 (get_or marks f 0)) ∙ passed.marks_size;
+      marks_size = length-set marks f (get_or marks f false || gives r) ∙ passed.marks_size;
       counts_size = passed.counts_size;
       numbered =
           numbers_more is k numbers (get_or numbers f 0) h (omega (arith, passed.numbers_size)) passed.numbered
@@ -71,10 +71,9 @@ module _ {is : List Item} {k : ℕ} {index numbers marks counts : List ℕ} (pas
             | yes z ↦ mark_here j u z b
             | no z ↦
                 let j<k : j < k = first_below j m a in
-                get_or-set_other marks f j (cond (gives r) 1 (get_or marks f 0)) 0 z
+                get_or-set_other marks f j (get_or marks f false || gives r) false z
                 ∙ passed.marked j u j<k a b
-                ∙ ap (λ x. cond x 1 0)
-                (unmarked is k u (else_unsaid is k e u (λ y. z (first_one is j f u a first b (ap (λ v. says v (said_at is f)) y ∙ says_own p)))))
+                ∙ unmarked is k u (else_unsaid is k e u (λ y. z (first_one is j f u a first b (ap (λ v. says v (said_at is f)) y ∙ says_own p))))
           ];
       onward = onward_more is k passed.onward h (passes_repeat g);
     }
@@ -88,12 +87,12 @@ module _ {is : List Item} {k : ℕ} {index numbers marks counts : List ℕ} (pas
 
         mark_here :
             (j : ℕ) (u : Word) → j ≡ f → says u (said_at is j) ≡ true
-            → get_or (set marks f (cond (gives r) 1 (get_or marks f 0))) j 0 ≡ cond (any (k + 1) (λ i. gives_name u (said_at is i))) 1 0
+            → get_or (set marks f (get_or marks f false || gives r)) j false ≡ any (k + 1) (λ i. gives_name u (said_at is i))
         mark_here j u z b =
             let b' : says u (said_at is f) ≡ true = ap (λ i. says u (said_at is i)) (sym z) ∙ b in
             let o = (says_name (said_at is f) b').1 in
             let y : w ≡ u = cc in
-            subst (λ v. get_or (set marks f (cond (gives r) 1 (get_or marks f 0))) j 0 ≡ cond (any (k + 1) (λ i. gives_name v (said_at is i))) 1 0) y
-            (ap (λ i. get_or (set marks f (cond (gives r) 1 (get_or marks f 0))) i 0) z
-            ∙ get_or-set_same marks f (cond (gives r) 1 (get_or marks f 0)) 0 (omega (arith, passed.marks_size))
-            ∙ marks_own is k e (get_or marks f 0) (passed.marked f w l first (says_own p)))
+            subst (λ v. get_or (set marks f (get_or marks f false || gives r)) j false ≡ any (k + 1) (λ i. gives_name v (said_at is i))) y
+            (ap (λ i. get_or (set marks f (get_or marks f false || gives r)) i false) z
+            ∙ get_or-set_same marks f (get_or marks f false || gives r) false (omega (arith, passed.marks_size))
+            ∙ marks_own is k e (get_or marks f false) (passed.marked f w l first (says_own p)))

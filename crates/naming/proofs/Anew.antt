@@ -1,7 +1,7 @@
 -- One more item is passed: a new name.
 use Prim.Native.Nat.{ℕ, ◌+◌, ◌<◌}
 use mathlib.Core.Path.{◌≡◌, sym, ap, ap₂, subst, ◌∙◌}
-use mathlib.Core.Bool.{true, false, cond}
+use mathlib.Core.Bool.{Bool, true, false}
 use mathlib.Core.List.{List, [], ◌∷◌}
 use mathlib.Core.Logic.{⊎_elim}
 use native.Mathlib.Decide.{dec_lt}
@@ -18,13 +18,14 @@ use Rattle.naming.specs.Index.{key_count, unlinked, said_at, says, is_first, mix
 use Rattle.naming.specs.Passed.{gives_name, Passed}
 use Rattle.naming.proofs.Firsts.{says_own, says_name, first_in}
 use Rattle.naming.proofs.Linking.{links_new, mixed_low, key_first}
-use Rattle.naming.proofs.Numbering.{names_to, number_kind, kind_refl, kind_eq, number_new, not_in}
+use Rattle.naming.proofs.Roles.{number_kind}
+use Rattle.naming.proofs.Numbering.{names_to, kind_refl, kind_eq, number_new, not_in}
 use Rattle.naming.proofs.Numbering.{other_leaves, new_comes}
 use Rattle.naming.proofs.Clashing.{passes_new, onward_more}
 use Rattle.naming.proofs.Marks.{unmarked, marks_own, else_unsaid, gives_unsaid}
 use Rattle.naming.proofs.Onward.{kinds_more, numbers_more}
 
-module _ {is : List Item} {k : ℕ} {index numbers marks counts : List ℕ} (passed : Passed is k index numbers marks counts)
+module _ {is : List Item} {k : ℕ} {index numbers : List ℕ} {marks : List Bool} {counts : List ℕ} (passed : Passed is k index numbers marks counts)
     (h : k < length is) (few : k < unlinked) {r : Role} {w : Word} (e : said_at is k ≡ name r w) where
   module _ (none : (j : ℕ) → j < k → says w (said_at is j) ≡ false) where
     first_here : is_first is k ≡ true
@@ -33,7 +34,7 @@ module _ {is : List Item} {k : ℕ} {index numbers marks counts : List ℕ} (pas
     pub passed_new :
         (m c : ℕ) → m ≡ mixed 0 w → c ≡ kind_number (kind_of r)
         → Passed is (k + 1) (set (set index (key_count + k) (get_or index m 0)) m k) (set numbers k (get_or counts c 0))
-        (set marks k (cond (gives r) 1 0)) (set counts c (get_or counts c 0 + 1))
+        (set marks k (gives r)) (set counts c (get_or counts c 0 + 1))
     passed_new m c m-is c-is = record {
       indexed = record {
         size =
@@ -51,7 +52,7 @@ module _ {is : List Item} {k : ℕ} {index numbers marks counts : List ℕ} (pas
           ∙ get_or-set_other index (key_count + k) (key_count + j) (get_or index m 0) 0 (omega arith)
           ∙ passed.fresh j (omega arith) b;
       numbers_size = length-set numbers k (get_or counts c 0) ∙ passed.numbers_size;
-      marks_size = length-set marks k (cond (gives r) 1 0) ∙ passed.marks_size;
+      marks_size = length-set marks k (gives r) ∙ passed.marks_size;
       counts_size = length-set counts c (get_or counts c 0 + 1) ∙ passed.counts_size;
       numbered =
           numbers_more is k numbers (get_or counts c 0) h (omega (arith, passed.numbers_size)) passed.numbered
@@ -74,10 +75,9 @@ module _ {is : List Item} {k : ℕ} {index numbers marks counts : List ℕ} (pas
       marked = λ j u l a b.
           elim (dec_lt j k) [
             | yes g ↦
-                get_or-set_other marks k j (cond (gives r) 1 0) 0 (omega arith)
+                get_or-set_other marks k j (gives r) false (omega arith)
                 ∙ passed.marked j u g a b
-                ∙ ap (λ x. cond x 1 0)
-                (unmarked is k u (else_unsaid is k e u (λ y. contrary (ap (λ v. says v (said_at is j)) (sym y) ∙ b) (none j g))))
+                ∙ unmarked is k u (else_unsaid is k e u (λ y. contrary (ap (λ v. says v (said_at is j)) (sym y) ∙ b) (none j g)))
             | no g ↦ mark_here j u (omega arith) b
           ];
       onward = onward_more is k passed.onward h (passes_new is k (omega arith) e none);
@@ -115,14 +115,13 @@ module _ {is : List Item} {k : ℕ} {index numbers marks counts : List ℕ} (pas
 
         mark_here :
             (j : ℕ) (u : Word) → j ≡ k → says u (said_at is j) ≡ true
-            → get_or (set marks k (cond (gives r) 1 0)) j 0 ≡ cond (any (k + 1) (λ i. gives_name u (said_at is i))) 1 0
+            → get_or (set marks k (gives r)) j false ≡ any (k + 1) (λ i. gives_name u (said_at is i))
         mark_here j u z b =
             let b' : says u (said_at is k) ≡ true = ap (λ i. says u (said_at is i)) (sym z) ∙ b in
             let o = (says_name (said_at is k) b').1 in
             let y : w ≡ u = cc in
-            subst (λ v. get_or (set marks k (cond (gives r) 1 0)) j 0 ≡ cond (any (k + 1) (λ i. gives_name v (said_at is i))) 1 0) y
-            (ap (λ i. get_or (set marks k (cond (gives r) 1 0)) i 0) z
-            ∙ get_or-set_same marks k (cond (gives r) 1 0) 0 (omega (arith, passed.marks_size))
-            ∙ marks_own is k e 0
-            (ap (λ x. cond x 1 0)
-            (sym (any_none (λ i. gives_name w (said_at is i)) k (λ i l. gives_unsaid w (said_at is i) (none i l))))))
+            subst (λ v. get_or (set marks k (gives r)) j false ≡ any (k + 1) (λ i. gives_name v (said_at is i))) y
+            (ap (λ i. get_or (set marks k (gives r)) i false) z
+            ∙ get_or-set_same marks k (gives r) false (omega (arith, passed.marks_size))
+            ∙ marks_own is k e false
+            (sym (any_none (λ i. gives_name w (said_at is i)) k (λ i l. gives_unsaid w (said_at is i) (none i l)))))

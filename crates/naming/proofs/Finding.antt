@@ -1,10 +1,9 @@
 -- What has been found where an item is refused, and where all are passed.
 use Prim.Native.Nat.{ℕ, ◌≤◌, ◌<◌}
-use mathlib.Core.Path.{◌≡◌, refl, ap, subst, ◌∙◌}
-use mathlib.Core.Bool.{true}
+use mathlib.Core.Path.{◌≡◌, ap, subst, ◌∙◌}
+use mathlib.Core.Bool.{Bool, true}
 use mathlib.Core.List.{List}
 use native.Mathlib.Omega.{arith}
-use borrow.Author.Tests.{lt-ltb, le-ltb}
 use lib.ListN.{length, get_or, take, length-map, get_or-eq_default}
 use lib.Seq.{take_all}
 use native.Mathlib.Decide.{dec_lt}
@@ -13,33 +12,24 @@ use Rattle.grammar.specs.Tree.{Word}
 use Rattle.notes.specs.Notes.{item_in, items_in, nothing}
 use Rattle.supplied.specs.Names.{Kind, facts, levels, kind_of, kind_number, names_of, number_of}
 use Rattle.naming.specs.Index.{Indexed}
-use Rattle.naming.specs.Named.{Found}
+use Rattle.naming.specs.Named.{Standing, Clashing}
 use Rattle.naming.specs.Passed.{Passed}
 use Rattle.naming.proofs.Clashing.{clashes_at, onward_refused, onward_end}
 use Rattle.naming.proofs.Onward.{number_no_name}
 
-module _ (text said : List ℕ) (k : ℕ) {index numbers marks counts : List ℕ} (passed : Passed (items_in text said) k index numbers marks counts) where
+module _ (text said : List ℕ) (k : ℕ) {index numbers : List ℕ} {marks : List Bool} {counts : List ℕ} (passed : Passed (items_in text said) k index numbers marks counts) where
   size : length (items_in text said) ≡ length said
   size = length-map said (item_in text)
 
-  pub found_clash :
-      (numbers' index' : List ℕ) → k < length said → clashes_at (items_in text said) k ≡ true
-      → Found text said numbers' index' (record { clash = k; facts = 0; levels = 0 })
-  found_clash numbers' index' h t = record {
-    within = omega arith;
-    clashing = λ o. onward_refused (items_in text said) k passed.onward (omega (arith, size)) t o ∙ rw (lt-ltb k (length said) h) refl;
-    named = λ q. absurd (omega arith);
-  }
+  pub found_clash : k < length said → clashes_at (items_in text said) k ≡ true → Clashing text said k
+  found_clash h t = record { within = h; refuses = onward_refused (items_in text said) k passed.onward (omega (arith, size)) t }
 
   pub found_all :
       {f v : ℕ} → k ≤ length said → length said ≤ k → f ≡ get_or counts 1 0 → v ≡ get_or counts 2 0
-      → Found text said numbers index (record { clash = length said; facts = f; levels = v })
+      → Standing text said numbers index (record { facts = f; levels = v })
   found_all {f} {v} h l y z = record {
-    within = omega arith;
-    clashing = λ o.
-        onward_end (items_in text said) k passed.onward (omega (arith, size)) o
-        ∙ rw (le-ltb (length said) (length said) (omega arith)) refl;
-    named = λ _. record {
+    stands = onward_end (items_in text said) k passed.onward (omega (arith, size));
+    named = record {
       numbered = record { size = passed.numbers_size; each = each };
       facts = y ∙ count facts;
       levels = z ∙ count levels;

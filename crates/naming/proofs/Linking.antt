@@ -8,6 +8,7 @@ use native.Mathlib.Decide.{dec_lt}
 use native.Mathlib.Numerals.{add-one}
 use native.Mathlib.Omega.{arith}
 use lib.ListN.{length, get_or, set, drop, length-set, drop_of_length-le}
+use Rattle.std.specs.Prelude.{None}
 use lib.Seq.{drop-cons, get_or-set_same, get_or-set_other}
 use Rattle.laws.specs.Linked.{LastBefore, LinkedBack}
 use Rattle.laws.proofs.Linked.{WalkBack, last_here, last_other}
@@ -16,7 +17,7 @@ use Rattle.grammar.specs.Said.{Role, name, Item}
 use Rattle.grammar.specs.Tree.{Word}
 use Rattle.supplied.specs.Plan.{word_in}
 use Rattle.naming.specs.Index.{key_count, unlinked, index_size, said_at, says, is_first, mixed, key}
-use Rattle.naming.specs.Passed.{Looked}
+use Rattle.naming.specs.Passed.{Appears, Looked}
 use Rattle.naming.proofs.Firsts.{says_name, first_name, has_first}
 
 -- a loop mixes in the bytes of a word
@@ -142,20 +143,15 @@ module _ (is : List Item) (v : Word) where
   unfolding is_first_of
   first_says at f e = e ∙ rw f
 
-  pub looked_here : (m at : ℕ) {y : Bool} → at < m → is_first is at ≡ true → y ≡ says v (said_at is at) → y ≡ true → Looked is m v at
-  looked_here m at l f e t = record { within = omega arith; first = λ _. f; there = λ _. sym e ∙ t; none = λ q. absurd (omega arith) }
+  pub looked_here : (m at : ℕ) {y : Bool} → at < m → is_first is at ≡ true → y ≡ says v (said_at is at) → y ≡ true → Appears is m v at
+  looked_here m at l f e t = record { within = l; first = f; there = sym e ∙ t }
 
-  pub looked_none : (m at : ℕ) → WalkBack (key is) (mixed 0 v) (is_first_of is v) m at → m ≤ at → Looked is m v m
+  pub looked_none : (m at : ℕ) → WalkBack (key is) (mixed 0 v) (is_first_of is v) m at → m ≤ at → Looked is m v None
   unfolding is_first_of
-  looked_none m at w l = record {
-    within = omega arith;
-    first = λ h. absurd (omega (arith, h));
-    there = λ h. absurd (omega (arith, h));
-    none = λ _ j h.
-        ⊎_elim
-        (λ (t : says v (said_at is j) ≡ true).
-        let f = has_first is v m j h t in
-        absurd (omega (arith, (w.rest f.0 f.1 (rw f.2 f.3)).1)))
-        (λ (n : says v (said_at is j) ≡ false). n)
-        (either (says v (said_at is j)));
-  }
+  looked_none m at w l j h =
+      ⊎_elim
+      (λ (t : says v (said_at is j) ≡ true).
+      let f = has_first is v m j h t in
+      absurd (omega (arith, (w.rest f.0 f.1 (rw f.2 f.3)).1)))
+      (λ (n : says v (said_at is j) ≡ false). n)
+      (either (says v (said_at is j)))

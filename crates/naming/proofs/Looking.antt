@@ -6,6 +6,7 @@ use mathlib.Core.List.{List, [], ◌∷◌}
 use native.Mathlib.Omega.{arith}
 use lib.ListN.{length, get_or, take, drop}
 use lib.Seq.{slice, take-nil}
+use Rattle.std.specs.Prelude.{Option}
 use Rattle.laws.proofs.Search.{contrary}
 use Rattle.spelling.specs.Keywords.{same}
 use Rattle.grammar.specs.Said.{Item}
@@ -36,5 +37,6 @@ part_slice (suc u) zero l = ap (λ n. take n (drop (suc u) l)) (let e : 0 - suc 
 part_slice (suc u) (suc v) [] = take-nil (suc v - suc u)
 part_slice (suc u) (suc v) (x ∷ l) = ap (λ n. take n (drop u l)) (let e : suc v - suc u ≡ v - u = omega arith in e) ∙ part_slice u v l
 
-pub looked_part : {is : List Item} {m r : ℕ} (at end : ℕ) (l : List ℕ) → Looked is m (take (end - at) (drop at l)) r → Looked is m (slice at end l) r
-looked_part {is} {m} {r} at end l w = subst (λ v. Looked is m v r) (part_slice at end l) w
+pub looked_part :
+    (is : List Item) (m : ℕ) (r : Option ℕ) (at end : ℕ) (l : List ℕ) → Looked is m (take (end - at) (drop at l)) r → Looked is m (slice at end l) r
+looked_part is m r at end l w = subst (λ v. Looked is m v r) (part_slice at end l) w

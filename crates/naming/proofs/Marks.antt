@@ -1,7 +1,7 @@
 -- Whether a name has been given: its mark, one item on.
 use Prim.Native.Nat.{ℕ, ◌+◌}
 use mathlib.Core.Path.{◌≡◌, refl, sym, ap, ◌∙◌}
-use mathlib.Core.Bool.{Bool, true, false, cond, ◌||◌}
+use mathlib.Core.Bool.{Bool, true, false, ◌||◌}
 use mathlib.Core.List.{List}
 use mathlib.Core.Logic.{⊎_elim}
 use native.Mathlib.Numerals.{add-one}
@@ -32,13 +32,6 @@ unfolding gives_name says
 gives_unsaid w (name r u) f = rw f refl
 gives_unsaid w (number n) f = refl
 
--- a mark, and one more item that may give its name
-raised : {mark : ℕ} (g b : Bool) → mark ≡ cond b 1 0 → cond g 1 mark ≡ cond (b || g) 1 0
-raised true true e = refl
-raised true false e = refl
-raised false true e = e
-raised false false e = e
-
 module _ (is : List Item) (k : ℕ) where
   -- what was marked, where this item gives another name
   pub unmarked :
@@ -53,14 +46,13 @@ module _ (is : List Item) (k : ℕ) where
   module _ {r : Role} {w : Word} (e : said_at is k ≡ name r w) where
     -- a mark, where this item has its name
     pub marks_own :
-        (mark : ℕ) → mark ≡ cond (any k (λ i. gives_name w (said_at is i))) 1 0
-        → cond (gives r) 1 mark ≡ cond (any (k + 1) (λ i. gives_name w (said_at is i))) 1 0
+        (mark : Bool) → mark ≡ any k (λ i. gives_name w (said_at is i))
+        → (mark || gives r) ≡ any (k + 1) (λ i. gives_name w (said_at is i))
     marks_own mark q =
-        raised (gives r) (any k (λ i. gives_name w (said_at is i))) q
-        ∙ ap (λ b. cond b 1 0)
-        (sym
+        ap (λ b. b || gives r) q
+        ∙ sym
         (any_more (λ i. gives_name w (said_at is i)) k
-        ∙ ap (λ b. any k (λ i. gives_name w (said_at is i)) || b) (gives_own_lem w e)))
+        ∙ ap (λ b. any k (λ i. gives_name w (said_at is i)) || b) (gives_own_lem w e))
 
     -- another word is not said here
     pub else_unsaid : (u : Word) → (u ≡ w → ⊥) → says u (said_at is k) ≡ false

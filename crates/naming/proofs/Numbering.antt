@@ -16,24 +16,10 @@ use Rattle.spelling.proofs.Same.{same_refl}
 use Rattle.grammar.specs.Said.{Role, Said, name, number, Item}
 use Rattle.grammar.specs.Tree.{Word}
 use Rattle.notes.specs.Notes.{nothing}
-use Rattle.supplied.specs.Names.{Kind, actions, facts, levels, lines, kind_of, kind_number, same_kind}
+use Rattle.supplied.specs.Names.{Kind, kind_of, kind_number, same_kind}
 use Rattle.supplied.specs.Names.{is_in, with_word, with_said, appearing, names_of, number_of}
 use Rattle.naming.specs.Index.{said_at, says}
-
-abbrev kind_at : ℕ → Kind
-kind_at zero = actions
-kind_at (suc zero) = facts
-kind_at (suc (suc zero)) = levels
-kind_at (suc (suc (suc n))) = lines
-
-kind_back : (κ : Kind) → kind_at (kind_number κ) ≡ κ
-kind_back actions = refl
-kind_back facts = refl
-kind_back levels = refl
-kind_back lines = refl
-
-pub number_kind : (a b : Kind) → kind_number a ≡ kind_number b → a ≡ b
-number_kind a b e = sym (kind_back a) ∙ ap kind_at e ∙ kind_back b
+use Rattle.naming.proofs.Roles.{number_kind}
 
 pub kind_refl : (κ : Kind) → same_kind κ κ ≡ true
 unfolding same_kind

@@ -1,7 +1,7 @@
 -- One more item is passed: what holds of the index and of numbers, and an item that is a number.
 use Prim.Native.Nat.{ℕ, ◌+◌, ◌<◌}
 use mathlib.Core.Path.{◌≡◌, refl, sym, ap, subst, ◌∙◌}
-use mathlib.Core.Bool.{true, false, cond}
+use mathlib.Core.Bool.{Bool, true, false}
 use mathlib.Core.List.{List}
 use native.Mathlib.Nat.{not-suc-le-zero}
 use native.Mathlib.Decide.{dec_lt}
@@ -26,7 +26,7 @@ use Rattle.naming.proofs.Marks.{unmarked}
 -- nothing has been passed
 pub passed_start :
     (is : List Item) (index numbers : List ℕ) → length index ≡ index_size → ((j : ℕ) → j < index_size → get_or index j 0 ≡ unlinked)
-    → length numbers ≡ notes_most → Passed is 0 index numbers (replicate notes_most 0) (replicate 4 0)
+    → length numbers ≡ notes_most → Passed is 0 index numbers (replicate notes_most false) (replicate 4 0)
 unfolding appearing
 passed_start is index numbers size empty long = record {
   indexed = record {
@@ -39,7 +39,7 @@ passed_start is index numbers size empty long = record {
   };
   fresh = λ j l h. empty (key_count + j) (omega arith);
   numbers_size = long;
-  marks_size = length-replicate {A = ℕ} notes_most 0;
+  marks_size = length-replicate {A = Bool} notes_most false;
   counts_size = refl;
   numbered = λ j r w h. absurd (not-suc-le-zero h);
   counted = λ κ. counts κ;
@@ -117,7 +117,7 @@ first_one is i j w a b e f =
     (λ l. contrary f (first_none is i a (says_name (said_at is i) e).1 j l))
     (λ q. q)
 
-module _ {is : List Item} {k : ℕ} {index numbers marks counts : List ℕ} (passed : Passed is k index numbers marks counts)
+module _ {is : List Item} {k : ℕ} {index numbers : List ℕ} {marks : List Bool} {counts : List ℕ} (passed : Passed is k index numbers marks counts)
     (h : k < length is) (few : k < unlinked) where
   -- an item that is not linked leaves the index
   pub still :
@@ -142,8 +142,7 @@ module _ {is : List Item} {k : ℕ} {index numbers marks counts : List ℕ} (pas
     marked = λ j w l f s.
         elim (dec_lt j k) [
           | yes g ↦
-              passed.marked j w g f s
-              ∙ ap (λ b. cond b 1 0) (unmarked is k w (ap (says w) e))
+              passed.marked j w g f s ∙ unmarked is k w (ap (says w) e)
           | no g ↦ contrary f (ap (is_first is) (let q : j ≡ k = omega arith in q) ∙ number_later is k e)
         ];
     onward = onward_more is k passed.onward h (passes_number is k (omega arith) e);

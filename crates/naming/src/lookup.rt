@@ -11,44 +11,31 @@ use spelled_names::word_is;
 // The keys of the index.
 pub const KEYS: usize = 4096;
 
-fn wide_byte(b: u8) -> usize
-    ensures { (result ≡ b) × (result < 256) }
-{
-    b as usize
-}
-
-pub fn wide(n: u16) -> usize
-    ensures { result ≡ n }
-{
-    n as usize
-}
-
 // The key of a word.
 pub fn mix(word: &[u8]) -> usize
     ensures { (result ≡ mixed 0 word.now) × (result < key_count) }
 {
     let mut h: usize = 0;
-    let mut k = 0;
-    while k < word.len() {
-        h = (h * 31 + wide_byte(word[k])) % KEYS;
-        k += 1;
+    for b in word {
+        h = (h * 31 + usize::from(*b)) % KEYS;
     }
     h
 }
 
-// The first appearance of a word among the first m items, or m.
-pub fn find(text: &[u8], said: &[u64], index: &[u16], m: usize, word: &[u8]) -> usize
+// The first appearance of a word among the first m items.
+pub fn find(text: &[u8], said: &[u64], index: &[u16], m: usize, word: &[u8]) -> Option<usize>
     requires { Readable text.now said.now × Indexed (items_in text.now said.now) m index.now × (m ≤ length said.now) }
     ensures { Looked (items_in text.now said.now) m word.now result }
 {
     let key = mix(word);
-    let mut j = wide(index[key]);
+    let mut j = usize::from(index[key]);
+    // The links of a key lead from each item to one before it.
     while j < m {
         let note = said[j];
         if word_is(text, name_at(note), name_end(note), word) {
-            return j;
+            return Some(j);
         }
-        j = wide(index[KEYS + j]);
+        j = usize::from(index[KEYS + j]);
     }
-    m
+    None
 }

@@ -1,42 +1,52 @@
 // Items one by one: whether each may stand behind those before it, and the number of its name.
-ghost use Rattle.std.specs.Prelude.{◌≡◌, cond, ◌+◌, ◌≤◌, ◌<◌, length, get_or, set};
+ghost use Rattle.std.specs.Prelude.{◌≡◌, ◌+◌, ◌≤◌, ◌<◌, length, get_or, set};
 ghost use Rattle.notes.specs.Notes.{notes_most, role_in, roles, role_of, items_in};
 ghost use Rattle.supplied.specs.Names.{kind_of, kind_number};
 ghost use Rattle.supplied.specs.Names as supplied;
 ghost use Rattle.naming.specs.Index.{key_count, unlinked, index_size};
 ghost use Rattle.naming.specs.Named.{Readable};
+ghost use Rattle.naming.specs.Kinds.{meant};
 ghost use Rattle.naming.specs.Passed.{Repeated, Passed, Stepped};
 
 use crate::lookup::{KEYS, find, mix};
 use notes::{ACTION, GIVEN, NOTES_MOST, NUMBER, STOCK, WANTED, name_at, name_end, role};
 
-// The kinds of names by their numbers, and how many there are.
-pub const ACTIONS: usize = 0;
-
-pub const FACTS: usize = 1;
-
-pub const LEVELS: usize = 2;
-
-const LINES: usize = 3;
+// The kinds of names, and how many there are.
+#[derive(Clone, Copy, Debug, PartialEq, Eq)]
+pub enum Kind {
+    Actions,
+    Facts,
+    Levels,
+    Lines,
+}
 
 pub const KINDS: usize = 4;
+
+impl Kind {
+    // Where a list of the kinds has it.
+    pub fn index(self) -> usize
+        ensures { (result ≡ kind_number (meant self)) × (result < 4) }
+    {
+        self as usize
+    }
+}
 
 // A mark an item: whether its name has been given, kept where the name first appears.
 pub const MARKS: usize = NOTES_MOST;
 
 // The kind of names in a role.
-fn kind_of(role: usize) -> usize
+fn kind_of(role: usize) -> Kind
     requires { role < roles }
-    ensures { (result ≡ kind_number (kind_of (role_of role))) × (result < 4) }
+    ensures { meant result ≡ kind_of (role_of role) }
 {
     if role >= WANTED {
-        FACTS
+        Kind::Facts
     } else if role >= STOCK {
-        LEVELS
+        Kind::Levels
     } else if role == ACTION {
-        ACTIONS
+        Kind::Actions
     } else {
-        LINES
+        Kind::Lines
     }
 }
 
@@ -48,13 +58,6 @@ fn gives(role: usize) -> bool
     (role == ACTION) | (role == STOCK) | (role >= GIVEN)
 }
 
-// A mark, where the name may be given here.
-fn mark(given: bool, before: u8) -> u8
-    ensures { result ≡ cond given 1 before }
-{
-    if given { 1 } else { before }
-}
-
 // A name that is said again, behind its first appearance: both may stand if they are of one kind and not given twice.
 fn repeat(
     note: u64,
@@ -62,7 +65,7 @@ fn repeat(
     k: usize,
     first: usize,
     numbers: &mut [u16],
-    marks: &mut [u8],
+    marks: &mut [bool],
 ) -> bool
     requires { (role_in note < roles) × (role_in earlier < roles) × (first < k) × (k < length numbers.old) × (k < length marks.old) }
     ensures { Repeated note earlier k first numbers.old marks.old numbers.new marks.new result }
@@ -71,10 +74,10 @@ fn repeat(
     if kind_of(role(earlier)) != kind_of(role(note)) {
         return false;
     }
-    if given & (marks[first] != 0) {
+    if given & marks[first] {
         return false;
     }
-    marks[first] = mark(given, marks[first]);
+    marks[first] |= given;
     numbers[k] = numbers[first];
     true
 }
@@ -86,22 +89,22 @@ fn enter(
     k: usize,
     index: &mut [u16],
     numbers: &mut [u16],
-    marks: &mut [u8],
+    marks: &mut [bool],
     counts: &mut [u16],
 )
     requires { (key < key_count) × (role < roles) × (k < unlinked) × (length index.old ≡ index_size) × (length numbers.old ≡ notes_most)
         × (length marks.old ≡ notes_most) × (length counts.old ≡ 4) × (get_or counts.old (kind_number (kind_of (role_of role))) 0 ≤ k) }
     ensures index_after { index.new ≡ set (set index.old (key_count + k) (get_or index.old key 0)) key k }
     ensures numbers_after { numbers.new ≡ set numbers.old k (get_or counts.old (kind_number (kind_of (role_of role))) 0) }
-    ensures marks_after { marks.new ≡ set marks.old k (cond (supplied.gives (role_of role)) 1 0) }
+    ensures marks_after { marks.new ≡ set marks.old k (supplied.gives (role_of role)) }
     ensures counts_after { counts.new ≡ set counts.old (kind_number (kind_of (role_of role)))
         (get_or counts.old (kind_number (kind_of (role_of role))) 0 + 1) }
 {
-    let kind = kind_of(role);
+    let kind = kind_of(role).index();
     index[KEYS + k] = index[key];
     index[key] = k as u16;
     numbers[k] = counts[kind];
-    marks[k] = mark(gives(role), 0);
+    marks[k] = gives(role);
     counts[kind] += 1;
 }
 
@@ -112,7 +115,7 @@ pub fn pass_item(
     k: usize,
     index: &mut [u16],
     numbers: &mut [u16],
-    marks: &mut [u8],
+    marks: &mut [bool],
     counts: &mut [u16],
 ) -> bool
     requires { Readable text.now said.now × (k < length said.now)
@@ -124,21 +127,12 @@ pub fn pass_item(
     if role(note) == NUMBER {
         return true;
     }
-    let at = name_at(note);
-    let end = name_end(note);
-    let first = find(text, said, index, k, &text[at..end]);
-    let repeats = first < k;
-    if repeats {
-        return repeat(note, said[first], k, first, numbers, marks);
+    let word = &text[name_at(note)..name_end(note)];
+    match find(text, said, index, k, word) {
+        Some(first) => repeat(note, said[first], k, first, numbers, marks),
+        None => {
+            enter(mix(word), role(note), k, index, numbers, marks, counts);
+            true
+        }
     }
-    enter(
-        mix(&text[at..end]),
-        role(note),
-        k,
-        index,
-        numbers,
-        marks,
-        counts,
-    );
-    true
 }

@@ -16,11 +16,12 @@ use Rattle.grammar.specs.Said.{action, name, Item}
 use Rattle.notes.specs.Notes.{value_in, line_in, role_in, name_at, name_end, said_in, item_in, items_in, nothing}
 use Rattle.supplied.specs.Plan.{number_in, word_in, Line, lines_of, is_action, has_action, behind, leading, differs}
 use Rattle.naming.specs.Index.{said_at}
-use Rattle.naming.specs.Named.{Readable, ActionAt}
+use Rattle.naming.specs.Named.{Readable}
+use Rattle.naming.specs.Named as naming
 use Rattle.naming.proofs.Firsts.{item_at, number_at_lem, name_at_lem}
 use Rattle.naming.proofs.Acting.{action_name, no_action}
-use Rattle.plan_check.specs.Checked.{line_at, Checked}
-use Rattle.plan_check.specs.LineAction.{ActionOf, Upto}
+use Rattle.plan_check.specs.Checked.{line_at, Differing, Agreeing}
+use Rattle.plan_check.specs.LineAction.{Acts, Upto}
 
 -- the number that a note says
 pub number_says : (text : List ℕ) (note : ℕ) {v : ℕ} → role_in note ≡ 0 → v ≡ value_in note → v ≡ number_in (said_in text note)
@@ -122,61 +123,46 @@ module _ (text said plan lines : List ℕ) (s : ℕ) (h : 3 * s + 2 < length lin
   action_of = ap (λ (l : Line). l.action) the_line
 
   -- differs, as none has its name
-  differing : has_action (line_at plan lines s).action (items_in text said) ≡ false → ActionOf (items_in text said) (line_at plan lines s) 0
-  differing e = record {
-    within = omega arith;
-    unlike = λ _. none_differs (items_in text said) (line_at plan lines s) e;
-    same = λ l. absurd (not-suc-le-zero l);
-    behind = λ l. absurd (not-suc-le-zero l);
-  }
+  differing : has_action (line_at plan lines s).action (items_in text said) ≡ false → differs (items_in text said) (line_at plan lines s) ≡ true
+  differing = none_differs (items_in text said) (line_at plan lines s)
 
-  pub line_unnamed : Readable text said → role_in (get_or lines (3 * s + 1) 0) ≡ 0 → ActionOf (items_in text said) (line_at plan lines s) 0
+  pub line_unnamed : Readable text said → role_in (get_or lines (3 * s + 1) 0) ≡ 0 → differs (items_in text said) (line_at plan lines s) ≡ true
   unfolding word_in said_in
   line_unnamed sound e =
       differing
       (ap (λ w. has_action w (items_in text said)) (action_of ∙ rw (eq-eqb (role_in (get_or lines (3 * s + 1) 0)) 0 e) refl)
       ∙ unnamed text said sound)
 
-  module _ (ne : role_in (get_or lines (3 * s + 1) 0) ≡ 0 → ⊥) {at end r : ℕ} (at-is : at ≡ name_at (get_or lines (3 * s + 1) 0))
-      (end_is : end ≡ name_end (get_or lines (3 * s + 1) 0)) (found : ActionAt text said (slice at end plan) r) where
+  module _ (ne : role_in (get_or lines (3 * s + 1) 0) ≡ 0 → ⊥) {at end : ℕ} (at-is : at ≡ name_at (get_or lines (3 * s + 1) 0))
+      (end_is : end ≡ name_end (get_or lines (3 * s + 1) 0)) where
     word_of : (line_at plan lines s).action ≡ slice at end plan
     unfolding word_in said_in
     word_of = action_of ∙ rw (ne_eqb (role_in (get_or lines (3 * s + 1) 0)) 0 ne, at-is, end_is) refl
 
-    pub line_none : r ≡ length said → ActionOf (items_in text said) (line_at plan lines s) 0
-    line_none e = differing (ap (λ w. has_action w (items_in text said)) word_of ∙ found.none e)
+    pub line_none : has_action (slice at end plan) (items_in text said) ≡ false → differs (items_in text said) (line_at plan lines s) ≡ true
+    line_none e = differing (ap (λ w. has_action w (items_in text said)) word_of ∙ e)
 
-    module _ (some : r ≡ length said → ⊥) {a b : ℕ} (a-is : a ≡ leading (drop (r + 1) (items_in text said)))
+    module _ {r : ℕ} (found : naming.Acts text said (slice at end plan) r) {a b : ℕ} (a-is : a ≡ leading (drop (r + 1) (items_in text said)))
         (b-is : b ≡ number_in (said_in plan (get_or lines (3 * s + 2) 0))) where
-      below : r < length said
-      below = omega (arith, found.within)
-
       differs_so : differs (items_in text said) (line_at plan lines s) ≡ not (eqb a b)
       differs_so =
-          some_differs (items_in text said) (line_at plan lines s) (ap (λ w. has_action w (items_in text said)) word_of ∙ found.has below)
-          (ap (λ w. leading (behind w (items_in text said))) word_of ∙ ap leading (found.behind below) ∙ sym a-is) (duration_of ∙ sym b-is)
+          some_differs (items_in text said) (line_at plan lines s) (ap (λ w. has_action w (items_in text said)) word_of ∙ found.has)
+          (ap (λ w. leading (behind w (items_in text said))) word_of ∙ ap leading found.behind ∙ sym a-is) (duration_of ∙ sym b-is)
 
-      pub line_other : (a ≡ b → ⊥) → ActionOf (items_in text said) (line_at plan lines s) 0
-      line_other f = record {
-        within = omega arith;
-        unlike = λ _. differs_so ∙ rw (ne_eqb a b f) refl;
-        same = λ l. absurd (not-suc-le-zero l);
-        behind = λ l. absurd (not-suc-le-zero l);
-      }
+      pub line_other : (a ≡ b → ⊥) → differs (items_in text said) (line_at plan lines s) ≡ true
+      line_other f = differs_so ∙ rw (ne_eqb a b f) refl
 
-      pub line_found : a ≡ b → ActionOf (items_in text said) (line_at plan lines s) (r + 1)
+      pub line_found : a ≡ b → Acts (items_in text said) (line_at plan lines s) (r + 1)
       line_found e = record {
-        within = omega (arith, below, length-map said (item_in text));
-        unlike = λ q. absurd (omega arith);
-        same = λ _. differs_so ∙ rw (eq-eqb a b e) refl;
-        behind = λ _. ap (λ w. behind w (items_in text said)) word_of ∙ found.behind below;
+        within = omega (arith, found.within, length-map said (item_in text));
+        same = differs_so ∙ rw (eq-eqb a b e) refl;
+        behind = ap (λ w. behind w (items_in text said)) word_of ∙ found.behind;
       }
 
 -- lines one by one
 module _ (text said plan lines : List ℕ) where
   pub upto_start : (acts : List ℕ) → length acts ≡ 64 → Upto text said plan lines acts 0
   upto_start acts e = record {
-    within = omega arith;
     size = e;
     same = λ j l. absurd (not-suc-le-zero l);
     act = λ j l. absurd (not-suc-le-zero l);
@@ -188,15 +174,13 @@ module _ (text said plan lines : List ℕ) where
 
   module _ {acts : List ℕ} (s : ℕ) (upto : Upto text said plan lines acts s) where
     pub upto_more :
-        {r : ℕ} {acts' : List ℕ} → s < length lines / 3 → ActionOf (items_in text said) (line_at plan lines s) r → (r ≡ 0 → ⊥) → acts' ≡ set acts s r
-        → Upto text said plan lines acts' (s + 1)
-    upto_more {r} {acts'} h o ne e = subst (λ l. Upto text said plan lines l (s + 1)) (sym e) (record {
-      within = omega arith;
+        {r : ℕ} {acts' : List ℕ} → Acts (items_in text said) (line_at plan lines s) r → acts' ≡ set acts s r → Upto text said plan lines acts' (s + 1)
+    upto_more {r} {acts'} o e = subst (λ l. Upto text said plan lines l (s + 1)) (sym e) (record {
       size = length-set acts s r ∙ upto.size;
       same = λ j l.
           elim (dec_lt j s) [
             | yes g ↦ upto.same j g
-            | no g ↦ subst (λ i. differs (items_in text said) (line_at plan lines i) ≡ false) (here j l g) (o.same some)
+            | no g ↦ subst (λ i. differs (items_in text said) (line_at plan lines i) ≡ false) (here j l g) o.same
           ];
       act = λ j l m.
           elim (dec_lt j s) [
@@ -212,13 +196,10 @@ module _ (text said plan lines : List ℕ) where
                 subst
                 (λ i. behind (line_at plan lines i).action (items_in text said) ≡ drop (get_or (set acts s r) i 0) (items_in text said))
                 (here j l g)
-                (o.behind some ∙ ap (λ v. drop v (items_in text said)) (sym (get_or-set_same acts s r 0 (fits j m g))))
+                (o.behind ∙ ap (λ v. drop v (items_in text said)) (sym (get_or-set_same acts s r 0 (fits j m g))))
           ];
     })
       where
-        some : 0 < r
-        some = omega arith
-
         here : (j : ℕ) → j < s + 1 → (j < s → ⊥) → s ≡ j
         here j l g = omega arith
 
@@ -226,24 +207,20 @@ module _ (text said plan lines : List ℕ) where
         fits j m g = omega (arith, upto.size)
 
     pub checked_other :
-        {r : ℕ} → s < length lines / 3 → ActionOf (items_in text said) (line_at plan lines s) r → r ≡ 0 → Checked text said plan lines acts s
-    checked_other h o e = record {
+        s < length lines / 3 → differs (items_in text said) (line_at plan lines s) ≡ true → Differing text said plan lines s
+    checked_other h e = record {
       count = count;
       within = omega (arith, count);
       same = upto.same;
-      differs = λ _. o.unlike e;
-      line = λ _. line_of text said plan lines s (omega arith);
-      acting = λ q. absurd (omega (arith, count));
+      differs = e;
+      line = line_of text said plan lines s (omega arith);
     }
 
-    pub checked_all : length lines / 3 ≤ s → Checked text said plan lines acts (length lines / 3)
+    pub checked_all : length lines / 3 ≤ s → Agreeing text said plan lines acts
     checked_all h = record {
       count = count;
-      within = omega (arith, count);
-      same = λ j l. upto.same j (omega arith);
-      differs = λ l. absurd (omega (arith, count));
-      line = λ l. absurd (omega (arith, count));
-      acting = λ _ few. record {
+      same = λ j l. upto.same j (omega (arith, count));
+      acting = λ few. record {
         size = upto.size;
         within = λ j l. upto.act j (omega (arith, count)) (omega arith);
         each = λ j l. upto.behind j (omega (arith, count)) (omega arith);

@@ -30,7 +30,7 @@ fn number_at(said: &[u64], k: usize) -> usize
     }
 }
 
-// The item behind the name of the action of line s, or 0 if the line names no action or has another duration.
+// The item behind the name of the action of line s, unless the line names no action or has another duration.
 fn line_action(
     text: &[u8],
     said: &[u64],
@@ -38,24 +38,21 @@ fn line_action(
     plan: &[u8],
     lines: &[u64],
     s: usize,
-) -> usize
+) -> Option<usize>
     requires { Readable text.now said.now × Indexed (items_in text.now said.now) (length said.now) index.now
         × Readable plan.now lines.now × (3 * s + 2 < length lines.now) }
     ensures { ActionOf (items_in text.now said.now) (line_at plan.now lines.now s) result }
 {
     let name = lines[3 * s + 1];
     if role(name) == NUMBER {
-        return 0;
+        return None;
     }
-    let action = find_action(text, said, index, plan, name_at(name), name_end(name));
-    let is_none = action == said.len();
-    if is_none {
-        return 0;
-    }
+    let found = find_action(text, said, index, plan, name_at(name), name_end(name));
+    let action = found?;
     if number_at(said, action + 1) != number_of(lines[3 * s + 2]) {
-        return 0;
+        return None;
     }
-    action + 1
+    Some(action + 1)
 }
 
 // Keeps where the action of line s stands, if that is one of the steps that there can be.
@@ -68,8 +65,7 @@ fn keep(acts: &mut [u16], s: usize, behind: usize)
     }
 }
 
-// The first line that names no action or has another duration, or how many lines there are. `lines` has three notes a line: its start,
-// the name, its duration.
+// The first line that names no action or has another duration. `lines` has three notes a line: its start, the name, its duration.
 pub fn check_lines(
     text: &[u8],
     said: &[u64],
@@ -77,20 +73,16 @@ pub fn check_lines(
     plan: &[u8],
     lines: &[u64],
     acts: &mut [u16],
-) -> usize
+) -> Option<usize>
     requires { Readable text.now said.now × Indexed (items_in text.now said.now) (length said.now) index.now
         × Readable plan.now lines.now × (length acts.old ≡ 64) }
     ensures { Checked text.now said.now plan.now lines.now acts.new result }
 {
-    let n = lines.len() / 3;
-    let mut s = 0;
-    while s < n {
-        let behind = line_action(text, said, index, plan, lines, s);
-        if behind == 0 {
-            return s;
+    for s in 0..lines.len() / 3 {
+        match line_action(text, said, index, plan, lines, s) {
+            Some(behind) => keep(acts, s, behind),
+            None => return Some(s),
         }
-        keep(acts, s, behind);
-        s += 1;
     }
-    n
+    None
 }

@@ -1,10 +1,5 @@
-use Prim.Native.Nat.{◌/◌, ◌-◌}
-use lib.ListN.{length}
 use Rattle.plan_check.specs.LineAction.{Upto}
 use Rattle.plan_check.proofs.check_lines.Given as goal
 
 abbrev pub invariant-loop-s : goal.invariant-loop-s
 invariant-loop-s l = Upto l.text l.said l.plan l.lines l.acts l.s
-
-abbrev pub decreases-loop-s : goal.decreases-loop-s
-decreases-loop-s l = length l.lines / 3 - l.s

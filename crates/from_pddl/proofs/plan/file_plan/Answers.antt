@@ -18,23 +18,17 @@ returns-then-r-ne0 c = plan_outside _ _ _ c.read_plan-r.ensures _ _ _ (λ z. ome
 pub slice_bounds-check_lines-end : goal.slice_bounds-check_lines-end
 slice_bounds-check_lines-end c = sym (lines_length _ _ _ c.read_plan-r.ensures)
 
-pub check_lines-first-requires : goal.check_lines-first-requires
-check_lines-first-requires c =
+pub check_lines-requires : goal.check_lines-requires
+check_lines-requires c =
     let p = c.requires in
     let h = c.read_plan-r.ensures in
     (p.0, p.1.indexed, lines_readable _ _ _ h, length-replicate {A = ℕ} 64 0)
 
-pub returns-then-first-n : goal.returns-then-first-n
-returns-then-first-n c =
-    let h = c.read_plan-r.ensures in
-    let l = c.check_lines-first.ensures in
-    line_refused _ _ _ h _ _ _ _ _ l (omega arith) _ (omega arith) c.line.ensures.0
+pub returns-in-Some : goal.returns-in-Some
+returns-in-Some c = line_refused _ _ _ c.read_plan-r.ensures _ _ _ (omega arith) _ _ c.in-Some.ensures c.line.ensures.0
 
 pub returns-then-n : goal.returns-then-n
-returns-then-n c =
-    let h = c.read_plan-r.ensures in
-    let l = c.check_lines-first.ensures in
-    too_many_lines _ _ _ h _ _ _ _ _ l (omega arith) (omega arith) (omega arith)
+returns-then-n c = too_many_lines _ _ _ c.read_plan-r.ensures _ _ _ (omega arith) _ c.in_default.ensures (omega arith)
 
 pub slice_bounds-file_notes-end : goal.slice_bounds-file_notes-end
 slice_bounds-file_notes-end c =
@@ -45,13 +39,11 @@ pub file_notes-requires : goal.file_notes-requires
 file_notes-requires c =
     let p = c.requires in
     let h = c.read_plan-r.ensures in
-    let l = c.check_lines-first.ensures in
     let size = p.1.numbered.size in
-    (notes_walked _ _ _ h _ _ _ [] _ l (omega arith) (omega arith) p.0 (omega arith), omega (arith, size, p.0.few))
+    (notes_walked _ _ _ h _ _ [] (omega arith) _ c.in_default.ensures p.0 (omega arith), omega (arith, size, p.0.few))
 
 pub returns : goal.returns
 returns c =
     let p = c.requires in
     let h = c.read_plan-r.ensures in
-    rest_answered _ _ _ h _ _ _ _ _ c.check_lines-first.ensures (omega arith) (omega arith) _ _ _ _ _ p.0 p.1 (omega arith)
-    c.file_notes.ensures
+    rest_answered _ _ _ h _ _ _ (omega arith) _ c.in_default.ensures _ _ _ _ _ p.0 p.1 (omega arith) c.file_notes.ensures

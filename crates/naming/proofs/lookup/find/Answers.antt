@@ -5,22 +5,10 @@ use Rattle.naming.proofs.Linking.{own, walk_first, first_says, looked_here, look
 use Rattle.naming.proofs.Looking.{first_inside, first_same}
 use Rattle.naming.proofs.lookup.find.Goals as goal
 
-pub offset_bounds-index-key : goal.offset_bounds-index-key
-offset_bounds-index-key c = omega (arith, c.mix-key.ensures.1)
-
-pub bounds-index-key : goal.bounds-index-key
-bounds-index-key c = let p = c.requires in omega (arith, c.mix-key.ensures.1, p.1.size)
-
 pub loop-j-init : goal.loop-j-init
 loop-j-init c =
     back_start c.requires.1.linked (omega (arith, c.requires.0.few, c.requires.2)) _ _ (own _ _) _ _ c.mix-key.ensures.0
-    c.mix-key.ensures.1 c.wide-j.ensures
-
-pub offset_bounds-said-j : goal.offset_bounds-said-j
-offset_bounds-said-j c = let p = c.requires in omega (arith, p.0.few, p.2)
-
-pub bounds-said-j : goal.bounds-said-j
-bounds-said-j c = let p = c.requires in omega (arith, p.2)
+    c.mix-key.ensures.1 c.from-j.ensures
 
 pub word_is-requires : goal.word_is-requires
 word_is-requires c =
@@ -38,25 +26,10 @@ returns-then-word_is c =
     (first_same a.text.now a.said.now c.loop-j.j here _ c.name_at.ensures.0 c.name_end.ensures.0
     c.word_is.ensures) c.if-word_is.true
 
-pub overflow_add-j : goal.overflow_add-j
-overflow_add-j c =
-    let p = c.requires in
-    omega (arith, c.loop-j-test.true, p.0.few, p.2)
-
-pub offset_bounds-index-j : goal.offset_bounds-index-j
-offset_bounds-index-j c =
-    let p = c.requires in
-    omega (arith, c.loop-j-test.true, p.0.few, p.2)
-
-pub bounds-index-j : goal.bounds-index-j
-bounds-index-j c =
-    let p = c.requires in
-    omega (arith, c.loop-j-test.true, p.0.few, p.1.size, p.2)
-
 pub loop-j-smaller : goal.loop-j-smaller
 loop-j-smaller c =
     let p = c.requires in
-    back_less p.1.linked (omega (arith, p.0.few, p.2)) _ _ c.loop-j-test.true c.wide-j-in-loop-j.ensures
+    back_less p.1.linked (omega (arith, p.0.few, p.2)) _ _ c.loop-j-test.true c.from-j-in-loop-j.ensures
 
 pub loop-j-preserved : goal.loop-j-preserved
 loop-j-preserved c =
@@ -67,7 +40,7 @@ loop-j-preserved c =
     (first_says _ _ _ here
     (first_same a.text.now a.said.now c.loop-j.j here _ c.name_at.ensures.0 c.name_end.ensures.0
     c.word_is.ensures))
-    c.if-word_is.false c.wide-j-in-loop-j.ensures
+    c.if-word_is.false c.from-j-in-loop-j.ensures
 
 pub returns : goal.returns
 returns c = looked_none _ _ _ _ c.loop-j.invariant c.loop-j-test.false

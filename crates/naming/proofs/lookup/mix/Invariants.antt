@@ -1,11 +1,8 @@
-use Prim.Native.Nat.{◌-◌, ◌<◌}
+use Prim.Native.Nat.{◌<◌}
 use mathlib.Core.Path.{◌≡◌}
-use lib.ListN.{length, drop}
+use lib.ListN.{drop}
 use Rattle.naming.specs.Index.{key_count, mixed}
 use Rattle.naming.proofs.lookup.mix.Given as goal
 
-abbrev pub invariant-loop-k : goal.invariant-loop-k
-invariant-loop-k l = (l.h < key_count) × (mixed 0 l.word ≡ mixed l.h (drop l.k l.word))
-
-abbrev pub decreases-loop-k : goal.decreases-loop-k
-decreases-loop-k l = length l.word - l.k
+abbrev pub invariant-loop-b : goal.invariant-loop-b
+invariant-loop-b l = (l.h < key_count) × (mixed 0 l.word ≡ mixed l.h (drop l.b-index l.word))
