@@ -8,7 +8,7 @@ use Rattle.order_answers.specs.declared.AlikeAnswer.{AlikeAnswer}
 use Rattle.order_answers.specs.Answers.{header_number, header_place, record_number, record_place, alike_yes, alike_number, alike_place}
 use Rattle.pair_search.specs.declared.answer.PairsAnswer.{PairsAnswer}
 use Rattle.pair_search.specs.Answer as pairs
-use Rattle.partialize.specs.declared.answer.Answer.{Answer}
+use Rattle.partialize.specs.Answer.{Answer}
 use Rattle.partialize.specs.Answer as loosened
 use Rattle.texts_answer.specs.Answer.{TextsAnswer}
 use Rattle.texts_answer.specs.Answer as texts

@@ -6,12 +6,13 @@ use native.Mathlib.Omega.{arith}
 use native.Mathlib.Nat.{add-sub_cancel_left}
 use borrow.Author.Tests.{le-leb, lt-leb, lt-ltb, le-ltb}
 use lib.ListN.{length, get_or}
+use Rattle.std.specs.Prelude.{Ok, Err}
 use Rattle.laws.specs.Nth.{count}
 use Rattle.job.specs.Model.{Model}
 use Rattle.order_file.specs.Encode.{encode}
 use Rattle.order_file.specs.Layout.{file_length}
 use Rattle.order_file.proofs.Encode.{length_encode}
-use Rattle.partialize.specs.declared.answer.Answer.TheVariants.{Filed, BufferTooShort}
+use Rattle.partialize.specs.declared.answer.Unfiled.TheVariants.{BufferTooShort}
 use Rattle.orders.specs.Links.{condition_link, goal_link, nth_link}
 use Rattle.orders.specs.Gaps.{gap_of}
 use Rattle.orders.specs.Windows.{limit_of, latest_of}
@@ -67,7 +68,7 @@ module _ (number : ℕ → ℕ) (m : Model) (x : ℕ → ℕ) (found : ℕ) (lim
 
   pub written_short :
       (n : ℕ) (before : List ℕ) → n ≡ length (encode (file_with number m x)) → length before < n
-      → Filing (file_with number m x) before before BufferTooShort
+      → Filing (file_with number m x) before before (Err BufferTooShort)
   written_short n before e h =
       let f = lt-leb (length (encode (file_with number m x))) (length before) (omega arith) in
       record { answer = simp f; buffer = simp f }
@@ -75,10 +76,10 @@ module _ (number : ℕ → ℕ) (m : Model) (x : ℕ → ℕ) (found : ℕ) (lim
   pub written_file :
       (n : ℕ) (before after : List ℕ) → n ≡ length (encode (file_with number m x)) → n ≤ length before
       → after ≡ over (encode (held_in m.steps (m.conditions + m.goals) found limits latest early gaps linked)) before
-      → Filing (file_with number m x) before after (Filed n)
+      → Filing (file_with number m x) before after (Ok n)
   written_file n before after e h a =
       let f = le-leb (length (encode (file_with number m x))) (length before) (omega arith) in
       record {
-        answer = ap Filed e ∙ simp f;
+        answer = ap (λ k. Ok k) e ∙ simp f;
         buffer = a ∙ ap (λ (b : List ℕ). over b before) (held_file number m x found limits latest early gaps linked holds) ∙ simp f;
       }

@@ -12,7 +12,12 @@ use lib.Dec.{leb, eqb}
 use lib.Seq.{take-append_seam}
 use Rattle.laws.proofs.Search.{either, contrary}
 use Rattle.laws.proofs.Listed.{length_tabulate, get_d_tabulate}
-use Rattle.verdict.specs.Verdict.{Verdict}
+use Rattle.std.specs.Prelude.{Result, Ok, Err}
+use Rattle.std.specs.Result.{IsErrAnd}
+use Rattle.std.proofs.lemmas.Result.{err_from_is_err_and}
+use Rattle.verdict.specs.declared.Refusal.{Refusal}
+use Rattle.verdict.specs.Verdict.{Verdict, Accepted}
+use Rattle.verdict.proofs.Chain.{refusal_nonzero}
 use Rattle.verdict.specs.Verdict as verdict
 use Rattle.job.specs.Model.{Model, model_of, last_start}
 use Rattle.job.specs.WellFormed.{WellFormed}
@@ -33,15 +38,15 @@ use Rattle.order_check.proofs.WellFormed.{encode_well_formed}
 use Rattle.order_answers.proofs.ReadBack.{encoded_read_back}
 use Rattle.validity.proofs.EndState.{valid_ends}
 use Rattle.validity.proofs.Accepted.{schedule_promise}
-use Rattle.partialize.specs.declared.answer.Answer.{Answer}
-use Rattle.partialize.specs.declared.answer.Answer.TheVariants.{Filed, Refused, BufferTooShort}
-use Rattle.partialize.specs.Answer.{number, place, length_of}
+use Rattle.partialize.specs.declared.answer.Unfiled.{Unfiled}
+use Rattle.partialize.specs.declared.answer.Unfiled.TheVariants.{Refused, BufferTooShort}
+use Rattle.partialize.specs.Answer.{Answer, number, place, length_of}
 use Rattle.orders.specs.Obeys.{Obeys}
 use Rattle.orders.specs.Limited.{Limited}
 use Rattle.orders.specs.Windows.{limit_of, latest_of}
 use Rattle.orders.specs.File.{earliest_of, link_number, linked_effect, file_with, file_of}
 use Rattle.order_file.specs.Held.{over}
-use Rattle.partialize.specs.Partialization.{loose_of, file_bytes, accepts, fits, answer_to, buffer_after}
+use Rattle.partialize.specs.Partialization.{loose_of, file_bytes, accepts, fits, unless_refused, answer_to, buffer_after}
 use Rattle.partialize.specs.Demands.{Exact, Loose, Promise}
 use Rattle.partialize.specs.Holds.{Filing}
 use Rattle.orders.specs.Links.{nth_link}
@@ -210,77 +215,67 @@ module _ (s : List ℕ) (p : Sound s (planned (model_of s))) where
       }
 
 -- the number, the place and the length of an answer, by the cases of its definition
-answer_cases : (a f : Bool) (n : ℕ) (v : Verdict) → let r = cond a (cond f (Filed n) BufferTooShort) (Refused v) in
+answer_cases : (f : Bool) (n : ℕ) (v : Verdict) → let r = unless_refused v (cond f (Ok n) (Err BufferTooShort)) in let a = eqb (verdict.number v) 0 in
     (number r ≡ cond a (cond f 0 15) (verdict.number v)) × (place r ≡ cond a verdict.nowhere (verdict.place v)) × (length_of r ≡ cond (a && f) n 0)
-answer_cases true true n v = (refl, refl, refl)
-answer_cases true false n v = (refl, refl, refl)
-answer_cases false f n v = (refl, refl, refl)
+answer_cases true n (Ok _) = (refl, refl, refl)
+answer_cases false n (Ok _) = (refl, refl, refl)
+answer_cases f n (Err r) = rw (ne_eqb (verdict.refusal_number r) 0 (refusal_nonzero r)) (refl, refl, refl)
 
--- a refusal is that of the job check
-refusal : Answer → Bool
-refusal (Filed n) = false
-refusal (Refused v) = true
-refusal BufferTooShort = false
-
-refusal_number : (a f : Bool) (n : ℕ) (v u : Verdict) → a ≡ eqb (verdict.number v) 0
-    → cond a (cond f (Filed n) BufferTooShort) (Refused v) ≡ Refused u → verdict.number u ≡ 0 → ⊥
-unfolding refusal
-refusal_number true true n v u q e z = contrary refl (sym (ap refusal e))
-refusal_number true false n v u q e z = contrary refl (sym (ap refusal e))
-refusal_number false f n v u q e z = contrary (eq-eqb _ _ (ap number e ∙ z)) (sym q)
+-- what `?` hands back of a check that refuses
+pub handed : {A : Type 0} (result : Result A Unfiled) {r : Refusal} → IsErrAnd result (λ x. x ≡ Refused r) → result ≡ Err (Refused r)
+handed result e = let p = err_from_is_err_and result e in p.1 ∙ ap (λ x. Err x) p.2
 
 module _ (s before : List ℕ) (r : Answer) (e : r ≡ answer_to s (length before)) where
   numbered : number r ≡ cond (accepts s) (cond (fits s (length before)) 0 15) (verdict.number (job_check s))
-  unfolding answer_to
-  numbered = ap number e ∙ (answer_cases (accepts s) (fits s (length before)) (length (file_bytes s)) (job_check s)).0
+  unfolding answer_to accepts
+  numbered = ap number e ∙ (answer_cases (fits s (length before)) (length (file_bytes s)) (job_check s)).0
 
   placed : place r ≡ cond (accepts s) verdict.nowhere (verdict.place (job_check s))
-  unfolding answer_to
-  placed = ap place e ∙ (answer_cases (accepts s) (fits s (length before)) (length (file_bytes s)) (job_check s)).1
+  unfolding answer_to accepts
+  placed = ap place e ∙ (answer_cases (fits s (length before)) (length (file_bytes s)) (job_check s)).1
 
   measured : length_of r ≡ cond (accepts s && fits s (length before)) (length (file_bytes s)) 0
-  unfolding answer_to
-  measured = ap length_of e ∙ (answer_cases (accepts s) (fits s (length before)) (length (file_bytes s)) (job_check s)).2
-
-  truly_refused : (v : Verdict) → r ≡ Refused v → verdict.number v ≡ 0 → ⊥
   unfolding answer_to accepts
-  truly_refused v q = refusal_number (accepts s) (fits s (length before)) (length (file_bytes s)) (job_check s) v refl (sym e ∙ q)
+  measured = ap length_of e ∙ (answer_cases (fits s (length before)) (length (file_bytes s)) (job_check s)).2
 
-module _ (s before : List ℕ) (v : Verdict) (j : JobPromise s v) where
+  truly_refused : (v : Refusal) → r ≡ Err (Refused v) → verdict.refusal_number v ≡ 0 → ⊥
+  truly_refused v q = refusal_nonzero v
+
+module _ (s before : List ℕ) (v : Refusal) (j : JobPromise s (Err v)) where
   -- a refusal of the job check
-  refuses : (verdict.number v ≡ 0 → ⊥) → accepts s ≡ false
+  refuses : accepts s ≡ false
   unfolding accepts
-  refuses n = ne_eqb _ _ (λ e. n (ap verdict.number j.answer ∙ e))
+  refuses = ne_eqb _ _ (λ e. refusal_nonzero v (ap verdict.number j.answer ∙ e))
 
-  refused_answer : (verdict.number v ≡ 0 → ⊥) → Refused v ≡ answer_to s (length before)
+  refused_answer : Err (Refused v) ≡ answer_to s (length before)
   unfolding answer_to
-  refused_answer n = rw (refuses n) (ap Refused j.answer)
+  refused_answer = rw (sym j.answer) refl
 
-  pub refused_promise : (verdict.number v ≡ 0 → ⊥) → Promise s before before (Refused v)
+  pub refused_promise : Promise s before before (Err (Refused v))
   unfolding buffer_after
-  refused_promise n =
-      let a = refused_answer n in
+  refused_promise =
+      let a = refused_answer in
       record {
         answer = a;
-        buffer = rw (refuses n);
-        number = numbered s before (Refused v) a;
-        place = placed s before (Refused v) a;
-        length = measured s before (Refused v) a;
-        refused = truly_refused s before (Refused v) a;
-        sound = λ e. absurd (n e);
-        complete = λ h. absurd (n (j.complete h));
-        exact = λ e. absurd (n e);
-        loose = λ e. absurd (n e);
+        buffer = rw refuses;
+        number = numbered s before (Err (Refused v)) a;
+        place = placed s before (Err (Refused v)) a;
+        length = measured s before (Err (Refused v)) a;
+        refused = truly_refused s before (Err (Refused v)) a;
+        sound = λ e. absurd (refusal_nonzero v e);
+        complete = λ h. absurd (refusal_nonzero v (j.complete h));
+        exact = λ e. absurd (refusal_nonzero v e);
+        loose = λ e. absurd (refusal_nonzero v e);
       }
 
-module _ (s before after : List ℕ) (v : Verdict) (r : Answer) (j : JobPromise s v) (z : verdict.number v ≡ 0) (w : Filing (loose_of s) before after r) where
+module _ (s before after : List ℕ) (r : Answer) (j : JobPromise s Accepted) (w : Filing (loose_of s) before after r) where
   accepted : accepts s ≡ true
   unfolding accepts
-  accepted = eq-eqb _ _ (sym (ap verdict.number j.answer) ∙ z)
+  accepted = eq-eqb _ _ (sym (ap verdict.number j.answer))
 
   answered : r ≡ answer_to s (length before)
   unfolding answer_to fits file_bytes
-  answered = rw accepted w.answer
+  answered = rw (sym j.answer) w.answer
 
   buffered : after ≡ buffer_after s before
   unfolding buffer_after fits file_bytes
@@ -289,7 +284,7 @@ module _ (s before after : List ℕ) (v : Verdict) (r : Answer) (j : JobPromise 
   -- the file fits
   fitting : leb (length (encode (loose_of s))) (length before) ≡ true → Promise s before after r
   fitting t =
-      let e : r ≡ Filed (length (encode (loose_of s))) = rw t at w.answer in
+      let e : r ≡ Ok (length (encode (loose_of s))) = rw t at w.answer in
       let b : after ≡ over (encode (loose_of s)) before = rw t at w.buffer in
       let f : take (length_of r) after ≡ encode (loose_of s) =
       ap₂ (λ (q : Answer) (l : List ℕ). take (length_of q) l) e b
@@ -302,19 +297,19 @@ module _ (s before after : List ℕ) (v : Verdict) (r : Answer) (j : JobPromise 
         place = placed s before r answered;
         length = measured s before r answered;
         refused = truly_refused s before r answered;
-        sound = λ _. j.sound z;
+        sound = λ _. j.sound refl;
         complete = λ _. inl (ap number e);
-        exact = λ _. subst (Exact s) (sym f) (exact_file s (j.sound z));
-        loose = λ _. subst (Loose s) (sym f) (loose_file s (j.sound z));
+        exact = λ _. subst (Exact s) (sym f) (exact_file s (j.sound refl));
+        loose = λ _. subst (Loose s) (sym f) (loose_file s (j.sound refl));
       }
 
   -- it does not
-  short : r ≡ BufferTooShort → number r ≡ 0 → ⊥
+  short : r ≡ Err BufferTooShort → number r ≡ 0 → ⊥
   short e n = let q : ◌≡◌ {A = ℕ} 15 0 = sym (ap number e) ∙ n in omega arith
 
   too_short : leb (length (encode (loose_of s))) (length before) ≡ false → Promise s before after r
   too_short t =
-      let e : r ≡ BufferTooShort = rw t at w.answer in
+      let e : r ≡ Err BufferTooShort = rw t at w.answer in
       record {
         answer = answered;
         buffer = buffered;

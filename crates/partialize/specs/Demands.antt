@@ -1,7 +1,7 @@
 -- What loosening promises of the file that it wrote, one field a clause of the user's demands.
-use Rattle.std.specs.Prelude.{ℕ, suc, ◌≤◌, ◌<◌, ◌≡◌, Bool, true, false, cond, ◌&&◌, List, ◌⊎◌, eqb, length, take}
+use Rattle.std.specs.Prelude.{ℕ, suc, ◌≤◌, ◌<◌, ◌≡◌, Bool, true, false, cond, ◌&&◌, List, ◌⊎◌, eqb, length, take, Err}
 use Rattle.laws.specs.Fold.{largest}
-use Rattle.verdict.specs.Verdict.{Verdict}
+use Rattle.verdict.specs.declared.Refusal.{Refusal}
 use Rattle.verdict.specs.Verdict as verdict
 use Rattle.job.specs.Model.{model_of}
 use Rattle.job.specs.Clocked.{clocked, with_clock}
@@ -20,9 +20,8 @@ use Rattle.orders.specs.Gaps.{gap_of}
 use Rattle.orders.specs.Limited.{Limited}
 use Rattle.orders.specs.File.{linked_effect}
 use Rattle.orders.specs.Satisfies.{SatisfiesFile}
-use Rattle.partialize.specs.declared.answer.Answer.{Answer}
-use Rattle.partialize.specs.declared.answer.Answer.TheVariants.{Refused, BufferTooShort}
-use Rattle.partialize.specs.Answer.{number, place, length_of}
+use Rattle.partialize.specs.declared.answer.Unfiled.TheVariants.{Refused, BufferTooShort}
+use Rattle.partialize.specs.Answer.{Answer, number, place, length_of}
 use Rattle.rounds.specs.Rounds.{after, unchanged}
 use Rattle.partialize.specs.Partialization.{loose_of, file_bytes, accepts, fits, answer_to, buffer_after}
 
@@ -87,11 +86,11 @@ pub record Promise (s before after : List ℕ) (r : Answer) : Type 0 where
   pub buffer : after ≡ buffer_after s before
   -- accepted only if sound; and of a sound job nothing but a short buffer is refused
   pub sound : number r ≡ 0 → Sound s (planned (model_of s))
-  pub complete : Sound s (planned (model_of s)) → (number r ≡ 0) ⊎ (r ≡ BufferTooShort)
+  pub complete : Sound s (planned (model_of s)) → (number r ≡ 0) ⊎ (r ≡ Err BufferTooShort)
   pub exact : number r ≡ 0 → Exact s (take (length_of r) after)
   pub loose : number r ≡ 0 → Loose s (take (length_of r) after)
   -- no refusal says accepted
-  pub refused : (v : Verdict) → r ≡ Refused v → verdict.number v ≡ 0 → ⊥
+  pub refused : (v : Refusal) → r ≡ Err (Refused v) → verdict.refusal_number v ≡ 0 → ⊥
   -- the number, the place and the length, 0 for a refusal
   pub number : number r ≡ cond (accepts s) (cond (fits s (length before)) 0 15) (verdict.number (job_check s))
   pub place : place r ≡ cond (accepts s) verdict.nowhere (verdict.place (job_check s))

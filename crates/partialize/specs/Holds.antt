@@ -17,8 +17,8 @@ use Rattle.limits.specs.Timed.{most_limit}
 use Rattle.windows.specs.Starts.{Bounded}
 use Rattle.gaps.specs.Table.{TableOf}
 use Rattle.partialize.specs.Found.{LimitsFound, LatestFound}
-use Rattle.partialize.specs.declared.answer.Answer.{Answer}
-use Rattle.partialize.specs.declared.answer.Answer.TheVariants.{Filed, BufferTooShort}
+use Rattle.partialize.specs.Answer.{Answer}
+use Rattle.partialize.specs.declared.answer.Unfiled.TheVariants.{BufferTooShort}
 
 -- lists that hold what is filed of a job, with the numbers of its links
 pub record Holds (number : ℕ → ℕ) (m : Model) (x : ℕ → ℕ) (rounds : ℕ) (limits latest earliest gaps linked : List ℕ) : Type 0 where
@@ -44,7 +44,7 @@ pub record Fileable (n : Counts) (limits latest links gaps : List ℕ) : Type 0 
 
 -- the answer and the buffer where contents c are to be filed: the file's length and the file, or 15 and no change
 pub record Filing (c : Contents) (before after : List ℕ) (r : Answer) : Type 0 where
-  pub answer : r ≡ cond (leb (length (encode c)) (length before)) (Filed (length (encode c))) BufferTooShort
+  pub answer : r ≡ cond (leb (length (encode c)) (length before)) (Ok (length (encode c))) (Err BufferTooShort)
   pub buffer : after ≡ cond (leb (length (encode c)) (length before)) (over (encode c) before) before
 
 -- what is filed of windows, links and gaps, whatever job and schedule they belong to

@@ -1,37 +1,68 @@
 // What loosening answers.
 ghost use Rattle.std.specs.Prelude.{◌≡◌};
+ghost use Rattle.partialize.specs.declared.answer.Unfiled.TheVariants.{Refused};
 ghost use Rattle.partialize.specs.Answer as spec;
 
-use verdict::{NOWHERE, Verdict};
+use verdict::{NOWHERE, Refusal};
 
-#[derive(Clone, Copy)]
-pub enum Answer {
-    // The file's length.
-    Filed(u32),
+// Why no file is written.
+#[derive(Clone, Copy, Debug, PartialEq, Eq)]
+pub enum Unfiled {
     // A refusal of the job check.
-    Refused(Verdict),
+    Refused(Refusal),
     BufferTooShort,
 }
 
-// The number of a refusal, 0 for accepted.
+// The file's length, or why none is written.
+pub type Answer = Result<u32, Unfiled>;
+
+impl From<Refusal> for Unfiled {
+    ghost from_gives = { λ refusal e. e ≡ Refused refusal };
+
+    fn from(refusal: Refusal) -> Unfiled {
+        Unfiled::Refused(refusal)
+    }
+}
+
+impl Unfiled {
+    // The number of a refusal.
+    pub fn number(self) -> u16
+        ensures { result ≡ spec.refusal_number self }
+    {
+        match self {
+            Unfiled::Refused(refusal) => refusal.number(),
+            Unfiled::BufferTooShort => 15,
+        }
+    }
+
+    // The place of a refusal.
+    pub fn place(self) -> u16
+        ensures { result ≡ spec.refusal_place self }
+    {
+        match self {
+            Unfiled::Refused(refusal) => refusal.place(),
+            Unfiled::BufferTooShort => NOWHERE,
+        }
+    }
+}
+
+// The number of an answer's refusal, 0 for accepted.
 pub fn number(a: Answer) -> u16
     ensures { result ≡ spec.number a }
 {
     match a {
-        Answer::Filed(_) => 0,
-        Answer::Refused(v) => verdict::number(v),
-        Answer::BufferTooShort => 15,
+        Ok(_) => 0,
+        Err(refusal) => refusal.number(),
     }
 }
 
-// The place of a refusal.
+// The place of an answer's refusal.
 pub fn place(a: Answer) -> u16
     ensures { result ≡ spec.place a }
 {
     match a {
-        Answer::Filed(_) => NOWHERE,
-        Answer::Refused(v) => verdict::place(v),
-        Answer::BufferTooShort => NOWHERE,
+        Ok(_) => NOWHERE,
+        Err(refusal) => refusal.place(),
     }
 }
 
@@ -39,9 +70,5 @@ pub fn place(a: Answer) -> u16
 pub fn length(a: Answer) -> u32
     ensures { result ≡ spec.length_of a }
 {
-    match a {
-        Answer::Filed(n) => n,
-        Answer::Refused(_) => 0,
-        Answer::BufferTooShort => 0,
-    }
+    a.unwrap_or(0)
 }

@@ -15,7 +15,7 @@ ghost use Rattle.partialize.specs.Demands.{Promise};
 
 pub mod answer;
 
-use answer::Answer;
+use answer::{Answer, Unfiled};
 use gaps::fill;
 use job::layout::Job;
 use limits::{earliest, latest};
@@ -28,7 +28,6 @@ use points::words::{
     FEW_GROUPS, FEW_POINTS, MOST_GROUPS, MOST_POINTS, is_small, list_own_points, list_points,
 };
 use ticks::planned_starts;
-use verdict::number;
 use windows::{starts, window};
 
 // Room for the beginnings of groups, in a small job and in any.
@@ -92,7 +91,7 @@ fn file_found(
     let orders = count_orders(gaps, steps);
     let length = link_at(steps, orders, count);
     if out.len() < length {
-        return Answer::BufferTooShort;
+        return Err(Unfiled::BufferTooShort);
     }
     let header = Header {
         steps,
@@ -101,7 +100,7 @@ fn file_found(
         rounds,
     };
     write_file(header, limits, latest, &earliest, gaps, links, out);
-    Answer::Filed(length as u32)
+    Ok(length as u32)
 }
 
 // Finds the gaps and the windows of a valid schedule whose links are found and whose steps' points are in order, and files them.
@@ -171,10 +170,7 @@ fn loosen_ordered(
     requires { Planned s.now job starts.now points.now begins.now }
     ensures { Promise s.now out.old out.new result }
 {
-    let v = schedule::check_planned(s, job, starts, points, begins);
-    if number(v) != 0 {
-        return Answer::Refused(v);
-    }
+    schedule::check_planned(s, job, starts, points, begins)?;
     file_schedule(s, job, starts, points, begins, out)
 }
 
@@ -213,12 +209,7 @@ fn loosen(s: &[u8], job: Job, starts: &[u32], out: &mut [u8]) -> Answer
 pub fn partialize(s: &[u8], out: &mut [u8]) -> Answer
     ensures { Promise s.now out.old out.new result }
 {
-    let form = schedule::open_job(s);
-    let v = form.verdict;
-    if number(v) != 0 {
-        return Answer::Refused(v);
-    }
-    let job = form.job;
+    let job = schedule::open_job(s)?;
     let n = job.count.steps as usize;
     let starts = planned_starts(s, job, n);
     loosen(s, job, &starts[..n], out)

@@ -11,6 +11,7 @@ use borrow.Author.Tests.{ltb-false, le-ltb, eqb-true, ne_eqb}
 use lib.ListN.{length, get_or, take}
 use lib.Dec.{ltb, eqb}
 use lib.Seq.{take_all, get_or-take, length-take-le}
+use Rattle.std.specs.Prelude.{Err}
 use Rattle.laws.proofs.Search.{either, and_l, and_r, any_false}
 use Rattle.little_endian.specs.Bytes.{u16_at}
 use Rattle.verdict.specs.declared.Refusal.TheVariants.{FileTooShort, UnknownEdition, MarkOutOfRange, CountTooHigh, LayoutDisagrees}
@@ -81,7 +82,7 @@ module _ (s : List ℕ) (long : most_job < length s) where
       (either (layout_agrees s (job_of s)))
 
   -- 5 at the latest
-  header_long : header_check s ≡ (front s then LayoutDisagrees)
+  header_long : header_check s ≡ (front s then Err LayoutDisagrees)
   unfolding header_check front refuse_if
   header_long =
       elim (ℕ_discrete (number (front s)) 0) [
@@ -93,10 +94,10 @@ module _ (s : List ℕ) (long : most_job < length s) where
 
   not_passed : number (header_check s) ≡ 0 → ⊥
   not_passed z =
-      let q : ◌≡◌ {A = ℕ} 5 0 = (then_zero (front s) LayoutDisagrees (sym (ap number header_long) ∙ z)).1 in
+      let q : ◌≡◌ {A = ℕ} 5 0 = (then_zero (front s) (Err LayoutDisagrees) (sym (ap number header_long) ∙ z)).1 in
       omega arith
 
-  job_long : job_check s ≡ (front s then LayoutDisagrees)
+  job_long : job_check s ≡ (front s then Err LayoutDisagrees)
   unfolding job_check form_check
   job_long =
       let e = first_refused (header_check s) _ _ not_passed in
@@ -106,9 +107,9 @@ module _ (s : List ℕ) (long : most_job < length s) where
   not_accepted : accepts s ≡ false
   unfolding accepts
   not_accepted =
-      ne_eqb _ _ (λ z. let q : ◌≡◌ {A = ℕ} 5 0 = (then_zero (front s) LayoutDisagrees (sym (ap number job_long) ∙ z)).1 in omega arith)
+      ne_eqb _ _ (λ z. let q : ◌≡◌ {A = ℕ} 5 0 = (then_zero (front s) (Err LayoutDisagrees) (sym (ap number job_long) ∙ z)).1 in omega arith)
 
-  shown_long : shown s ≡ refused_text (number (front s then LayoutDisagrees)) (place (front s then LayoutDisagrees))
+  shown_long : shown s ≡ refused_text (number (front s then Err LayoutDisagrees)) (place (front s then Err LayoutDisagrees))
   unfolding shown
   shown_long = rw not_accepted (ap (λ (v : Verdict). refused_text (number v) (place v)) job_long)
 
@@ -158,7 +159,7 @@ shown_beginning n s room =
           let l : length begun ≡ n = length-take-le n s (omega arith) in
           let e = front_same begun s (omega arith) (omega arith) (λ at b. read_beginning n s at (omega arith)) in
           shown_long begun (omega arith)
-          ∙ ap (λ (v : Verdict). refused_text (number (v then LayoutDisagrees)) (place (v then LayoutDisagrees))) e
+          ∙ ap (λ (v : Verdict). refused_text (number (v then Err LayoutDisagrees)) (place (v then Err LayoutDisagrees))) e
           ∙ sym (shown_long s (omega arith))
     ]
 

@@ -6,9 +6,15 @@ use mathlib.Core.Bool.{true, false}
 use mathlib.Core.List.{List, ◌++◌}
 use mathlib.Core.Logic.{⊎_elim}
 use native.Mathlib.Omega.{arith}
-use borrow.Author.Tests.{le-leb, eqb-true, eqb-false}
+use borrow.Author.Tests.{le-leb, eqb-true}
+use lib.Dec.{eqb}
 use lib.ListN.{length, take, length-append}
-use Rattle.laws.proofs.Search.{either}
+use Rattle.std.specs.Prelude.{Ok, Err}
+use Rattle.verdict.specs.declared.Refusal.{Refusal}
+use Rattle.verdict.specs.Verdict as verdict
+use Rattle.verdict.specs.Verdict.{Verdict}
+use Rattle.verdict.proofs.Chain.{refusal_nonzero, number_zero}
+use Rattle.laws.proofs.Search.{either, contrary}
 use Rattle.job.specs.Model.{model_of}
 use Rattle.validity.specs.Checks.{job_check}
 use Rattle.validity.proofs.Accepted.{job_promise}
@@ -17,9 +23,8 @@ use Rattle.order_file.specs.Layout.{file_length, contents_of}
 use Rattle.order_file.specs.Within.{Within}
 use Rattle.order_file.proofs.Encode.{length_encode}
 use Rattle.partialize.proofs.Promised.{within}
-use Rattle.partialize.specs.declared.answer.Answer.{Answer}
-use Rattle.partialize.specs.declared.answer.Answer.TheVariants.{Filed, Refused}
-use Rattle.partialize.specs.Answer.{number, place, length_of}
+use Rattle.partialize.specs.declared.answer.Unfiled.TheVariants.{Refused}
+use Rattle.partialize.specs.Answer.{Answer, number, place, length_of}
 use Rattle.partialize.specs.Partialization.{loose_of, file_bytes, accepts, fits, answer_to}
 use Rattle.partialize.specs.Demands.{Promise}
 use Rattle.sheet.specs.Text.{sheet_text, refused_text}
@@ -32,6 +37,11 @@ use Rattle.printout.proofs.Mark.{mark_short}
 -- the longest order file
 abbrev most_file : ℕ
 most_file = file_length step_limit order_limit link_limit
+
+-- a verdict that does not accept is a refusal
+refused_by : (v : Verdict) → eqb (verdict.number v) 0 ≡ false → (x : Refusal) × (v ≡ Err x)
+refused_by (Ok _) e = contrary refl e
+refused_by (Err x) e = (x, refl)
 
 module _ (s : List ℕ) (t : accepts s ≡ true) where
   loose_within : Within (loose_of s)
@@ -46,20 +56,20 @@ module _ (s : List ℕ) (t : accepts s ≡ true) where
   text_short = rw (length-append (mark_line s) (sheet_text (loose_of s))) (omega (arith, mark_short s, sheet_fits (loose_of s) loose_within))
 
 module _ (s before after : List ℕ) (r : Answer) (p : Promise s before after r) (room : most_file ≤ length before) where
-  filed : accepts s ≡ true → r ≡ Filed (length (file_bytes s))
-  unfolding answer_to fits
-  filed t = rw (t, le-leb (length (file_bytes s)) (length before) (omega (arith, file_short s t))) at p.answer
+  filed : accepts s ≡ true → r ≡ Ok (length (file_bytes s))
+  unfolding answer_to fits accepts
+  filed t =
+      rw (number_zero (job_check s) (eqb-true _ _ t), le-leb (length (file_bytes s)) (length before) (omega (arith, file_short s t))) at p.answer
 
-  refused : accepts s ≡ false → r ≡ Refused (job_check s)
-  unfolding answer_to
-  refused t = rw t at p.answer
+  refused : accepts s ≡ false → (x : Refusal) × (r ≡ Err (Refused x)) × (job_check s ≡ Err x)
+  unfolding answer_to accepts
+  refused t = let q = refused_by (job_check s) t in (q.0, rw q.1 at p.answer, q.1)
 
   accepted : number r ≡ 0 → accepts s ≡ true
-  unfolding accepts
   accepted z =
       ⊎_elim
       (λ (t : accepts s ≡ true). t)
-      (λ (t : accepts s ≡ false). absurd (eqb-false _ _ t (sym (ap number (refused t)) ∙ z)))
+      (λ (t : accepts s ≡ false). let q = refused t in absurd (refusal_nonzero q.0 (sym (ap number q.1) ∙ z)))
       (either (accepts s))
 
   not_accepted : (number r ≡ 0 → ⊥) → accepts s ≡ false
@@ -85,7 +95,11 @@ module _ (s before after : List ℕ) (r : Answer) (p : Promise s before after r)
   -- the line of a refusal is what is shown
   refused_shown : (number r ≡ 0 → ⊥) → refused_text (number r) (place r) ≡ shown s
   unfolding shown
-  refused_shown n = rw (not_accepted n) (ap (λ (a : Answer). refused_text (number a) (place a)) (refused (not_accepted n)))
+  refused_shown n =
+      let q = refused (not_accepted n) in
+      rw (not_accepted n)
+      (ap (λ (a : Answer). refused_text (number a) (place a)) q.1
+      ∙ ap (λ (v : Verdict). refused_text (verdict.number v) (verdict.place v)) (sym q.2))
 
   pub refused_written :
       {n p k : ℕ} {old new : List ℕ} → (number r ≡ 0 → ⊥) → n ≡ number r → p ≡ place r → Written (refused_text n p) old new k

@@ -5,12 +5,15 @@ use mathlib.Core.Path.{◌≡◌, refl, ap, ◌∙◌}
 use mathlib.Core.Bool.{true, false}
 use mathlib.Core.List.{List, [], ◌++◌}
 use native.Mathlib.Omega.{arith}
-use borrow.Author.Tests.{le-leb, lt-leb, eq-eqb}
+use borrow.Author.Tests.{le-leb, lt-leb, eq-eqb, ne_eqb}
 use lib.ListN.{length}
 use lib.Dec.{eqb}
+use Rattle.std.specs.Prelude.{Ok, Err}
+use Rattle.verdict.specs.declared.Refusal.{Refusal}
 use Rattle.laws.specs.Listed.{concatenate}
 use Rattle.little_endian.specs.Bytes.{u16_at, u16_bytes, u32_bytes}
-use Rattle.verdict.specs.Verdict.{Verdict, Accepted, number, place, nowhere}
+use Rattle.verdict.specs.Verdict.{Verdict, Accepted, number, refusal_number, refusal_place, nowhere}
+use Rattle.verdict.proofs.Chain.{refusal_nonzero}
 use Rattle.job.specs.Model.{model_of}
 use Rattle.validity.specs.Ticks.{planned}
 use Rattle.validity.specs.Checks.{job_check}
@@ -20,7 +23,7 @@ use Rattle.order_file.specs.Encode.{header_bytes, window_bytes, order_bytes, lin
 use Rattle.orders.specs.File.{file_of}
 use Rattle.orders.specs.Starred.{job_bytes, contents_with, small, nothing, levelled, marked, starred}
 use Rattle.orders.proofs.Starred.{◌also◌, starred_answers}
-use Rattle.partialize.specs.declared.answer.Answer.TheVariants.{Filed, Refused}
+use Rattle.partialize.specs.declared.answer.Unfiled.TheVariants.{Refused}
 use Rattle.partialize.specs.Answer as answer
 use Rattle.partialize.specs.Partialization.{loose_of, file_bytes, accepts, fits, answer_to, buffer_after}
 use Rattle.partialize.proofs.Filed.{encode_agree}
@@ -32,17 +35,17 @@ use Rattle.printout.specs.Starred.{Answered, AllAnswered, codes, lines, starred_
 
 module _ (s : List ℕ) where
   -- a refused job
-  module _ (v : Verdict) (n : eqb (number v) 0 ≡ false) (e : job_check s ≡ v) where
+  module _ (v : Refusal) (e : job_check s ≡ Err v) where
     refuses : accepts s ≡ false
     unfolding accepts
-    refuses = ap (λ (w : Verdict). eqb (number w) 0) e ∙ n
+    refuses = ap (λ (w : Verdict). eqb (number w) 0) e ∙ ne_eqb (refusal_number v) 0 (refusal_nonzero v)
 
-    refused : (n : ℕ) → answer_to s n ≡ Refused v
+    refused : (n : ℕ) → answer_to s n ≡ Err (Refused v)
     unfolding answer_to
-    refused n = rw refuses (ap Refused e)
+    refused n = rw e
 
     refused_answered :
-        Answered (record { job = s; number = number v; place = place v; file = []; text = refused_text (number v) (place v) })
+        Answered (record { job = s; number = refusal_number v; place = refusal_place v; file = []; text = refused_text (refusal_number v) (refusal_place v) })
     unfolding buffer_after shown
     refused_answered =
         record {
@@ -68,9 +71,9 @@ module _ (s : List ℕ) where
     unfolding file_bytes
     same_bytes = encode_agree (loose_of s) c loose
 
-    filed : (n : ℕ) → length (encode c) ≤ n → answer_to s n ≡ Filed (length (encode c))
+    filed : (n : ℕ) → length (encode c) ≤ n → answer_to s n ≡ Ok (length (encode c))
     unfolding answer_to fits
-    filed n r = rw (accepted, same_bytes, le-leb _ _ r)
+    filed n r = rw (h.0, same_bytes, le-leb _ _ r)
 
     filed_answered : Answered (record { job = s; number = 0; place = nowhere; file = encode c; text = mark_line s ++ sheet_text c })
     unfolding answer_to buffer_after fits shown
@@ -79,7 +82,7 @@ module _ (s : List ℕ) where
           number = λ n r. ap answer.number (filed n r);
           place = λ n r. ap answer.place (filed n r);
           length_of = λ n r. ap answer.length_of (filed n r);
-          short = λ n r. rw (accepted, same_bytes, lt-leb _ _ r);
+          short = λ n r. rw (h.0, same_bytes, lt-leb _ _ r);
           buffer = λ b r. rw (accepted, same_bytes, le-leb _ _ r);
           text = rw accepted (ap (λ (sheet : List ℕ). mark_line s ++ sheet) (sheet_agree (loose_of s) c loose));
         }
@@ -105,12 +108,12 @@ starred_answered =
     filed_answered _ _ a0.0
     also filed_answered _ _ a1.0
     also filed_answered _ _ a2.0
-    also refused_answered _ _ refl a3.0
+    also refused_answered _ _ a3.0
     also filed_answered _ _ a4.0
     also filed_answered _ _ a5.0
-    also refused_answered _ _ refl a6.0
+    also refused_answered _ _ a6.0
     also filed_answered _ _ a7.0
-    also refused_answered _ _ refl a8.0
+    also refused_answered _ _ a8.0
     also filed_answered _ _ a9.0
     also filed_answered _ _ a10.0
     also filed_answered _ _ a11.0

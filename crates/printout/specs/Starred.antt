@@ -1,12 +1,12 @@
 -- Between crates: the starred cases of "A small job, and edges" with their whole answers: number and place, the order file's bytes, the text.
-use Rattle.std.specs.Prelude.{ℕ, ◌≤◌, ◌<◌, ◌≡◌, List, [], ◌∷◌, ◌++◌, length}
+use Rattle.std.specs.Prelude.{ℕ, ◌≤◌, ◌<◌, ◌≡◌, List, [], ◌∷◌, ◌++◌, length, Err}
 use Prim.Native.Char.{code}
 use Prim.Native.String.{String, [] as []ˢ, ◌∷◌ as ◌∷ˢ◌}
 use Rattle.little_endian.specs.Bytes.{u16_bytes, u32_bytes}
 use Rattle.order_file.specs.Contents.{no_latest}
 use Rattle.order_file.specs.Held.{over}
 use Rattle.orders.specs.Starred.{goal, small, nothing, levelled, marked, negative}
-use Rattle.partialize.specs.declared.answer.Answer.TheVariants.{BufferTooShort}
+use Rattle.partialize.specs.declared.answer.Unfiled.TheVariants.{BufferTooShort}
 use Rattle.partialize.specs.Answer as answer
 use Rattle.verdict.specs.Verdict.{nowhere}
 use Rattle.partialize.specs.Partialization.{answer_to, buffer_after}
@@ -26,7 +26,7 @@ pub record Answered (w : Whole) : Type 0 where
   pub number : (n : ℕ) → length w.file ≤ n → answer.number (answer_to w.job n) ≡ w.number
   pub place : (n : ℕ) → length w.file ≤ n → answer.place (answer_to w.job n) ≡ w.place
   pub length_of : (n : ℕ) → length w.file ≤ n → answer.length_of (answer_to w.job n) ≡ length w.file
-  pub short : (n : ℕ) → n < length w.file → answer_to w.job n ≡ BufferTooShort
+  pub short : (n : ℕ) → n < length w.file → answer_to w.job n ≡ Err BufferTooShort
   pub buffer : (before : List ℕ) → length w.file ≤ length before → buffer_after w.job before ≡ over w.file before
   pub text : shown w.job ≡ w.text
 

@@ -7,15 +7,15 @@ use lib.Dec.{ltb}
 use borrow.Author.Tests.{ltb-false}
 use Rattle.std.specs.Prelude.{Option, Some, None, Err}
 use Rattle.laws.specs.Search.{lowest, first_where}
-use Rattle.laws.proofs.Search.{lowest_facts}
+use Rattle.laws.proofs.Search.{lowest_facts, none_is}
 use Rattle.verdict.specs.declared.Refusal.{Refusal}
-use Rattle.verdict.specs.declared.Refusal.TheVariants.{EffectsConflict, ConditionFails}
 use Rattle.verdict.specs.Verdict.{Accepted, ◌then◌}
-use Rattle.verdict.proofs.Chain.{some_refused, none_refused, lowest_passed}
+use Rattle.verdict.proofs.Chain.{err_then, ok_then, some_refused, none_refused}
 use Rattle.job.specs.Model.{Model}
 use Rattle.job.specs.Clocked.{ClockedForm}
-use Rattle.validity.specs.declared.Rule.TheVariants.{Effects, Conditions, Levels, Needs, Goals}
-use Rattle.validity.specs.Checks.{conflicts, condition_fails, rule_check, timing_check}
+use Rattle.validity.specs.declared.Rule.{Rule}
+use Rattle.validity.specs.declared.Rule.TheVariants.{Effects, Conditions}
+use Rattle.validity.specs.Checks.{conflicts, broken, count_under, refusal_of, rule_check, timing_check}
 use Rattle.validity.proofs.Tested.{conflicts_none}
 use Rattle.points.specs.Points.{OneValue}
 use Rattle.points.proofs.Placed.{one_value_lem}
@@ -39,38 +39,32 @@ unfolding first_where
 same_where n p q e = ap (λ k. cond (ltb k n) (Some k) None) e
 
 module _ (m : Model) (x : ℕ → ℕ) where
-  -- a conflict of effects is refused
-  pub conflict_refused : {k : ℕ} → Some k ≡ first_where m.effects (conflicts m x) → Err (EffectsConflict k) ≡ timing_check m x
-  unfolding timing_check rule_check ◌then◌
-  conflict_refused e = rw (sym (some_refused m.effects (conflicts m x) EffectsConflict e)) refl
-
-  pub conflicts_passed : m.effects ≡ lowest m.effects (conflicts m x) → Accepted ≡ rule_check m x Effects
+  -- a rule refuses the lowest that was found to break it
+  pub rule_refused : (rule : Rule) {k : ℕ} → Some k ≡ first_where (count_under m rule) (broken m x rule) → Err (refusal_of rule k) ≡ rule_check m x rule
   unfolding rule_check
-  conflicts_passed e = lowest_passed m.effects (conflicts m x) EffectsConflict e (omega arith)
+  rule_refused rule e = some_refused (count_under m rule) (broken m x rule) (refusal_of rule) e
 
-  -- and without one, a condition that fails
-  pub condition_refused :
-      m.effects ≡ lowest m.effects (conflicts m x) → {c : ℕ} → Some c ≡ first_where m.conditions (condition_fails m x)
-      → Err (ConditionFails c) ≡ timing_check m x
-  unfolding timing_check ◌then◌
-  condition_refused e {c} f =
-      rw (sym (conflicts_passed e), sym failed) refl
-    where
-      failed : Err (ConditionFails c) ≡ rule_check m x Conditions
-      unfolding rule_check
-      failed = some_refused m.conditions (condition_fails m x) ConditionFails f
+  pub rule_passed : (rule : Rule) → None ≡ first_where (count_under m rule) (broken m x rule) → Accepted ≡ rule_check m x rule
+  unfolding rule_check
+  rule_passed rule e = none_refused (count_under m rule) (broken m x rule) (refusal_of rule) e
+
+  -- the same of a search that ended at the count
+  pub rule_ended : (rule : Rule) → count_under m rule ≡ lowest (count_under m rule) (broken m x rule) → Accepted ≡ rule_check m x rule
+  rule_ended rule e = rule_passed rule (none_is (broken m x rule) (count_under m rule) (count_under m rule) e (omega arith))
+
+  -- a conflict of effects is refused, and without one a condition that fails
+  pub conflict_refused : {r : Refusal} → Err r ≡ rule_check m x Effects → Err r ≡ timing_check m x
+  unfolding timing_check
+  conflict_refused e = err_then _ (err_then _ (err_then _ (err_then _ e)))
+
+  pub condition_refused : {r : Refusal} → Accepted ≡ rule_check m x Effects → Err r ≡ rule_check m x Conditions → Err r ≡ timing_check m x
+  unfolding timing_check
+  condition_refused e f = err_then _ (err_then _ (err_then _ (ok_then e f)))
 
   -- without either, the other rules decide
-  pub others_decide :
-      m.effects ≡ lowest m.effects (conflicts m x) → m.conditions ≡ lowest m.conditions (condition_fails m x)
-      → settled_check m x ≡ timing_check m x
+  pub others_decide : Accepted ≡ rule_check m x Effects → Accepted ≡ rule_check m x Conditions → settled_check m x ≡ timing_check m x
   unfolding timing_check ◌then◌
-  others_decide e f =
-      rw (sym (conflicts_passed e), sym passed) refl
-    where
-      passed : Accepted ≡ rule_check m x Conditions
-      unfolding rule_check
-      passed = lowest_passed m.conditions (condition_fails m x) ConditionFails f (omega arith)
+  others_decide e f = rw (sym e, sym f) refl
 
   -- and no two effects give a fact different values at one tick
   pub none_conflict : ClockedForm m → m.effects ≡ lowest m.effects (conflicts m x) → OneValue m x

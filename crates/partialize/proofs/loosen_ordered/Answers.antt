@@ -1,6 +1,6 @@
 -- The check of the planned starts, then their file.
 use Prim.Native.Nat.{ℕ}
-use mathlib.Core.Path.{◌≡◌, sym, ap, ◌∙◌}
+use mathlib.Core.Path.{◌≡◌, refl, sym, ap, ◌∙◌}
 use mathlib.Core.List.{List}
 use native.Mathlib.Omega.{arith}
 use lib.ListN.{length, get_or-eq_default}
@@ -10,8 +10,7 @@ use Rattle.job.specs.WellFormed.{WellFormed}
 use Rattle.validity.specs.Ticks.{planned_starts, schedule_of}
 use Rattle.schedule.proofs.Reading.{read_lies}
 use Rattle.partialize.specs.Partialization.{loose_of}
-use Rattle.partialize.proofs.Promised.{refused_promise, filed_promise}
-use borrow.Author.Rules.{rules}
+use Rattle.partialize.proofs.Promised.{handed, refused_promise, filed_promise}
 use Rattle.partialize.proofs.loosen_ordered.Goals as goal
 
 -- there is one written start for each step
@@ -23,23 +22,17 @@ written_clock : (m : Model) (starts : List ℕ) → starts ≡ planned_starts m 
 written_clock m starts e =
     get_or-eq_default starts 0 {n = m.steps} (omega (arith, written_each m starts e))
 
-pub check_planned-v-requires : goal.check_planned-v-requires
-unfolding loose_of
-check_planned-v-requires c = search rules
+pub check_planned-requires : goal.check_planned-requires
+check_planned-requires c = c.requires
 
-pub number-requires : goal.number-requires
-unfolding loose_of
-number-requires c = search rules
-
-pub returns-then-number-ne0 : goal.returns-then-number-ne0
-unfolding loose_of
-returns-then-number-ne0 c = refused_promise _ _ _ c.check_planned-v.ensures (λ z. c.if-number-ne0.true (c.number.ensures ∙ z))
+pub returns-in_err-check_planned : goal.returns-in_err-check_planned
+returns-in_err-check_planned c = rw (handed _ c.from_residual.ensures.1) (refused_promise _ _ _ c.in_err-check_planned.ensures)
 
 pub file_schedule-requires : goal.file_schedule-requires
 unfolding loose_of
 file_schedule-requires c =
     let p = c.requires in
-    let sound = c.check_planned-v.ensures.sound (sym c.number.ensures ∙ c.if-number-ne0.false) in
+    let sound = c.in_ok-check_planned.ensures.sound refl in
     let form : WellFormed _ = rw p.read.header sound.well_formed in (
       record {
         valid = record {
@@ -53,14 +46,8 @@ file_schedule-requires c =
       read_lies p.read,
     )
 
-pub shape_of-out : goal.shape_of-out
-unfolding loose_of
-shape_of-out c = search rules
-
 pub returns : goal.returns
 unfolding loose_of
 returns c =
     let p = c.requires in
-    let promised = c.check_planned-v.ensures in
-    filed_promise _ _ _ _ _ promised (sym c.number.ensures ∙ c.if-number-ne0.false)
-    (rw (p.written, p.read.header) at c.file_schedule.ensures)
+    filed_promise _ _ _ _ c.in_ok-check_planned.ensures (rw (p.written, p.read.header) at c.file_schedule.ensures)

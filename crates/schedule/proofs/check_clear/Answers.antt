@@ -5,10 +5,11 @@ use mathlib.Core.List.{List}
 use Rattle.job.specs.Model.{Model}
 use Rattle.job.specs.Clocked.{clocked}
 use Rattle.verdict.proofs.Chain.{handed, err_then, ok_then}
+use Rattle.validity.specs.declared.Rule.TheVariants.{Effects, Conditions}
 use Rattle.validity.specs.Ticks.{schedule_of}
 use Rattle.validity.specs.Checks.{starts_check}
 use Rattle.schedule.specs.Timed.{FormedPoints, Clear, Settled}
-use Rattle.schedule.proofs.Chained.{others_decide}
+use Rattle.schedule.proofs.Chained.{rule_ended, others_decide}
 use Rattle.values.proofs.Conflicts.{one_value_lowest}
 use Rattle.schedule.proofs.check_clear.Goals as goal
 
@@ -32,4 +33,4 @@ unfolding starts_check
 returns c =
     let p = c.requires in
     ok_then c.in_ok-check_starts.ensures
-    (c.check_settled.ensures _ (cleared p.0 p.1) ∙ others_decide _ _ (one_value_lowest _ _ p.1.one_value) p.1.none_fails)
+    (c.check_settled.ensures _ (cleared p.0 p.1) ∙ others_decide _ _ (rule_ended _ _ Effects (one_value_lowest _ _ p.1.one_value)) (rule_ended _ _ Conditions p.1.none_fails))

@@ -35,7 +35,7 @@ unfolding job_check
 returns c =
     let passed = c.in_ok-job.ensures.read in
     let s = c.args.s.now in
-    let j = c.in_ok-job.field-0 in
+    let j = c.in_ok-job.job in
     job_promise s
     (c.check_read.ensures
     ∙ ap₂ ◌then◌ (read_form passed)
