@@ -1,26 +1,10 @@
 // Prints the sheet of the job on standard input, or its refusal.
 #![tactic(auto)]
 
-ghost use Rattle.std.specs.Io.{ReadsAtMost};
-
+use filling::fill;
 use printout::{INPUT, MOST_TEXT, show_input};
 use std::io;
-use std::io::{Read, Write};
-
-// Reads until the buffer is full or the input ends, and answers how much of the buffer it filled.
-fn fill(input: &mut impl Read, buffer: &mut [u8]) -> io::Result<usize>
-    ensures { ReadsAtMost result buffer.new }
-{
-    let mut filled = 0;
-    while filled < buffer.len() {
-        let n = input.read(&mut buffer[filled..])?;
-        if n == 0 {
-            break;
-        }
-        filled += n;
-    }
-    Ok(filled)
-}
+use std::io::Write;
 
 fn main(rt: HostRuntime) -> io::Result<()> {
     let mut buffer = [0u8; INPUT];

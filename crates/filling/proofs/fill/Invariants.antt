@@ -1,6 +1,6 @@
 -- What is filled lies within the buffer, and less of it is left from turn to turn.
 use Rattle.std.proofs.Common.{length, ◌-◌, ◌≡◌, ◌≤◌}
-use Rattle.show.proofs.fill.Given as goal
+use Rattle.filling.proofs.fill.Given as goal
 
 abbrev pub invariant-loop-filled : goal.invariant-loop-filled
 invariant-loop-filled g l = (l.filled ≤ length l.buffer) × (length l.buffer ≡ length l.initial.buffer)
