@@ -9,20 +9,8 @@ pub fn untimed(job: Job) -> Job
     ensures { result ≡ spec.untimed job }
 {
     let count = Counts {
-        facts: job.count.facts,
-        levels: job.count.levels,
-        steps: job.count.steps,
-        conditions: job.count.conditions,
-        effects: job.count.effects,
-        uses: job.count.uses,
-        goals: job.count.goals,
         timed: 0,
-        needs: job.count.needs,
+        ..job.count
     };
-    let at = job.at;
-    Job {
-        edition: job.edition,
-        count,
-        at,
-    }
+    Job { count, ..job }
 }

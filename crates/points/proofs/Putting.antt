@@ -1,64 +1,28 @@
--- A loop that puts words into a list one by one, and the list that five such loops leave.
-use Prim.Native.Nat.{ℕ, ◌+◌, ◌-◌, ◌≤◌, ◌<◌}
-use mathlib.Core.Path.{◌≡◌, refl, ap, subst, ◌∙◌}
+-- Words that one loop puts into a list, and the list that five such loops leave.
+use Prim.Native.Nat.{ℕ, ◌+◌, ◌-◌, ◌<◌}
+use mathlib.Core.Path.{◌≡◌, ap, subst, ◌∙◌}
 use mathlib.Core.List.{List}
-use native.Mathlib.Decide.{dec_lt, ℕ_discrete}
+use native.Mathlib.Decide.{dec_lt}
 use native.Mathlib.Nat.{zero-add}
 use native.Mathlib.Omega.{arith}
-use lib.ListN.{length, set, get_or, length-set}
-use lib.Seq.{get_or-set_same, get_or-set_other}
+use lib.ListN.{get_or}
 use borrow.Author.Tests.{lt-ltb}
 use Rattle.job.specs.Model.{Model}
 use Rattle.job.specs.Clocked.{clocked}
 use Rattle.point_words.specs.Words.{effect_word}
-use Rattle.points.specs.Words.{WordsPut, ConditionsPut, EffectsPut, TimedPut, UsesPut, NeedsPut, WordsListed}
+use Rattle.points.specs.Words.{PutBy, WordsPut, ConditionsPut, EffectsPut, TimedPut, UsesPut, NeedsPut, WordsListed}
 use Rattle.timeline.specs.Words.{tick_span}
 use Rattle.validity.specs.Ticks.{effect_tick}
 
--- What the loop keeps: of n words from place `from` on the first k are put.
-pub record Putting (from n : ℕ) (word tick : ℕ → ℕ) (before list : List ℕ) (k : ℕ) : Type 0 where
-  pub room : from + n ≤ length before
-  pub within : k ≤ n
-  pub put : WordsPut from k word tick before list
-
-module _ {from n : ℕ} {word tick : ℕ → ℕ} {before : List ℕ} where
-  pub putting_start : from + n ≤ length before → Putting from n word tick before before 0
-  putting_start room =
-      record {
-        room = room;
-        within = omega arith;
-        put = record { size = refl; each = λ k h. absurd (let z : k < 0 = h in omega arith); kept = λ p h. refl };
-      }
-
-  module _ {list : List ℕ} {k : ℕ} (i : Putting from n word tick before list k) where
-    pub putting_room : k < n → from + k < length list
-    putting_room h = omega (arith, i.room, i.put.size)
-
-    pub putting_more : {v : ℕ} → k < n → (v ≡ word k) × (tick k < tick_span) → Putting from n word tick before (set list (from + k) v) (k + 1)
-    putting_more {v} h now =
-        record {
-          room = i.room;
-          within = omega arith;
-          put = record {
-            size = length-set list (from + k) v ∙ i.put.size;
-            each = λ j l.
-                elim (ℕ_discrete j k) [
-                  | yes q ↦
-                      let here : get_or (set list (from + k) v) (from + k) 0 ≡ v = get_or-set_same list (from + k) v 0 (putting_room h) in
-                      (rw q (here ∙ now.0), rw q now.1)
-                  | no q ↦
-                      let there : get_or (set list (from + k) v) (from + j) 0 ≡ get_or list (from + j) 0 =
-                      get_or-set_other list (from + k) (from + j) v 0 (λ e. q (omega arith))
-                      in
-                      let old = i.put.each j (omega arith) in
-                      (there ∙ old.0, old.1)
-                ];
-            kept = λ p l. get_or-set_other list (from + k) p v 0 (λ e. omega arith) ∙ i.put.kept p l;
-          };
-        }
-
-    pub putting_end : n ≤ k → WordsPut from n word tick before list
-    putting_end h = let q : k ≡ n = omega (arith, i.within) in rw q at i.put
+-- what the calls of a closure returned are the words of records, by what is known of each call
+pub words_put :
+    {returns : ℕ → ℕ → Type 0} {from at n : ℕ} {before list : List ℕ} → PutBy returns from n before list → (word tick : ℕ → ℕ) → from ≡ at
+    → ((k v : ℕ) → k < n → returns k v → (v ≡ word k) × (tick k < tick_span)) → WordsPut at n word tick before list
+words_put {from = from} {n = n} {before = before} {list = list} put word tick e known =
+    let so : WordsPut from n word tick before list =
+    record { size = put.size; each = λ k h. known k (get_or list (from + k) 0) h (put.each k h); kept = put.kept }
+    in
+    rw e at so
 
 -- Conditions, then effects, then timed facts, then uses, then needs: each loop leaves alone what those before it put.
 module _ (m : Model) (x : ℕ → ℕ) {list₀ list₁ list₂ list₃ list₄ list₅ : List ℕ} (conditions : ConditionsPut m x list₀ list₁)

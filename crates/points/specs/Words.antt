@@ -13,6 +13,12 @@ use Rattle.validity.specs.Ticks.{effect_tick, first_tick, use_tick, need_tick}
 abbrev pub point_count : Model → ℕ
 point_count m = m.conditions + m.effects + m.uses + m.needs
 
+-- a list with what the calls of a closure at the numbers below n returned, from place `from` on; before that place nothing is changed
+pub record PutBy (returns : ℕ → ℕ → Type 0) (from n : ℕ) (before list : List ℕ) : Type 0 where
+  pub size : length list ≡ length before
+  pub each : (k : ℕ) → k < n → returns k (get_or list (from + k) 0)
+  pub kept : (p : ℕ) → p < from → get_or list p 0 ≡ get_or before p 0
+
 -- a list with the words of n points from place `from` on, whose ticks are within the span; before that place nothing is changed
 pub record WordsPut (from n : ℕ) (word tick : ℕ → ℕ) (before list : List ℕ) : Type 0 where
   pub size : length list ≡ length before

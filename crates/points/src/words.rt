@@ -1,12 +1,12 @@
 // The points of a job as words: those of its conditions, effects, timed facts, uses and needs, listed and then sorted by group, tick and number.
-ghost use Rattle.std.specs.Prelude.{◌≡◌, true, ◌+◌, ◌≤◌, ◌<◌, length};
+ghost use Rattle.std.specs.Prelude.{◌≡◌, ℕ, true, ◌+◌, ◌≤◌, ◌<◌, length};
 ghost use Rattle.job.specs.Laid.{Laid};
 ghost use Rattle.job.specs.Clocked.{clocked};
 ghost use Rattle.job.specs.Model.{view};
 ghost use Rattle.job.specs.WellFormed.{Ranged};
 ghost use Rattle.points.specs.Points.{PointsKnown};
 ghost use Rattle.points.specs.Words.{point_count};
-ghost use Rattle.points.specs.Words.{ConditionsPut, EffectsPut, TimedPut, UsesPut, NeedsPut, WordsListed, PointRoom, Small};
+ghost use Rattle.points.specs.Words.{PutBy, WordsListed, PointRoom, Small};
 ghost use Rattle.validity.specs.Ticks.{schedule_of};
 
 use job::layout::{Counts, Job};
@@ -51,89 +51,48 @@ pub fn is_small(job: Job) -> bool
     (points_counted(job.count) <= FEW_POINTS) & (groups_counted(job.count) <= FEW_GROUPS)
 }
 
-// Puts the words of all conditions into the first places of a list.
-fn put_conditions(s: &[u8], job: Job, starts: &[u32], points: &mut [u64])
-    requires { Ranged (view job s.now) × (job.count.conditions ≤ length points.old) × Laid job s.now }
-    ensures { ConditionsPut (view job s.now) (schedule_of starts.now) points.old points.new }
+// Puts the words of n records into a list from a place on; a closure makes the word of each.
+fn put_words_of<F: Fn(u16) -> u64>(n: u16, from: usize, word: F, points: &mut [u64])
+    requires room { from + n ≤ length points.old }
+    requires callable { (k : ℕ) → k < n → F.pre word k }
+    ensures { PutBy (F.post word) from n points.old points.new }
 {
-    let n = job.count.conditions;
-    let mut c = 0;
-    while c < n {
-        points[c as usize] = condition_word(s, job, starts, c);
-        c += 1;
+    for k in 0..n {
+        points[from + k as usize] = word(k);
     }
 }
 
-// Puts those of all effects into the next ones.
-fn put_effects(s: &[u8], job: Job, starts: &[u32], points: &mut [u64])
-    requires { Ranged (view job s.now) × (job.count.conditions + job.count.effects ≤ length points.old) × Laid job s.now }
-    ensures { EffectsPut (view job s.now) (schedule_of starts.now) points.old points.new }
-{
-    let from = job.count.conditions as usize;
-    let n = job.count.effects;
-    let mut e = 0;
-    while e < n {
-        points[from + e as usize] = effect_word(s, job, starts, e);
-        e += 1;
-    }
-}
-
-// Puts those of all timed facts behind them.
-fn put_timed(s: &[u8], job: Job, starts: &[u32], points: &mut [u64])
-    requires { Ranged (view job s.now) × Laid job s.now
-        × (job.count.conditions + job.count.effects + job.count.timed ≤ length points.old) }
-    ensures { TimedPut (view job s.now) (schedule_of starts.now) points.old points.new }
-{
-    let from = job.count.conditions as usize + job.count.effects as usize;
-    let n = job.count.timed;
-    let mut j = 0;
-    while j < n {
-        points[from + j as usize] = timed_word(s, job, starts, j);
-        j += 1;
-    }
-}
-
-// Puts those of all uses behind them.
-fn put_uses(s: &[u8], job: Job, starts: &[u32], points: &mut [u64])
-    requires { Ranged (view job s.now) × (point_count (clocked (view job s.now)) ≤ length points.old) × Laid job s.now }
-    ensures { UsesPut (clocked (view job s.now)) (schedule_of starts.now) points.old points.new }
-{
-    let setters = job.count.effects as usize + job.count.timed as usize;
-    let from = job.count.conditions as usize + setters;
-    let n = job.count.uses;
-    let mut u = 0;
-    while u < n {
-        points[from + u as usize] = use_word(s, job, starts, u);
-        u += 1;
-    }
-}
-
-// Puts those of all needs behind them.
-fn put_needs(s: &[u8], job: Job, starts: &[u32], points: &mut [u64])
-    requires { Ranged (view job s.now) × (point_count (clocked (view job s.now)) ≤ length points.old) × Laid job s.now }
-    ensures { NeedsPut (clocked (view job s.now)) (schedule_of starts.now) points.old points.new }
-{
-    let setters = job.count.effects as usize + job.count.timed as usize;
-    let from = job.count.conditions as usize + setters + job.count.uses as usize;
-    let total = job.count.needs;
-    let mut n = 0;
-    while n < total {
-        points[from + n as usize] = need_word(s, job, starts, n);
-        n += 1;
-    }
-}
-
-// Lists the words of all points of a job.
+// Lists the words of all points of a job: those of each table behind those of the last.
 fn put_words(s: &[u8], job: Job, starts: &[u32], points: &mut [u64])
     requires { Ranged (view job s.now) × (point_count (clocked (view job s.now)) ≤ length points.old) × Laid job s.now }
     ensures { WordsListed (clocked (view job s.now)) (schedule_of starts.now) points.new
         × (length points.new ≡ length points.old) }
 {
-    put_conditions(s, job, starts, points);
-    put_effects(s, job, starts, points);
-    put_timed(s, job, starts, points);
-    put_uses(s, job, starts, points);
-    put_needs(s, job, starts, points);
+    let count = job.count;
+    let effects = count.conditions as usize;
+    let timed = effects + count.effects as usize;
+    let uses = timed + count.timed as usize;
+    let needs = uses + count.uses as usize;
+    put_words_of(
+        count.conditions,
+        0,
+        |c| condition_word(s, job, starts, c),
+        points,
+    );
+    put_words_of(
+        count.effects,
+        effects,
+        |e| effect_word(s, job, starts, e),
+        points,
+    );
+    put_words_of(
+        count.timed,
+        timed,
+        |j| timed_word(s, job, starts, j),
+        points,
+    );
+    put_words_of(count.uses, uses, |u| use_word(s, job, starts, u), points);
+    put_words_of(count.needs, needs, |n| need_word(s, job, starts, n), points);
 }
 
 // Lists the points of a job at the given starts, its timed facts among its effects, group by group in the order of their ticks.

@@ -1,47 +1,35 @@
--- Each loop leaves alone what those before it put.
+-- The words of each table stand behind those of the last, and stay.
+use Prim.Native.Nat.{◌+◌}
 use mathlib.Core.Path.{◌∙◌}
 use native.Mathlib.Omega.{arith}
+use borrow.Author.Rules.{rules}
+use Rattle.job.specs.Clocked.{clocked}
 use Rattle.job.specs.Model.{view}
-use Rattle.validity.specs.Ticks.{schedule_of}
-use Rattle.points.proofs.Putting.{words_listed}
+use Rattle.point_words.specs.Words.{condition_word, effect_word, use_word, need_word}
+use Rattle.validity.specs.Ticks.{schedule_of, first_tick, effect_tick, use_tick, need_tick}
+use Rattle.points.specs.Words.{ConditionsPut, EffectsPut, TimedPut, UsesPut, NeedsPut}
+use Rattle.points.proofs.Putting.{words_put, words_listed}
 use Rattle.points.proofs.words.put_words.Goals as goal
-
-pub put_conditions-requires : goal.put_conditions-requires
-put_conditions-requires c = let p = c.requires in (p.0, omega arith, p.2)
-
-pub put_effects-requires : goal.put_effects-requires
-put_effects-requires c =
-    let p = c.requires in
-    (p.0, omega (arith, c.put_conditions.ensures.size), p.2)
-
-pub put_timed-requires : goal.put_timed-requires
-put_timed-requires c =
-    let p = c.requires in
-    (p.0, p.2, omega (arith, c.put_effects.ensures.size, c.put_conditions.ensures.size))
-
-pub put_uses-requires : goal.put_uses-requires
-put_uses-requires c =
-    let p = c.requires in
-    (p.0, omega (arith, c.put_timed.ensures.size, c.put_effects.ensures.size, c.put_conditions.ensures.size), p.2)
-
-pub put_needs-requires : goal.put_needs-requires
-put_needs-requires c =
-    let p = c.requires in
-    let size =
-    c.put_uses.ensures.size ∙ c.put_timed.ensures.size ∙ c.put_effects.ensures.size ∙ c.put_conditions.ensures.size
-    in
-    (p.0, omega (arith, size), p.2)
-
-pub shape_of-points : goal.shape_of-points
-shape_of-points c =
-    c.put_needs.ensures.size ∙ c.put_uses.ensures.size ∙ c.put_timed.ensures.size ∙ c.put_effects.ensures.size
-    ∙ c.put_conditions.ensures.size
 
 pub returns : goal.returns
 returns c =
-    let a = c.args in (
-      words_listed (view a.job a.s.now) (schedule_of a.starts.now) c.put_conditions.ensures c.put_effects.ensures
-          c.put_timed.ensures c.put_uses.ensures c.put_needs.ensures,
-      c.put_needs.ensures.size ∙ c.put_uses.ensures.size ∙ c.put_timed.ensures.size ∙ c.put_effects.ensures.size
-          ∙ c.put_conditions.ensures.size,
-    )
+    let a = c.args in
+    let m = view a.job a.s.now in
+    let x = schedule_of a.starts.now in
+    let conditions : ConditionsPut m x a.points.now c.put_words_of.new.points =
+    words_put c.put_words_of.ensures (condition_word m x) (first_tick m x) (omega arith) (λ k v h r. search rules)
+    in
+    let effects : EffectsPut m x c.put_words_of.new.points c.put_words_of-2.new.points =
+    words_put c.put_words_of-2.ensures (effect_word m x) (effect_tick m x) (omega arith) (λ k v h r. search rules)
+    in
+    let timed : TimedPut m x c.put_words_of-2.new.points c.put_words_of-3.new.points =
+    words_put c.put_words_of-3.ensures (λ j. effect_word (clocked m) x (m.effects + j)) (λ j. effect_tick (clocked m) x (m.effects + j))
+    (omega arith) (λ k v h r. search rules)
+    in
+    let uses : UsesPut (clocked m) x c.put_words_of-3.new.points c.put_words_of-4.new.points =
+    words_put c.put_words_of-4.ensures (use_word m x) (use_tick m x) (omega arith) (λ k v h r. search rules)
+    in
+    let needs : NeedsPut (clocked m) x c.put_words_of-4.new.points c.put_words_of-5.new.points =
+    words_put c.put_words_of-5.ensures (need_word m x) (need_tick m x) (omega arith) (λ k v h r. search rules)
+    in
+    (words_listed m x conditions effects timed uses needs, needs.size ∙ uses.size ∙ timed.size ∙ effects.size ∙ conditions.size)
