@@ -37,8 +37,8 @@ fn raise_after(
     ensures { (n : ℕ) → n ≤ step_limit → origin.step < n → Group n starts.now points.now low high
         → Reached n (After (schedule_of starts.now) points.now low high origin) gaps.old gaps.new }
 {
-    for word in &points[low..high] {
-        raise_onto(starts, origin, *word, gaps);
+    for &word in &points[low..high] {
+        raise_onto(starts, origin, word, gaps);
     }
 }
 
@@ -75,8 +75,8 @@ fn raise_around(
     ensures { Reached row_width (Around (schedule_of starts.now) points.now low high origin from)
         gaps.old gaps.new }
 {
-    for word in &points[low..high] {
-        raise_beside(starts, origin, from, *word, gaps);
+    for &word in &points[low..high] {
+        raise_beside(starts, origin, from, word, gaps);
     }
 }
 

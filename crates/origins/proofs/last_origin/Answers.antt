@@ -1,6 +1,5 @@
 -- Part by part.
 use mathlib.Core.Path.{ap, ◌∙◌}
-use native.Mathlib.Omega.{arith}
 use Rattle.job.specs.Model.{view}
 use Rattle.origins.proofs.last_origin.Goals as goal
 

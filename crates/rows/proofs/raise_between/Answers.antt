@@ -8,7 +8,6 @@ use native.Mathlib.Omega.{arith}
 use borrow.Author.Tests.{lt-ltb}
 use lib.Dec.{ltb}
 use Rattle.laws.proofs.Search.{contrary}
-use Rattle.validity.specs.Ticks.{schedule_of}
 use Rattle.origins.specs.declared.Span.{Span}
 use Rattle.origins.specs.declared.Turn.TheVariants.{Same}
 use Rattle.origins.specs.Points.{Reached, FromTo, Between}
@@ -31,19 +30,5 @@ between_none n x points first second gaps e =
     both p q a b c d =
         contrary (ap₂ ◌&&◌ (lt-ltb first.low first.high (omega arith)) (lt-ltb second.low second.high (omega arith))) e
 
-pub row_points-requires : goal.row_points-requires
-row_points-requires c = (c.requires.0, c.requires.1, c.requires.2, c.requires.3)
-
-pub row_points-requires-then-first-second : goal.row_points-requires-then-first-second
-row_points-requires-then-first-second c =
-    (c.row_points.ensures.whole c.requires.0, c.requires.1, c.requires.3, c.requires.2)
-
-pub shape_of-gaps : goal.shape_of-gaps
-shape_of-gaps c =
-    omega (arith, (c.row_points-then-first-second.ensures.whole (c.row_points.ensures.whole c.requires.0)).size, c.requires.0.size)
-
 pub returns-then-first-second : goal.returns-then-first-second
 returns-then-first-second c = reached_either _ _ _ _ _ _ c.row_points.ensures c.row_points-then-first-second.ensures
-
-pub returns-else-first-second : goal.returns-else-first-second
-returns-else-first-second c = between_none _ (schedule_of c.args.starts.now) c.args.points.now _ _ _ c.if-first-second.false

@@ -3,15 +3,9 @@ use mathlib.Core.Path.{refl}
 use native.Mathlib.Omega.{arith}
 use Rattle.job.specs.Model.{view}
 use Rattle.validity.specs.Ticks.{schedule_of}
-use Rattle.origins.proofs.Reached.{within_up, within_all, within_empty}
+use Rattle.origins.proofs.Reached.{within_up, within_all}
 use Rattle.gaps.proofs.Rules.{given_known, given_reached, fact_known, conditions_raised}
 use Rattle.gaps.proofs.fill.fill_conditions.Goals as goal
-
-pub loop-f-init : goal.loop-f-init
-loop-f-init c = within_empty _ _ _ _ _ (omega arith)
-
-pub places_of-fact-requires : goal.places_of-fact-requires
-places_of-fact-requires c = (c.loop-f-test.true, omega (arith, c.requires.0.known.room), omega (arith, c.requires.0.form.fact_count))
 
 pub raise_conditions-requires : goal.raise_conditions-requires
 raise_conditions-requires c = (
@@ -25,9 +19,6 @@ loop-f-preserved c =
     within_up _ _ _ _ _ _ _ (omega arith) c.loop-f.invariant
     (given_reached c.places_of-fact.ensures _ (view a.job a.s.now) (schedule_of a.starts.now) a.points.now _ _
     c.raise_conditions.ensures)
-
-pub shape_of-gaps : goal.shape_of-gaps
-shape_of-gaps c = omega (arith, (c.loop-f.invariant.whole c.requires.1).size, c.requires.1.size)
 
 pub returns : goal.returns
 returns c =

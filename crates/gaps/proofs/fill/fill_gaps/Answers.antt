@@ -1,23 +1,10 @@
 -- The rules one after the other.
-use native.Mathlib.Omega.{arith}
 use Rattle.job.specs.Model.{view}
 use Rattle.orders.specs.Gaps.{gap_of}
 use Rattle.origins.proofs.Raised.{raised_is}
 use Rattle.gaps.proofs.Own.{own_points, own_gaps}
 use Rattle.gaps.proofs.Filled.{raised_then, empty_gaps, table_of}
 use Rattle.gaps.proofs.fill.fill_gaps.Goals as goal
-
-pub fill_support-requires : goal.fill_support-requires
-unfolding gap_of
-fill_support-requires c =
-    let w = c.requires.0 in (
-      record {
-        form = w.form;
-        room = w.room;
-        whole = empty_gaps _ w.size w.empty;
-      },
-      c.requires.1,
-    )
 
 pub fill_opposing-requires : goal.fill_opposing-requires
 unfolding gap_of
@@ -59,31 +46,6 @@ fill_needs-requires c =
     let whole3 = c.fill_conditions.ensures.whole whole2 in
     let whole4 = (c.fill_levels.ensures _ known).whole whole3 in
     (c.args.s.now, known, whole4, c.requires.2)
-
-pub clear_own-requires : goal.clear_own-requires
-unfolding gap_of
-clear_own-requires c =
-    let w = c.requires.0 in
-    let known = own_points w in
-    let none = empty_gaps _ w.size w.empty in
-    let whole1 = (c.fill_support.ensures _ w.linked).whole none in
-    let whole2 = (c.fill_opposing.ensures _ known).whole whole1 in
-    let whole3 = c.fill_conditions.ensures.whole whole2 in
-    let whole4 = (c.fill_levels.ensures _ known).whole whole3 in
-    ((c.fill_needs.ensures _ known).whole whole4).size
-
-pub shape_of-gaps : goal.shape_of-gaps
-unfolding gap_of
-shape_of-gaps c =
-    let w = c.requires.0 in
-    let known = own_points w in
-    let none = empty_gaps _ w.size w.empty in
-    let whole1 = (c.fill_support.ensures _ w.linked).whole none in
-    let whole2 = (c.fill_opposing.ensures _ known).whole whole1 in
-    let whole3 = c.fill_conditions.ensures.whole whole2 in
-    let whole4 = (c.fill_levels.ensures _ known).whole whole3 in
-    let whole5 = (c.fill_needs.ensures _ known).whole whole4 in
-    omega (arith, c.clear_own.ensures.size, whole5.size, w.size)
 
 pub returns : goal.returns
 unfolding gap_of

@@ -3,33 +3,9 @@ use mathlib.Core.Path.{refl}
 use native.Mathlib.Omega.{arith}
 use Rattle.validity.specs.Ticks.{schedule_of}
 use Rattle.origins.specs.declared.Turn.TheVariants.{Same}
-use Rattle.origins.proofs.Reached.{within_up, within_all, within_empty}
+use Rattle.origins.proofs.Reached.{within_up, within_all}
 use Rattle.gaps.proofs.Rules.{given_points, level_known, levels_raised}
 use Rattle.gaps.proofs.fill.fill_levels.Goals as goal
-
-pub loop-l-init : goal.loop-l-init
-loop-l-init c = within_empty _ _ _ _ _ (omega arith)
-
-pub overflow_add-used : goal.overflow_add-used
-overflow_add-used c =
-    let form = c.requires.1.form in
-    omega (arith, c.loop-l-test.true, form.fact_count, form.level_count)
-
-pub overflow_add-used-in-loop-l : goal.overflow_add-used-in-loop-l
-overflow_add-used-in-loop-l c =
-    let form = c.requires.1.form in
-    omega (arith, c.loop-l-test.true, form.fact_count, form.level_count)
-
-pub begin_at-low-requires : goal.begin_at-low-requires
-begin_at-low-requires c = omega (arith, c.requires.1.known.room, c.loop-l-test.true)
-
-pub overflow_add-used-in-loop-l-2 : goal.overflow_add-used-in-loop-l-2
-overflow_add-used-in-loop-l-2 c =
-    let form = c.requires.1.form in
-    omega (arith, c.loop-l-test.true, form.fact_count, form.level_count)
-
-pub begin_at-high-requires : goal.begin_at-high-requires
-begin_at-high-requires c = omega (arith, c.requires.1.known.room, c.loop-l-test.true)
 
 pub raise_among-requires : goal.raise_among-requires
 raise_among-requires c = (
@@ -44,9 +20,6 @@ loop-l-preserved c =
     within_up _ _ _ _ _ _ _ (omega arith) c.loop-l.invariant
     (given_points _ (schedule_of a.starts.now) a.points.now _ _ Same c.begin_at-low.ensures.0 c.begin_at-high.ensures.0
     c.raise_among.ensures)
-
-pub shape_of-gaps : goal.shape_of-gaps
-shape_of-gaps c = omega (arith, (c.loop-l.invariant.whole c.requires.2).size, c.requires.2.size)
 
 pub returns : goal.returns
 returns c s known =

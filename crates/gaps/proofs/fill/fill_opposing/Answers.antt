@@ -4,23 +4,9 @@ use native.Mathlib.Omega.{arith}
 use Rattle.validity.specs.Ticks.{schedule_of}
 use Rattle.points.proofs.Placed.{placed_apart}
 use Rattle.origins.specs.declared.Turn.TheVariants.{Other}
-use Rattle.origins.proofs.Reached.{within_up, within_all, within_empty}
+use Rattle.origins.proofs.Reached.{within_up, within_all}
 use Rattle.gaps.proofs.Rules.{given_points, opposing_known, opposing_raised}
 use Rattle.gaps.proofs.fill.fill_opposing.Goals as goal
-
-pub loop-f-init : goal.loop-f-init
-loop-f-init c = within_empty _ _ _ _ _ (omega arith)
-
-pub begin_at-low-requires : goal.begin_at-low-requires
-begin_at-low-requires c = omega (arith, c.requires.1.known.room, c.loop-f-test.true)
-
-pub overflow_add-f : goal.overflow_add-f
-overflow_add-f c =
-    let form = c.requires.1.form in
-    omega (arith, c.loop-f-test.true, form.fact_count)
-
-pub begin_at-high-requires : goal.begin_at-high-requires
-begin_at-high-requires c = omega (arith, c.requires.1.known.room, c.loop-f-test.true)
 
 pub raise_setters-requires : goal.raise_setters-requires
 raise_setters-requires c = (
@@ -37,9 +23,6 @@ loop-f-preserved c =
     within_up _ _ _ _ _ _ _ (omega arith) c.loop-f.invariant
     (given_points _ (schedule_of a.starts.now) a.points.now _ _ Other c.begin_at-low.ensures.0 c.begin_at-high.ensures.0
     c.raise_setters.ensures)
-
-pub shape_of-gaps : goal.shape_of-gaps
-shape_of-gaps c = omega (arith, (c.loop-f.invariant.whole c.requires.2).size, c.requires.2.size)
 
 pub returns : goal.returns
 returns c s known =

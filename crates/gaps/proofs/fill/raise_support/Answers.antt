@@ -5,44 +5,16 @@ use Rattle.job.specs.Model.{view}
 use Rattle.job.specs.declared.records.Condition.{Condition}
 use Rattle.job.specs.declared.records.Effect.{Effect}
 use Rattle.orders.specs.Gaps.{strictly}
-use Rattle.job.proofs.Clocked.{step_near, clocked_form}
-use Rattle.orders.proofs.Near.{from_near}
 use Rattle.gaps.proofs.Filled.{raised_none}
 use Rattle.origins.proofs.Raised.{raised_one}
 use Rattle.links.proofs.LinkList.{condition_link_lem}
 use Rattle.gaps.proofs.Supported.{support_none, support_order_lem}
 use Rattle.gaps.proofs.fill.raise_support.Goals as goal
 
-pub offset_bounds-links-c : goal.offset_bounds-links-c
-offset_bounds-links-c c = omega arith
-
 pub returns-then-of_clock : goal.returns-then-of_clock
 returns-then-of_clock c =
     let m = view c.args.job c.args.s.now in
     record { raised_by_links = λ x l. raised_none _ _ _ (support_none m _ _ (condition_link_lem _ _ _ l _ c.requires.1) (omega (arith, c.if-of_clock.true))); gaps = c.requires.0.whole }
-
-pub condition_of-condition-requires : goal.condition_of-condition-requires
-condition_of-condition-requires c = (c.requires.2, c.requires.1)
-
-pub effect_of-effect-requires : goal.effect_of-effect-requires
-effect_of-effect-requires c = (c.requires.2, c.if-of_clock.false)
-
-pub strictly-requires : goal.strictly-requires
-strictly-requires c =
-    let form = c.requires.0.form in
-    rw (c.effect_of-effect.ensures, c.condition_of-condition.ensures)
-    (step_near _ form _ c.if-of_clock.false, from_near _ (clocked_form _ form) _ c.requires.1)
-
-pub raise-requires : goal.raise-requires
-raise-requires c =
-    let form = c.requires.0.form in
-    let few = form.step_count in
-    rw (c.effect_of-effect.ensures, c.condition_of-condition.ensures) (
-      c.requires.0.whole,
-      omega (arith, form.effect_step _ c.if-of_clock.false),
-      omega (arith, form.condition_step _ c.requires.1),
-      c.strictly.ensures.1,
-    )
 
 pub returns : goal.returns
 returns c =

@@ -5,16 +5,13 @@ use mathlib.Core.List.{[]}
 use native.Mathlib.Omega.{arith}
 use Rattle.std.proofs.lemmas.List.{length-take-le, get_or-take}
 use Rattle.job.specs.Model.{view}
-use Rattle.links.proofs.Numbered.{untimed_numbered, numbered_none, numbered_more, numbered_all}
+use Rattle.links.proofs.Numbered.{untimed_numbered, numbered_more, numbered_all}
 use Rattle.links.proofs.numbers.number_links.Goals as goal
 
 pub returns-then-job-eq0 : goal.returns-then-job-eq0
 returns-then-job-eq0 c =
     λ s.
     untimed_numbered (view c.args.job s) _ c.if-job-eq0.true c.requires.few.0 c.requires.each
-
-pub loop-link-init : goal.loop-link-init
-loop-link-init c = λ s. numbered_none _ _
 
 pub link_number-requires : goal.link_number-requires
 link_number-requires c =

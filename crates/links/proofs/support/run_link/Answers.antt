@@ -1,25 +1,12 @@
 -- The initial state, or the point of the run.
 use mathlib.Core.Path.{refl}
 use Rattle.laws.proofs.Chosen.{chosen_yes, chosen_no}
-use borrow.Author.Rules.{rules}
 use Rattle.links.specs.Linking.{run_link}
 use Rattle.links.proofs.support.run_link.Goals as goal
 
 pub returns-then-run-low : goal.returns-then-run-low
 unfolding run_link
 returns-then-run-low c = chosen_yes _ _ _ c.if-run-low.true refl refl
-
-pub offset_bounds-points-at : goal.offset_bounds-points-at
-unfolding run_link
-offset_bounds-points-at c = let l = c.requires c.if-run-low.false in search rules
-
-pub bounds-points-at : goal.bounds-points-at
-unfolding run_link
-bounds-points-at c = c.requires c.if-run-low.false
-
-pub number_of-requires : goal.number_of-requires
-unfolding run_link
-number_of-requires c = search rules
 
 pub returns : goal.returns
 unfolding run_link

@@ -1,28 +1,13 @@
 -- The last tie, one of no points, or one that is found and, where it has several, noted.
 use native.Mathlib.Omega.{arith}
 use borrow.Author.Rules.{rules}
-use Rattle.links.proofs.Tied.{tie_kept, tie_none, tie_found}
+use Rattle.links.proofs.Tied.{tie_none, tie_found}
 use Rattle.links.proofs.tie.tie_at.Goals as goal
-
-pub returns-then-last-run : goal.returns-then-last-run
-returns-then-last-run c = let p = c.requires in tie_kept p.2 p.0 c.if-last-run.true
 
 pub returns-then-high-run : goal.returns-then-high-run
 returns-then-high-run c =
     let p = c.requires in
     tie_none p.2 p.0.noted.size p.1 c.if-high-run.true
-
-pub tie_end-end-requires : goal.tie_end-end-requires
-tie_end-end-requires c = let p = c.requires in (c.if-high-run.false, p.2)
-
-pub overflow_add-second : goal.overflow_add-second
-overflow_add-second c = search (rules, c.if-high-run.false)
-
-pub note_firsts-requires : goal.note_firsts-requires
-note_firsts-requires c =
-    let p = c.requires in
-    let tied = c.tie_end-end.ensures in
-    (omega (arith, tied.some), omega (arith, tied.to, p.2), omega (arith, tied.to, p.3), p.0.noted.size)
 
 pub returns-then-second-end : goal.returns-then-second-end
 returns-then-second-end c =

@@ -1,18 +1,8 @@
 -- Point by point, as long as the tick stays.
-use mathlib.Core.Path.{◌≡◌, refl, sym, ◌∙◌}
+use mathlib.Core.Path.{◌≡◌, sym, ◌∙◌}
 use native.Mathlib.Omega.{arith}
-use borrow.Author.Rules.{rules}
-use Rattle.links.proofs.Tied.{tick_start, tick_more}
+use Rattle.links.proofs.Tied.{tick_more}
 use Rattle.links.proofs.tie.tie_end.Goals as goal
-
-pub loop-end-init : goal.loop-end-init
-loop-end-init c = tick_start refl
-
-pub offset_bounds-points-end : goal.offset_bounds-points-end
-offset_bounds-points-end c = let l = c.loop-end-test.true in search (rules, c.requires.1)
-
-pub bounds-points-end : goal.bounds-points-end
-bounds-points-end c = omega (arith, c.loop-end-test.true, c.requires.1)
 
 pub returns-then-tick_of-tick : goal.returns-then-tick_of-tick
 returns-then-tick_of-tick c =

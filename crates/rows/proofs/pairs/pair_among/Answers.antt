@@ -1,27 +1,11 @@
 -- Each point in turn.
-use Prim.Native.Nat.{◌+◌, ◌-◌}
+use Prim.Native.Nat.{◌+◌}
 use mathlib.Core.Path.{refl}
 use native.Mathlib.Omega.{arith}
-use borrow.Author.Rules.{rules}
 use Rattle.order_file.specs.Table.{row_width}
-use Rattle.origins.proofs.Reached.{within_up, within_all, within_empty}
-use Rattle.rows.proofs.Grouped.{group_from, group_notable, point_known, later_given}
+use Rattle.origins.proofs.Reached.{within_up, within_all}
+use Rattle.rows.proofs.Grouped.{group_from, point_known, later_given}
 use Rattle.rows.proofs.pairs.pair_among.Goals as goal
-
-pub loop-p-init : goal.loop-p-init
-loop-p-init c n few group = within_empty _ _ _ _ _ (omega arith)
-
-pub offset_bounds-points-p : goal.offset_bounds-points-p
-offset_bounds-points-p c = search (rules, c.loop-p-test.true, c.requires.1.ends)
-
-pub bounds-points-p : goal.bounds-points-p
-bounds-points-p c = omega (arith, c.loop-p-test.true, c.requires.1.ends)
-
-pub point_origin-origin-requires : goal.point_origin-origin-requires
-point_origin-origin-requires c = group_notable c.requires.1 (omega arith) _ c.loop-p.auto.p c.loop-p-test.true
-
-pub overflow_add-p : goal.overflow_add-p
-overflow_add-p c = search (rules, c.loop-p-test.true, c.requires.1.ends)
 
 pub raise_after-requires : goal.raise_after-requires
 raise_after-requires c =
@@ -43,10 +27,6 @@ loop-p-preserved c n few group =
     let rest = group_from group few (c.loop-p.p + 1) (omega (arith, low)) (omega (arith, t)) in
     within_up _ _ _ _ _ _ _ low (c.loop-p.invariant n few group)
     (later_given starts points n _ _ c.loop-p.p c.args.turn _ _ group low t e (c.raise_after.ensures n few step rest))
-
-pub shape_of-gaps : goal.shape_of-gaps
-shape_of-gaps c =
-    omega (arith, ((c.loop-p.invariant row_width (omega arith) c.requires.1).whole c.requires.0).size, c.requires.0.size)
 
 pub returns : goal.returns
 returns c n few group =

@@ -4,14 +4,11 @@ use mathlib.Core.Path.{refl}
 use native.Mathlib.Omega.{arith}
 use Rattle.job.specs.Model.{view}
 use Rattle.validity.specs.Ticks.{schedule_of}
-use Rattle.origins.proofs.Reached.{within_all, within_empty}
+use Rattle.origins.proofs.Reached.{within_all}
 use Rattle.rows.proofs.Grouped.{group_wide, group_notable, last_known, origin_wide}
 use Rattle.rows.proofs.Beside.{around_given, fact_paired}
 use Rattle.rows.proofs.Part.{part_below, part_at, part_end, part_more}
 use Rattle.rows.proofs.pairs.pair_conditions.Goals as goal
-
-pub loop-word-init : goal.loop-word-init
-loop-word-init c = within_empty _ _ _ _ _ (omega arith)
 
 pub offset_of-from-requires : goal.offset_of-from-requires
 offset_of-from-requires c =
@@ -45,9 +42,6 @@ loop-word-preserved c =
     part_more _ _ _ _ _ _ _ c.loop-word.invariant
     (around_given (view c.args.job c.args.s.now) (schedule_of c.args.starts.now) c.args.points.now fact _ _ _
     (rw read at c.last_origin-origin.ensures) (rw read at c.offset_of-from.ensures) c.raise_around.ensures)
-
-pub shape_of-gaps : goal.shape_of-gaps
-shape_of-gaps c = omega (arith, (c.loop-word.invariant.whole c.requires.1).size, c.requires.1.size)
 
 pub returns : goal.returns
 returns c =

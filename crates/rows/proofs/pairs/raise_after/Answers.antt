@@ -2,14 +2,10 @@
 use mathlib.Core.Path.{refl}
 use native.Mathlib.Omega.{arith}
 use Rattle.order_file.specs.Table.{row_width}
-use Rattle.origins.proofs.Reached.{within_all, within_empty}
+use Rattle.origins.proofs.Reached.{within_all}
 use Rattle.rows.proofs.Grouped.{group_notable}
 use Rattle.rows.proofs.Part.{part_below, part_at, part_end, part_more}
 use Rattle.rows.proofs.pairs.raise_after.Goals as goal
-
-pub loop-word-init : goal.loop-word-init
-loop-word-init c =
-    record { from = omega arith; upto = omega (arith, c.requires.2.begins); reached = λ n few step group. within_empty _ _ _ _ _ (omega arith) }
 
 pub raise_onto-requires : goal.raise_onto-requires
 raise_onto-requires c =
@@ -34,10 +30,6 @@ loop-word-preserved c =
       reached = λ n few step group.
           part_more _ _ _ _ _ _ _ (i.reached n few step group) (more n few step (group.step _ i.from there));
     }
-
-pub shape_of-gaps : goal.shape_of-gaps
-shape_of-gaps c =
-    omega (arith, ((c.loop-word.invariant.reached row_width (omega arith) c.requires.1.step c.requires.2).whole c.requires.0).size, c.requires.0.size)
 
 pub returns : goal.returns
 returns c n few step group =

@@ -1,24 +1,9 @@
 -- One order, or none.
 use mathlib.Core.Path.{ap, ◌∙◌}
-use native.Mathlib.Omega.{arith}
 use Rattle.validity.specs.Ticks.{schedule_of}
 use Rattle.orders.specs.Gaps.{strictly}
 use Rattle.rows.proofs.Grouped.{onto_passes, onto_fails, onto_none, onto_one}
 use Rattle.rows.proofs.pairs.raise_onto.Goals as goal
-
-pub offset_of-requires : goal.offset_of-requires
-offset_of-requires c = c.requires.2
-
-pub strictly-entry-requires : goal.strictly-entry-requires
-strictly-entry-requires c = (c.requires.1.near, omega (arith, c.offset_of.ensures, c.requires.2.near))
-
-pub raise-requires : goal.raise-requires
-raise-requires c = (
-  c.requires.0,
-  c.requires.1.step,
-  omega (arith, c.step_of.ensures.0, c.requires.2.step),
-  c.strictly-entry.ensures.1,
-)
 
 pub returns-then-value_of-origin : goal.returns-then-value_of-origin
 returns-then-value_of-origin c n few first there =

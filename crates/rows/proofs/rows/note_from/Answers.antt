@@ -2,33 +2,13 @@
 use Prim.Native.Nat.{◌+◌, ◌-◌}
 use mathlib.Core.Path.{◌≡◌}
 use native.Mathlib.Omega.{arith}
-use borrow.Author.Rules.{rules}
-use Rattle.rows.proofs.Grouped.{group_notable, noting_found, noting_all, noting_more}
+use Rattle.rows.proofs.Grouped.{noting_found, noting_all, noting_more}
 use Rattle.rows.proofs.rows.note_from.Goals as goal
-
-pub loop-p-init : goal.loop-p-init
-loop-p-init c high w = w
-
-pub offset_bounds-points-p : goal.offset_bounds-points-p
-offset_bounds-points-p c =
-    let w = c.loop-p.invariant c.requires.0 c.requires.1 in
-    search (rules, w.upto, w.group.ends)
-
-pub bounds-points-p : goal.bounds-points-p
-bounds-points-p c =
-    let w = c.loop-p.invariant c.requires.0 c.requires.1 in
-    omega (arith, c.loop-p-test.true, w.upto, w.group.ends)
 
 pub returns-then-tick_of-t : goal.returns-then-tick_of-t
 returns-then-tick_of-t c high w =
     let back : c.loop-p.p - 1 + 1 ≡ c.loop-p.p = omega (arith, c.loop-p-test.true) in
     rw back (noting_found (c.loop-p.invariant high w) c.loop-p-test.true c.tick_of.ensures.0 c.if-tick_of-t.true)
-
-pub note-requires : goal.note-requires
-note-requires c =
-    let w = c.loop-p.invariant c.requires.0 c.requires.1 in
-    let t = c.loop-p-test.true in
-    group_notable w.group (omega arith) _ (omega (arith, t)) (omega (arith, t, w.upto))
 
 pub loop-p-preserved : goal.loop-p-preserved
 loop-p-preserved c high w =

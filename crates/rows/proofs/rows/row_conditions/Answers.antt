@@ -1,7 +1,6 @@
 -- Back over the conditions.
 use mathlib.Core.Path.{refl}
 use native.Mathlib.Omega.{arith}
-use borrow.Author.Rules.{rules}
 use Rattle.job.specs.Model.{view}
 use Rattle.origins.proofs.Reached.{within_all}
 use Rattle.rows.proofs.Grouped.{last_known, rowing_start, rowing_noting, rowing_known, rowing_more}
@@ -11,12 +10,6 @@ pub loop-p-init : goal.loop-p-init
 loop-p-init c =
     let w = c.requires.0.placed in
     rowing_start w.few w.setters _ w.wanted.begins
-
-pub offset_bounds-points-p : goal.offset_bounds-points-p
-offset_bounds-points-p c = search (rules, c.loop-p.invariant.upto, c.requires.0.placed.wanted.ends)
-
-pub bounds-points-p : goal.bounds-points-p
-bounds-points-p c = omega (arith, c.loop-p-test.true, c.loop-p.invariant.upto, c.requires.0.placed.wanted.ends)
 
 pub note_from-noted-requires : goal.note_from-noted-requires
 note_from-noted-requires c =
@@ -46,9 +39,6 @@ loop-p-preserved c =
     let e = c.last_origin-origin.ensures in
     let back = c.note_from-noted.ensures _ (rowing_noting w.few w.setters i t e) in
     rowing_more w.few w.setters i t e back w.wanted.rises c.raise_row.ensures
-
-pub shape_of-gaps : goal.shape_of-gaps
-shape_of-gaps c = omega (arith, (c.loop-p.invariant.reached.whole c.requires.1).size, c.requires.1.size)
 
 pub returns : goal.returns
 returns c =

@@ -1,26 +1,14 @@
 -- Back over the first points: what is noted of the second only grows, and each row is raised by it.
 use mathlib.Core.Path.{refl}
 use native.Mathlib.Omega.{arith}
-use borrow.Author.Rules.{rules}
 use Rattle.origins.proofs.Reached.{within_all}
-use Rattle.rows.proofs.Grouped.{group_notable, point_known, rowing_start, rowing_noting, rowing_known, rowing_more}
+use Rattle.rows.proofs.Grouped.{point_known, rowing_start, rowing_noting, rowing_known, rowing_more}
 use Rattle.rows.proofs.rows.row_points.Goals as goal
 
 pub loop-p-init : goal.loop-p-init
 loop-p-init c =
     let p = c.requires in
     rowing_start p.1 p.3 _ p.2.begins
-
-pub offset_bounds-points-p : goal.offset_bounds-points-p
-offset_bounds-points-p c = search (rules, c.loop-p.invariant.upto, c.requires.2.ends)
-
-pub bounds-points-p : goal.bounds-points-p
-bounds-points-p c = omega (arith, c.loop-p-test.true, c.loop-p.invariant.upto, c.requires.2.ends)
-
-pub point_origin-origin-requires : goal.point_origin-origin-requires
-point_origin-origin-requires c =
-    let t = c.loop-p-test.true in
-    group_notable c.requires.2 c.requires.1 _ (omega (arith, t)) (omega (arith, t, c.loop-p.invariant.upto))
 
 pub note_from-noted-requires : goal.note_from-noted-requires
 note_from-noted-requires c =
@@ -48,9 +36,6 @@ loop-p-preserved c =
     let e = c.point_origin-origin.ensures in
     let back = c.note_from-noted.ensures _ (rowing_noting w.1 w.3 i t e) in
     rowing_more w.1 w.3 i t e back (λ r q a b h. omega (arith, w.2.rises r q a b h)) c.raise_row.ensures
-
-pub shape_of-gaps : goal.shape_of-gaps
-shape_of-gaps c = omega (arith, (c.loop-p.invariant.reached.whole c.requires.0).size, c.requires.0.size)
 
 pub returns : goal.returns
 returns c =
