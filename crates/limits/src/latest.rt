@@ -80,7 +80,8 @@ fn lower_conditions(
     lower_points(points, order, span, |word| end_in(s, job, word), latest);
 }
 
-// For all setters and conditions of each fact.
+// For all setters and conditions of each fact. Apart from `raise_timed`, though the walk is the same: there one rule raises both kinds of
+// points, and here each has its own.
 fn lower_timed(
     s: &[u8],
     job: Job,

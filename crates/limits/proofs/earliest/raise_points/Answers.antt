@@ -1,12 +1,11 @@
 -- Each point in turn; the timed facts before it have been passed.
 use native.Mathlib.Omega.{arith}
-use borrow.Author.Rules.{rules}
 use lib.ListN.{get_or}
 use Rattle.timeline.specs.Words.{tick_at}
 use Rattle.validity.specs.Ticks.{schedule_of}
 use Rattle.moves.specs.Moved.{Up}
 use Rattle.moves.proofs.Moved.{up_same, up_on, moved_none, moved_empty, moved_more, moved_all}
-use Rattle.limits.proofs.Walked.{walking_first, walking_later, walking_passed, other_timed, later_all}
+use Rattle.limits.proofs.Walked.{walking_first, walking_later, other_timed, later_all}
 use Rattle.limits.proofs.earliest.raise_points.Goals as goal
 
 pub returns-then-span : goal.returns-then-span
@@ -15,17 +14,8 @@ returns-then-span c = moved_none Up up_same up_on _ _ (λ k v o. absurd (omega (
 pub loop-p-init : goal.loop-p-init
 loop-p-init c = (λ q a b. walking_first (tick_at c.args.points.now q) c.requires.1, moved_empty Up up_same up_on _ _ _)
 
-pub offset_bounds-points-p : goal.offset_bounds-points-p
-offset_bounds-points-p c = search (rules, c.loop-p-test.true, c.requires.0.spanned.ends)
-
-pub bounds-points-p : goal.bounds-points-p
-bounds-points-p c = omega (arith, c.loop-p-test.true, c.requires.0.spanned.ends)
-
 pub advance-cursor-requires : goal.advance-cursor-requires
 advance-cursor-requires c = rw c.tick_of.ensures.0 (c.loop-p.invariant.0 _ (omega arith) c.loop-p-test.true)
-
-pub last_other-last-requires : goal.last_other-last-requires
-last_other-last-requires c = walking_passed c.requires.1 c.advance-cursor.ensures.0 c.advance-cursor.ensures.1
 
 pub raise_point-requires : goal.raise_point-requires
 raise_point-requires c =
@@ -49,9 +39,6 @@ loop-p-preserved c =
           (later_all c.requires.1 parted run c.last_other-last.ensures (schedule_of c.args.starts.now) (get_or points p 0) _ _
           here c.value_of.ensures.0 c.raise_point.ensures),
     )
-
-pub shape_of-limits : goal.shape_of-limits
-shape_of-limits c = omega (arith, c.loop-p.invariant.1.size)
 
 pub returns : goal.returns
 returns c =

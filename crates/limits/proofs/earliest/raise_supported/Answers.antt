@@ -13,17 +13,10 @@ returns-then-job-eq0 c =
 pub loop-c-init : goal.loop-c-init
 loop-c-init c = moved_empty Up up_same up_on _ _ _
 
-pub raise_linked-requires : goal.raise_linked-requires
-raise_linked-requires c =
-    (c.requires.0, c.requires.1, c.loop-c-test.true, c.requires.2, omega (arith, c.requires.3, c.loop-c.invariant.size))
-
 pub loop-c-preserved : goal.loop-c-preserved
 loop-c-preserved c =
     let i = c.loop-c.invariant in
     moved_more Up up_same up_on _ _ _ _ _ _ (omega arith) i c.raise_linked.ensures
-
-pub shape_of-limits : goal.shape_of-limits
-shape_of-limits c = omega (arith, c.loop-c.invariant.size)
 
 pub returns : goal.returns
 returns c =

@@ -20,9 +20,6 @@ list_timed-requires c = (c.requires.0.form, c.requires.1, c.requires.0.clock, se
 pub loop-f-init : goal.loop-f-init
 loop-f-init c = moved_empty Up up_same up_on _ _ _
 
-pub span_of-setters-requires : goal.span_of-setters-requires
-span_of-setters-requires c = (omega (arith, c.requires.0.known.room, c.loop-f-test.true), c.list_timed.ensures.room _ c.loop-f-test.true)
-
 pub raise_points-requires : goal.raise_points-requires
 raise_points-requires c =
     let span = c.span_of-setters.ensures in (
@@ -30,12 +27,6 @@ raise_points-requires c =
           (omega (arith, c.requires.0.form.step_count, c.requires.2, c.loop-f.invariant.size)) span.0 span.1,
       timed_row_lem c.requires.0.form c.list_timed.ensures _ c.loop-f-test.true span.2 span.3,
     )
-
-pub overflow_add-facts : goal.overflow_add-facts
-overflow_add-facts c = omega (arith, c.requires.0.form.fact_count, c.loop-f-test.true)
-
-pub span_of-wanted-requires : goal.span_of-wanted-requires
-span_of-wanted-requires c = (omega (arith, c.requires.0.known.room, c.loop-f-test.true), c.list_timed.ensures.room _ c.loop-f-test.true)
 
 pub raise_points-requires-in-loop-f : goal.raise_points-requires-in-loop-f
 raise_points-requires-in-loop-f c =
@@ -57,9 +48,6 @@ loop-f-preserved c =
     _ _ _ c.loop-f.f
     setters.0 setters.1 setters.2 setters.3 wanted.0 wanted.1 wanted.2 wanted.3
     c.raise_points.ensures c.raise_points-in-loop-f.ensures)
-
-pub shape_of-limits : goal.shape_of-limits
-shape_of-limits c = omega (arith, c.loop-f.invariant.size)
 
 pub returns : goal.returns
 returns c =

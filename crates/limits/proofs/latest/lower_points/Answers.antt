@@ -2,7 +2,6 @@
 use Prim.Native.Nat.{◌≤◌}
 use mathlib.Core.Path.{◌≡◌, refl}
 use native.Mathlib.Omega.{arith}
-use borrow.Author.Rules.{rules}
 use lib.ListN.{get_or}
 use Rattle.timeline.specs.Words.{tick_at}
 use Rattle.moves.specs.Moved.{Down}
@@ -23,21 +22,6 @@ loop-p-init g c = (
   λ q a b. (λ p e f g h. absurd (omega arith), λ p e f g h. absurd (omega arith)),
   λ offset answered. moved_empty Down down_same down_on _ _ _,
 )
-
-pub offset_bounds-points-p : goal.offset_bounds-points-p
-offset_bounds-points-p g c = search (rules, c.loop-p-test.true, c.requires.0.ends)
-
-pub bounds-points-p : goal.bounds-points-p
-bounds-points-p g c = omega (arith, c.loop-p-test.true, c.requires.0.ends)
-
-pub next_other-off-requires : goal.next_other-off-requires
-next_other-off-requires g c = (c.loop-p.invariant.1, c.requires.1.ends)
-
-pub next_other-on-requires : goal.next_other-on-requires
-next_other-on-requires g c = (c.loop-p.invariant.3, c.requires.1.ends)
-
-pub next_tick-next-requires : goal.next_tick-next-requires
-next_tick-next-requires g c = c.requires.1.ends
 
 pub lower_start-requires : goal.lower_start-requires
 lower_start-requires g c =

@@ -20,9 +20,6 @@ list_timed-requires c = (c.requires.0.form, c.requires.1, c.requires.0.clock, se
 pub loop-f-init : goal.loop-f-init
 loop-f-init c = moved_empty Down down_same down_on _ _ _
 
-pub span_of-setters-requires : goal.span_of-setters-requires
-span_of-setters-requires c = (omega (arith, c.requires.0.known.room, c.loop-f-test.true), c.list_timed.ensures.room _ c.loop-f-test.true)
-
 pub lower_setters-requires : goal.lower_setters-requires
 lower_setters-requires c =
     let span = c.span_of-setters.ensures in (
@@ -30,12 +27,6 @@ lower_setters-requires c =
           (omega (arith, c.requires.0.form.step_count, c.requires.2, c.loop-f.invariant.size)) span.0 span.1,
       timed_row_lem c.requires.0.form c.list_timed.ensures _ c.loop-f-test.true span.2 span.3,
     )
-
-pub overflow_add-facts : goal.overflow_add-facts
-overflow_add-facts c = omega (arith, c.requires.0.form.fact_count, c.loop-f-test.true)
-
-pub span_of-wanted-requires : goal.span_of-wanted-requires
-span_of-wanted-requires c = (omega (arith, c.requires.0.known.room, c.loop-f-test.true), c.list_timed.ensures.room _ c.loop-f-test.true)
 
 pub lower_conditions-requires : goal.lower_conditions-requires
 lower_conditions-requires c =
@@ -58,9 +49,6 @@ loop-f-preserved c =
     _ _ _ c.loop-f.f
     setters.0 setters.1 setters.2 setters.3 wanted.0 wanted.1 wanted.2 wanted.3
     c.lower_setters.ensures c.lower_conditions.ensures)
-
-pub shape_of-latest : goal.shape_of-latest
-shape_of-latest c = omega (arith, c.loop-f.invariant.size)
 
 pub returns : goal.returns
 returns c =
