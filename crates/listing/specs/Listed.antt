@@ -1,10 +1,11 @@
 -- The numbers that the readers of order files put into a lent list, and the list afterwards.
-use Rattle.std.specs.Prelude.{ℕ, suc, ◌-◌, cond, List, [], ◌++◌, map, eqb, ℤ, pos, negsuc, length, take, drop}
+use Rattle.std.specs.Prelude.{ℕ, suc, ◌-◌, cond, List, [], ◌++◌, map, eqb, ℤ, pos, negsuc, length, take, drop, Result, Ok, Err}
 use Rattle.little_endian.specs.Bytes.{u32_values}
-use Rattle.order_answers.specs.declared.HeaderRead.{HeaderRead}
+use Rattle.order_answers.specs.declared.Header.{Header}
+use Rattle.order_answers.specs.declared.NotAnOrderFile.{NotAnOrderFile}
 use Rattle.order_answers.specs.Answers.{header_number, header_values, record_values}
-use Rattle.order_answers.specs.declared.RecordRead.{RecordRead}
-use Rattle.order_answers.specs.declared.RecordRead.TheVariants as recorded
+use Rattle.order_answers.specs.declared.Record.{Record}
+use Rattle.order_answers.specs.declared.Record.TheVariants as recorded
 
 -- the numbers cut to the list's length, followed by the rest of the list
 unfoldable pub filled : List ℕ → List ℕ → List ℕ
@@ -16,16 +17,16 @@ bits (pos n) = n
 bits (negsuc n) = u32_values - suc n
 
 -- a header's numbers; none after a refusal
-abbrev pub header_list : HeaderRead → List ℕ
+abbrev pub header_list : Result Header NotAnOrderFile → List ℕ
 header_list a = cond (eqb (header_number a) 0) (header_values a) []
 
 -- how many numbers a record has; none after a refusal
-abbrev pub record_size : RecordRead → ℕ
-record_size (recorded.Window limit latest earliest) = 3
-record_size (recorded.Order first second gap) = 3
-record_size (recorded.Link link) = 1
-record_size recorded.Broken = 0
+abbrev pub record_size : Result Record NotAnOrderFile → ℕ
+record_size (Ok (recorded.Window limit latest earliest)) = 3
+record_size (Ok (recorded.Order first second gap)) = 3
+record_size (Ok (recorded.Link link)) = 1
+record_size (Err refusal) = 0
 
 -- a record's numbers
-abbrev pub record_list : RecordRead → List ℕ
+abbrev pub record_list : Result Record NotAnOrderFile → List ℕ
 record_list a = take (record_size a) (map bits (record_values a))

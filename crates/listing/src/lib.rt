@@ -4,7 +4,7 @@
 ghost use Rattle.std.specs.Prelude.{◌≡◌, set};
 ghost use Rattle.listing.specs.Listed as spec;
 
-use order_answers::{HeaderRead, RecordRead};
+use order_answers::{Header, NotAnOrderFile, Record};
 
 // Puts a number at an entry, if the list has that entry.
 fn put(at: usize, n: u32, list: &mut [u32])
@@ -24,70 +24,34 @@ fn fill(numbers: &[u32], list: &mut [u32])
     }
 }
 
-// The bits of an i32: a cast of a number below zero is not defined.
-fn bits(n: i32) -> u32
-    ensures { result ≡ spec.bits n }
-{
-    let wide = n as i64;
-    if wide < 0 {
-        (wide + 4294967296) as u32
-    } else {
-        wide as u32
-    }
-}
-
 // Puts a header's numbers into a list; a refusal changes no entry.
-pub fn list_header(read: HeaderRead, list: &mut [u32])
+pub fn list_header(read: Result<Header, NotAnOrderFile>, list: &mut [u32])
     ensures { list.new ≡ spec.filled list.old (spec.header_list read) }
 {
-    match read {
-        HeaderRead::Header {
-            edition,
-            steps,
-            orders,
-            links,
-            rounds,
-            windows_at,
-            orders_at,
-            links_at,
-        } => {
-            let numbers = [
-                edition as u32,
-                steps as u32,
-                orders as u32,
-                links as u32,
-                rounds,
-                windows_at,
-                orders_at,
-                links_at,
-            ];
-            fill(&numbers, list);
-        }
-        HeaderRead::Broken => {}
+    if let Ok(header) = read {
+        fill(&header.numbers(), list);
     }
 }
 
 // Puts a record's numbers into a list; a refusal changes no entry.
-pub fn list_record(read: RecordRead, list: &mut [u32])
+pub fn list_record(read: Result<Record, NotAnOrderFile>, list: &mut [u32])
     ensures { list.new ≡ spec.filled list.old (spec.record_list read) }
 {
     match read {
-        RecordRead::Window {
-            limit,
-            latest,
-            earliest,
-        } => {
-            let numbers = [limit, latest, earliest];
-            fill(&numbers, list);
+        Ok(
+            Record::Window {
+                limit,
+                latest,
+                earliest,
+            },
+        ) => fill(&[limit, latest, earliest], list),
+        Ok(Record::Order { first, second, gap }) => {
+            fill(
+                &[u32::from(first), u32::from(second), gap.cast_unsigned()],
+                list,
+            )
         }
-        RecordRead::Order { first, second, gap } => {
-            let numbers = [first as u32, second as u32, bits(gap)];
-            fill(&numbers, list);
-        }
-        RecordRead::Link(link) => {
-            let numbers = [link as u32];
-            fill(&numbers, list);
-        }
-        RecordRead::Broken => {}
+        Ok(Record::Link(link)) => fill(&[u32::from(link)], list),
+        Err(_) => {}
     }
 }

@@ -1,26 +1,27 @@
-// What the reader of order files and the alike test answer: definitions and theorems without code.
+// What the reader of order files and the alike test answer, and the paper's number and place of each refusal.
 #![tactic(auto)]
 
-// What reading the header finds.
-#[derive(Clone, Copy)]
-pub enum HeaderRead {
-    Header {
-        edition: u16,
-        steps: u16,
-        orders: u16,
-        links: u16,
-        rounds: u32,
-        windows_at: u32,
-        orders_at: u32,
-        links_at: u32,
-    },
-    // The bytes are no order file.
-    Broken,
+mod refusals;
+mod tables;
+
+pub use tables::OrderTable;
+
+// The numbers of a header.
+#[derive(Clone, Copy, Debug, PartialEq, Eq)]
+pub struct Header {
+    pub edition: u16,
+    pub steps: u16,
+    pub orders: u16,
+    pub links: u16,
+    pub rounds: u32,
+    pub windows_at: u32,
+    pub orders_at: u32,
+    pub links_at: u32,
 }
 
-// What reading one record finds.
-#[derive(Clone, Copy)]
-pub enum RecordRead {
+// One record: a step's window, an order, or a link.
+#[derive(Clone, Copy, Debug, PartialEq, Eq)]
+pub enum Record {
     Window {
         limit: u32,
         latest: u32,
@@ -32,15 +33,15 @@ pub enum RecordRead {
         gap: i32,
     },
     Link(u16),
-    // The bytes are no order file, or the record is not there.
-    Broken,
 }
 
-// Whether two order files are alike, or which of them is none.
-#[derive(Clone, Copy)]
-pub enum AlikeAnswer {
-    Alike,
-    Different,
-    FirstBroken,
-    SecondBroken,
+// The bytes are no order file, or the record is not there.
+#[derive(Clone, Copy, Debug, PartialEq, Eq)]
+pub struct NotAnOrderFile;
+
+// Which of two files is no order file: of two broken ones the first.
+#[derive(Clone, Copy, Debug, PartialEq, Eq)]
+pub enum BrokenFile {
+    First,
+    Second,
 }

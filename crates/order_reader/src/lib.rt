@@ -2,22 +2,21 @@
 #![tactic(auto)]
 
 mod compare;
-pub mod numbers;
 
 ghost use Rattle.std.specs.Prelude.{◌≡◌, ◌<◌};
 ghost use Rattle.order_file.specs.Layout.{contents_of};
 ghost use Rattle.order_file.specs.Contents.{gap_span, signed_gap};
-ghost use Rattle.order_answers.specs.Answers.{record_count, record_of, HeaderPromise, RecordPromise, AlikePromise};
+ghost use Rattle.order_answers.specs.Answers.{table_number, record_count, record_of, HeaderPromise, RecordPromise, AlikePromise};
 
-use order_answers::{AlikeAnswer, HeaderRead, RecordRead};
+use order_answers::{BrokenFile, Header, NotAnOrderFile, OrderTable, Record};
 use order_file::layout;
 
 // All of the header's numbers.
-pub fn read_header(file: &[u8]) -> HeaderRead
+pub fn read_header(file: &[u8]) -> Result<Header, NotAnOrderFile>
     ensures { HeaderPromise file.now result }
 {
     if order_check::well_formed(file) {
-        HeaderRead::Header {
+        Ok(Header {
             edition: little_endian::u16_at(file, 0) as u16,
             steps: little_endian::u16_at(file, 2) as u16,
             orders: little_endian::u16_at(file, 4) as u16,
@@ -26,24 +25,20 @@ pub fn read_header(file: &[u8]) -> HeaderRead
             windows_at: little_endian::u32_at(file, 12) as u32,
             orders_at: little_endian::u32_at(file, 16) as u32,
             links_at: little_endian::u32_at(file, 20) as u32,
-        }
+        })
     } else {
-        HeaderRead::Broken
+        Err(NotAnOrderFile)
     }
 }
 
 // How many records a table has.
-fn record_count(file: &[u8], table: u32) -> usize
-    ensures { (result ≡ record_count (contents_of file.now) table) × (result < 65536) }
+fn record_count(file: &[u8], table: OrderTable) -> usize
+    ensures { (result ≡ record_count (contents_of file.now) (table_number table)) × (result < 65536) }
 {
-    if table == 0 {
-        layout::steps(file)
-    } else if table == 1 {
-        layout::orders(file)
-    } else if table == 2 {
-        layout::links(file)
-    } else {
-        0
+    match table {
+        OrderTable::Windows => layout::steps(file),
+        OrderTable::Orders => layout::orders(file),
+        OrderTable::Links => layout::links(file),
     }
 }
 
@@ -59,53 +54,50 @@ fn signed_gap(gap: usize) -> i32
     }
 }
 
-// The record of a table and a number; of no table but 0 and 1, a link.
-fn record_of(file: &[u8], table: u32, k: usize) -> RecordRead
+// The record of a table and a number.
+fn record_of(file: &[u8], table: OrderTable, k: usize) -> Record
     requires { k < 65536 }
-    ensures { result ≡ record_of (contents_of file.now) table k }
+    ensures { result ≡ record_of (contents_of file.now) (table_number table) k }
 {
-    if table == 0 {
-        RecordRead::Window {
+    match table {
+        OrderTable::Windows => Record::Window {
             limit: layout::limit(file, k) as u32,
             latest: layout::latest(file, k) as u32,
             earliest: layout::earliest(file, k) as u32,
-        }
-    } else if table == 1 {
-        RecordRead::Order {
+        },
+        OrderTable::Orders => Record::Order {
             first: layout::first(file, k) as u16,
             second: layout::second(file, k) as u16,
             gap: signed_gap(layout::gap(file, k)),
-        }
-    } else {
-        RecordRead::Link(layout::link(file, k) as u16)
+        },
+        OrderTable::Links => Record::Link(layout::link(file, k) as u16),
     }
 }
 
 // One record: of table 0 a window, of 1 an order, of 2 a link.
-pub fn read_record(file: &[u8], table: u32, number: u32) -> RecordRead
+pub fn read_record(file: &[u8], table: u32, number: u32) -> Result<Record, NotAnOrderFile>
     ensures { RecordPromise file.now table number result }
 {
+    let Some(named) = OrderTable::numbered(table) else {
+        return Err(NotAnOrderFile);
+    };
     let k = number as usize;
-    if order_check::well_formed(file) & (k < record_count(file, table)) {
-        record_of(file, table, k)
+    if order_check::well_formed(file) & (k < record_count(file, named)) {
+        Ok(record_of(file, named, k))
     } else {
-        RecordRead::Broken
+        Err(NotAnOrderFile)
     }
 }
 
 // Whether two files are alike.
-pub fn alike(a: &[u8], b: &[u8]) -> AlikeAnswer
+pub fn alike(a: &[u8], b: &[u8]) -> Result<bool, BrokenFile>
     ensures { AlikePromise a.now b.now result }
 {
     if !order_check::well_formed(a) {
-        return AlikeAnswer::FirstBroken;
+        return Err(BrokenFile::First);
     }
     if !order_check::well_formed(b) {
-        return AlikeAnswer::SecondBroken;
+        return Err(BrokenFile::Second);
     }
-    if compare::same_contents(a, b) {
-        AlikeAnswer::Alike
-    } else {
-        AlikeAnswer::Different
-    }
+    Ok(compare::same_contents(a, b))
 }

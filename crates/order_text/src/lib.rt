@@ -18,7 +18,8 @@ pub const MOST_TEXT: usize = 186566;
 // The refusal of bytes that are no order file.
 const NO_ORDER_FILE: u16 = 16;
 
-// Puts the lines of all steps.
+// Puts the lines of all steps. The loop of `put_links` differs in the line alone: a closure for that would need a longer contract
+// than the loop.
 fn put_windows(file: &[u8], steps: usize, at: usize, out: &mut [u8]) -> usize
     requires { (at < 1000) × (steps < u16_values) }
     ensures { Put out.old at (concatenate steps (window_line (contents_of file.now))) out.new result

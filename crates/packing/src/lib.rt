@@ -4,13 +4,12 @@
 ghost use Rattle.std.specs.Prelude.{◌≡◌};
 ghost use Rattle.packing.specs.Packed as spec;
 
-use order_answers::{AlikeAnswer, HeaderRead, RecordRead};
-use order_reader::numbers;
+use order_answers::{BrokenFile, Header, NotAnOrderFile, Record};
 use pair_search::answer::PairsAnswer;
 use partialize::answer;
 use partialize::answer::Answer;
 use texts_answer::TextsAnswer;
-use verdict::Verdict;
+use verdict::{NOWHERE, Verdict};
 
 // The length, the count or the yes above 32 bits, the refusal's number above 16, and the place.
 fn packed(answer: u32, number: u16, place: u16) -> u64
@@ -56,26 +55,31 @@ pub fn packed_pairs(a: PairsAnswer) -> u64
 }
 
 // What the alike test answers.
-pub fn packed_alike(a: AlikeAnswer) -> u64
+pub fn packed_alike(a: Result<bool, BrokenFile>) -> u64
     ensures { result ≡ spec.packed_alike a }
 {
-    packed(
-        numbers::alike_yes(a) as u32,
-        numbers::alike_number(a),
-        numbers::alike_place(a),
-    )
+    match a {
+        Ok(yes) => packed(u32::from(yes), 0, NOWHERE),
+        Err(file) => packed(0, file.number(), file.place()),
+    }
 }
 
 // What the reader of a header answers.
-pub fn packed_header(a: HeaderRead) -> u64
+pub fn packed_header(a: Result<Header, NotAnOrderFile>) -> u64
     ensures { result ≡ spec.packed_header a }
 {
-    packed(0, numbers::header_number(a), numbers::header_place(a))
+    match a {
+        Ok(_header) => packed(0, 0, NOWHERE),
+        Err(refusal) => packed(0, refusal.number(), refusal.place()),
+    }
 }
 
 // What the reader of a record answers.
-pub fn packed_record(a: RecordRead) -> u64
+pub fn packed_record(a: Result<Record, NotAnOrderFile>) -> u64
     ensures { result ≡ spec.packed_record a }
 {
-    packed(0, numbers::record_number(a), numbers::record_place(a))
+    match a {
+        Ok(_record) => packed(0, 0, NOWHERE),
+        Err(refusal) => packed(0, refusal.number(), refusal.place()),
+    }
 }

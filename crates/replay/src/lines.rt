@@ -13,9 +13,9 @@ pub fn print_number(output: &mut impl Write, n: u64) -> io::Result<()> {
     write!(output, " {n}")
 }
 
-pub fn print_numbers(output: &mut impl Write, values: &[u64; 8]) -> io::Result<()> {
+pub fn print_numbers(output: &mut impl Write, values: &[u32; 8]) -> io::Result<()> {
     for value in values {
-        print_number(output, *value)?;
+        print_number(output, u64::from(*value))?;
     }
     Ok(())
 }

@@ -1,10 +1,10 @@
 // Cases about order files.
 use crate::fields::{LONGEST_FIELD, read_field, read_number};
 use crate::lines;
-use order_answers::RecordRead;
-use order_reader::numbers;
+use order_answers::Record;
 use std::io;
 use std::io::{Read, Write};
+use verdict::NOWHERE;
 
 // The table of the links, whose records have one number; those of the others have three.
 const LINKS: u32 = 2;
@@ -17,15 +17,16 @@ pub fn serve_header(cases: &mut impl Read, output: &mut impl Write) -> io::Resul
         return lines::bad_cases(output);
     }
     let n = field.len;
-    let header = order_reader::read_header(&file[..n]);
-    lines::begin(
-        output,
-        b"h",
-        numbers::header_number(header),
-        numbers::header_place(header),
-    )?;
-    let values = numbers::header_values(header);
-    lines::print_numbers(output, &values)?;
+    match order_reader::read_header(&file[..n]) {
+        Ok(header) => {
+            lines::begin(output, b"h", 0, NOWHERE)?;
+            lines::print_numbers(output, &header.numbers())?;
+        }
+        Err(refusal) => {
+            lines::begin(output, b"h", refusal.number(), refusal.place())?;
+            lines::print_numbers(output, &[0; 8])?;
+        }
+    }
     lines::end(output)
 }
 
@@ -40,9 +41,9 @@ fn print_zeros(output: &mut impl Write, table: u32) -> io::Result<()> {
 }
 
 // The numbers of a record.
-fn print_record(output: &mut impl Write, record: RecordRead, table: u32) -> io::Result<()> {
+fn print_record(output: &mut impl Write, record: Record) -> io::Result<()> {
     match record {
-        RecordRead::Window {
+        Record::Window {
             limit,
             latest,
             earliest,
@@ -51,13 +52,12 @@ fn print_record(output: &mut impl Write, record: RecordRead, table: u32) -> io::
             lines::print_number(output, latest as u64)?;
             lines::print_number(output, earliest as u64)
         }
-        RecordRead::Order { first, second, gap } => {
+        Record::Order { first, second, gap } => {
             lines::print_number(output, first as u64)?;
             lines::print_number(output, second as u64)?;
             lines::print_signed(output, gap)
         }
-        RecordRead::Link(link) => lines::print_number(output, link as u64),
-        RecordRead::Broken => print_zeros(output, table),
+        Record::Link(link) => lines::print_number(output, link as u64),
     }
 }
 
@@ -71,14 +71,16 @@ pub fn serve_record(cases: &mut impl Read, output: &mut impl Write) -> io::Resul
         return lines::bad_cases(output);
     }
     let n = field.len;
-    let record = order_reader::read_record(&file[..n], table.value, number.value);
-    lines::begin(
-        output,
-        b"r",
-        numbers::record_number(record),
-        numbers::record_place(record),
-    )?;
-    print_record(output, record, table.value)?;
+    match order_reader::read_record(&file[..n], table.value, number.value) {
+        Ok(record) => {
+            lines::begin(output, b"r", 0, NOWHERE)?;
+            print_record(output, record)?;
+        }
+        Err(refusal) => {
+            lines::begin(output, b"r", refusal.number(), refusal.place())?;
+            print_zeros(output, table.value)?;
+        }
+    }
     lines::end(output)
 }
 
@@ -93,13 +95,15 @@ pub fn serve_alike(cases: &mut impl Read, output: &mut impl Write) -> io::Result
     }
     let n = first.len;
     let m = second.len;
-    let answer = order_reader::alike(&a[..n], &b[..m]);
-    lines::begin(
-        output,
-        b"a",
-        numbers::alike_number(answer),
-        numbers::alike_place(answer),
-    )?;
-    lines::print_number(output, numbers::alike_yes(answer) as u64)?;
+    match order_reader::alike(&a[..n], &b[..m]) {
+        Ok(same) => {
+            lines::begin(output, b"a", 0, NOWHERE)?;
+            lines::print_number(output, u64::from(same))?;
+        }
+        Err(broken) => {
+            lines::begin(output, b"a", broken.number(), broken.place())?;
+            lines::print_number(output, 0)?;
+        }
+    }
     lines::end(output)
 }

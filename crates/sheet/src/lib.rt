@@ -12,7 +12,8 @@ ghost use Rattle.little_endian.specs.Bytes.{u16_values};
 
 use order_file::layout;
 
-// Puts the lines of all steps.
+// Puts the lines of all steps. The loop of `put_orders` differs in the line alone: a closure for that would need a longer contract
+// than the loop.
 fn put_windows(file: &[u8], steps: usize, at: usize, out: &mut [u8]) -> usize
     requires { (at < 1000) × (steps < u16_values) }
     ensures { Put out.old at (concatenate steps (window_line (contents_of file.now))) out.new result
