@@ -31,11 +31,9 @@ fn write_facts(facts: usize, list: &[usize], at: usize, out: &mut [u8]) -> usize
     ensures { Put out.old at (concatenate facts (byte_in list.now)) result out.new }
 {
     let mut next = at;
-    let mut f = 0;
-    while f < facts {
+    for f in 0..facts {
         put_byte(next, list[f] as u8, out);
         next += 1;
-        f += 1;
     }
     next
 }
@@ -47,8 +45,7 @@ fn write_levels(levels: usize, list: &[usize], at: usize, out: &mut [u8]) -> usi
     ensures { Put out.old at (concatenate levels (level_in list.now)) result out.new }
 {
     let mut next = at;
-    let mut l = 0;
-    while l < levels {
+    for l in 0..levels {
         let level = Level {
             initial: SIGN_BIAS + list[l],
             least: SIGN_BIAS,
@@ -56,7 +53,6 @@ fn write_levels(levels: usize, list: &[usize], at: usize, out: &mut [u8]) -> usi
         };
         write_level(next, level, out);
         next += WIDTHS[LEVEL];
-        l += 1;
     }
     next
 }
@@ -96,10 +92,8 @@ fn write_steps(plan: &[u64], at: usize, out: &mut [u8]) -> usize
     requires { at + length (step_bytes plan.now) ≤ length out.old }
     ensures { Put out.old at (step_bytes plan.now) result out.new }
 {
-    let steps = plan.len() / 3;
     let mut next = at;
-    let mut s = 0;
-    while s < steps {
+    for s in 0..plan.len() / 3 {
         let step = Step {
             start: starts(plan, s),
             length: lasts(plan, s),
@@ -107,7 +101,6 @@ fn write_steps(plan: &[u64], at: usize, out: &mut [u8]) -> usize
         };
         write_step(next, step, out);
         next += WIDTHS[STEP];
-        s += 1;
     }
     next
 }

@@ -39,8 +39,9 @@ fn amount(of: Opening, said: &[u64], k: usize) -> usize
 fn store(n: u16, value: usize, list: &mut [usize])
     ensures { list.new ≡ set list.old n value }
 {
-    if (n as usize) < list.len() {
-        list[n as usize] = value;
+    let n = usize::from(n);
+    if n < list.len() {
+        list[n] = value;
     }
 }
 
@@ -62,9 +63,7 @@ pub fn find_stated(of: Opening, said: &[u64], numbers: &[u16], list: &mut [usize
     requires { (length said.now ≤ length numbers.now) × ((f : ℕ) → f < length list.old → get_or list.old f 0 ≡ 0) }
     ensures { Stated of said.now numbers.now 0 list.old list.new }
 {
-    let mut k = said.len();
-    while 0 < k {
-        k -= 1;
+    for k in (0..said.len()).rev() {
         store_stated(of, said, k, numbers[k], list);
     }
 }
