@@ -7,6 +7,7 @@ ghost use Rattle.job_from_notes.specs.Counted.{Walked};
 ghost use Rattle.job_from_notes.specs.Putting.{Put};
 
 use crate::brought::{Kind, brings, lasts, leading, within};
+use crate::noted::Noted;
 use job::layout::{CONDITION, EFFECT, GOAL, USE, WIDTHS};
 use job::records::{Condition, Effect, Goal, NO_DEADLINE, Use};
 use job_writer::{write_condition, write_effect, write_goal, write_use};
@@ -127,19 +128,19 @@ fn write_note(
 // Puts those of the notes from a place on, up to the walk's end.
 pub fn write_notes(
     kind: Kind,
-    said: &[u64],
-    numbers: &[u16],
+    noted: Noted,
     from: usize,
     span: Span,
     at: usize,
     out: &mut [u8],
 ) -> usize
-    requires { (from ≤ length said.now) × (length said.now ≤ length numbers.now)
-        × (at + length (parts_from span.step span.duration kind said.now numbers.now from) ≤ length out.old) }
+    requires { (from ≤ length noted.said.now)
+        × (at + length (parts_from span.step span.duration kind noted.said.now noted.numbers.now from) ≤ length out.old) }
     ensures { Put out.old at
-        (parts_from span.step span.duration kind said.now numbers.now from)
+        (parts_from span.step span.duration kind noted.entry.said.now noted.entry.numbers.now from)
         result out.new }
 {
+    let said = noted.said;
     let mut next = at;
     for k in from..said.len() {
         let w = said[k];
@@ -147,7 +148,7 @@ pub fn write_notes(
             return next;
         }
         let amount = leading(said, k + 1);
-        next = write_note(kind, w, numbers[k], amount, span, next, out);
+        next = write_note(kind, w, noted.numbers[k], amount, span, next, out);
     }
     next
 }
@@ -155,17 +156,16 @@ pub fn write_notes(
 // Puts those of all steps.
 pub fn write_planned(
     kind: Kind,
-    said: &[u64],
-    numbers: &[u16],
+    noted: Noted,
     plan: &[u64],
     acts: &[u16],
     at: usize,
     out: &mut [u8],
 ) -> usize
-    requires { Walked said.now plan.now acts.now × (length said.now ≤ length numbers.now)
-        × (at + length (planned_bytes kind said.now numbers.now plan.now acts.now) ≤ length out.old) }
+    requires { Walked noted.said.now plan.now acts.now
+        × (at + length (planned_bytes kind noted.said.now noted.numbers.now plan.now acts.now) ≤ length out.old) }
     ensures { Put out.old at
-        (planned_bytes kind said.now numbers.now plan.now acts.now)
+        (planned_bytes kind noted.entry.said.now noted.entry.numbers.now plan.now acts.now)
         result out.new }
 {
     let mut next = at;
@@ -174,7 +174,7 @@ pub fn write_planned(
             step: s as u16,
             duration: lasts(plan, s),
         };
-        next = write_notes(kind, said, numbers, usize::from(acts[s]), span, next, out);
+        next = write_notes(kind, noted, usize::from(acts[s]), span, next, out);
     }
     next
 }

@@ -11,8 +11,7 @@ write_notes-next-requires c =
     let taken = c.loop-s-test.true in
     rw c.from.ensures (
       c.requires.0.inside _ taken,
-      c.requires.1,
-      step_room _ _ _ _ _ _ c.lasts.ensures c.loop-s.invariant _ taken c.requires.2,
+      step_room _ _ _ _ _ _ c.lasts.ensures c.loop-s.invariant _ taken c.requires.1,
     )
 
 pub loop-s-preserved : goal.loop-s-preserved
