@@ -69,10 +69,6 @@ module _ (before : List ℕ) (from : ℕ) where
         → Put before from (concatenate (k + 1) f) place new
     parts_more k w p = rw (concatenate_more f k) (put_on (f k) w p)
 
-    pub parts_end :
-        (n k : ℕ) {at : ℕ} {out : List ℕ} → Put before from (concatenate k f) at out → k ≤ n → n ≤ k → Put before from (concatenate n f) at out
-    parts_end n k w h g = let q : k ≡ n = omega arith in rw (sym q) w
-
     -- the parts below an index are no longer than all
     parts_below : (n k : ℕ) → k ≤ n → length (concatenate k f) ≤ length (concatenate n f)
     unfolding concatenate

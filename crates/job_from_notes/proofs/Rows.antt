@@ -2,7 +2,7 @@
 use Prim.Native.Nat.{ℕ, ◌+◌, ◌≤◌, ◌<◌}
 use mathlib.Core.Path.{◌≡◌, refl, sym, ap, ◌∙◌}
 use mathlib.Core.Bool.{Bool, true, false}
-use mathlib.Core.List.{List, [], ◌∷◌, ◌++◌}
+use mathlib.Core.List.{List, [], ◌++◌}
 use native.Mathlib.Omega.{arith}
 use lib.ListN.{length, get_or}
 use lib.Seq.{sets, slice}
@@ -16,10 +16,10 @@ use Rattle.notes.specs.Notes.{role_in}
 use Rattle.job_notes.specs.Tables.{leading_noted}
 use Rattle.job_from_notes.specs.declared.brought.Kind.{Kind}
 use Rattle.job_from_notes.specs.declared.brought.Kind.TheVariants.{Conditions, Effects, Uses, Goals}
-use Rattle.job_from_notes.specs.Brought.{brings, goes_on, wanted, set, used, reached, row_noted, part_noted, parts_noted, parts_from, width_of}
+use Rattle.job_from_notes.specs.Brought.{brings, within, wanted, set, used, reached, row_noted, part_noted, parts_noted, parts_from, width_of}
 use Rattle.job_from_notes.specs.Putting.{Putting, Put}
 use Rattle.job_from_notes.proofs.Behind.{putting_room, putting_more, putting_end}
-use Rattle.job_from_notes.proofs.Walk.{slice_next, goes_there}
+use Rattle.job_from_notes.proofs.Walk.{slice_next, slice_none}
 
 -- a record of each kind is put
 module _ (l : List ℕ) (at s d c n a : ℕ) {kind : Kind} {out : List ℕ} where
@@ -73,42 +73,42 @@ module _ (s d : ℕ) where
   -- the notes of a walk from one on
   module _ (kind : Kind) (said numbers : List ℕ) (k : ℕ) where
     from_more :
-        k < length said → length said ≤ length numbers → goes_on kind (slice k (length said) said) ≡ true
+        k < length said → length said ≤ length numbers → within kind (get_or said k 0) ≡ true
         → {a : ℕ} → a ≡ leading_noted (slice (k + 1) (length said) said)
         → parts_from s d kind said numbers k
         ≡ part_noted s d kind (get_or said k 0) (get_or numbers k 0) a ++ parts_from s d kind said numbers (k + 1)
     unfolding parts_from parts_noted
-    from_more h w e q =
-        rw (q, slice_next said (length said) k h (omega arith), slice_next numbers (length said) k h w, sym (goes_there kind said k h) ∙ e)
+    from_more h w e q = rw (q, slice_next said (length said) k h (omega arith), slice_next numbers (length said) k h w, e)
 
-    none_there : (ws ns : List ℕ) → goes_on kind ws ≡ false → parts_noted s d kind ws ns ≡ []
-    unfolding goes_on parts_noted
-    none_there [] ns e = refl
-    none_there (w ∷ ws) [] e = refl
-    none_there (w ∷ ws) (n ∷ ns) e = rw e
+    -- nothing from a note on that the walk ends before, and nothing behind the last
+    from_over : k < length said → length said ≤ length numbers → within kind (get_or said k 0) ≡ false → parts_from s d kind said numbers k ≡ []
+    unfolding parts_from parts_noted
+    from_over h w e = rw (slice_next said (length said) k h (omega arith), slice_next numbers (length said) k h w, e)
 
-    from_done : goes_on kind (slice k (length said) said) ≡ false → parts_from s d kind said numbers k ≡ []
-    unfolding parts_from
-    from_done e = none_there _ _ e
+    from_end : length said ≤ k → k ≤ length said → parts_from s d kind said numbers k ≡ []
+    unfolding parts_from parts_noted
+    from_end h w = rw (slice_none said (length said) k h w)
 
     -- what is left of a walk: one more note, or nothing
     module _ {before : List ℕ} {from : ℕ} {whole : List ℕ} {at : ℕ} {out : List ℕ}
         (v : Putting before from whole (parts_from s d kind said numbers k) at out) where
-      module _ (h : k < length said) (w : length said ≤ length numbers) (e : goes_on kind (slice k (length said) said) ≡ true) {a : ℕ}
-          (q : a ≡ leading_noted (slice (k + 1) (length said) said)) where
-        pub notes_room : from + length whole ≤ length before → at + length (part_noted s d kind (get_or said k 0) (get_or numbers k 0) a) ≤ length out
-        notes_room r =
-            putting_room before from whole v (part_noted s d kind (get_or said k 0) (get_or numbers k 0) a) (parts_from s d kind said numbers (k + 1))
-            (from_more h w e q)
-            r
+      module _ (h : k < length said) (w : length said ≤ length numbers) where
+        module _ (e : within kind (get_or said k 0) ≡ true) {a : ℕ} (q : a ≡ leading_noted (slice (k + 1) (length said) said)) where
+          pub notes_room :
+              from + length whole ≤ length before → at + length (part_noted s d kind (get_or said k 0) (get_or numbers k 0) a) ≤ length out
+          notes_room =
+              putting_room before from whole v (part_noted s d kind (get_or said k 0) (get_or numbers k 0) a) (parts_from s d kind said numbers (k + 1))
+              (from_more h w e q)
 
-        pub notes_more :
-            {place : ℕ} {new : List ℕ} → Put out at (part_noted s d kind (get_or said k 0) (get_or numbers k 0) a) place new
-            → Putting before from whole (parts_from s d kind said numbers (k + 1)) place new
-        notes_more p =
-            putting_more before from whole v (part_noted s d kind (get_or said k 0) (get_or numbers k 0) a) (parts_from s d kind said numbers (k + 1))
-            (from_more h w e q)
-            p
+          pub notes_more :
+              {place : ℕ} {new : List ℕ} → Put out at (part_noted s d kind (get_or said k 0) (get_or numbers k 0) a) place new
+              → Putting before from whole (parts_from s d kind said numbers (k + 1)) place new
+          notes_more =
+              putting_more before from whole v (part_noted s d kind (get_or said k 0) (get_or numbers k 0) a) (parts_from s d kind said numbers (k + 1))
+              (from_more h w e q)
 
-      pub notes_end : goes_on kind (slice k (length said) said) ≡ false → Put before from whole at out
-      notes_end e = putting_end before from whole v (from_done e)
+        pub notes_over : within kind (get_or said k 0) ≡ false → Put before from whole at out
+        notes_over e = putting_end before from whole v (from_over h w e)
+
+      pub notes_end : length said ≤ k → k ≤ length said → Put before from whole at out
+      notes_end h w = putting_end before from whole v (from_end h w)

@@ -64,9 +64,6 @@ module _ (of : Opening) (said numbers before : List ℕ) where
   stated_more k {list} {new} z h l v e =
       let q : k ≡ k - 1 + 1 = omega arith in stated_next (k - 1) list new (omega arith) l (rw q at v) e
 
-  pub stated_end : (k : ℕ) {list : List ℕ} → k ≤ 0 → Stated of said numbers k before list → Stated of said numbers 0 before list
-  stated_end k h v = let q : k ≡ 0 = omega arith in rw q at v
-
 -- what notes say of facts and of levels
 pub stated_fact : (ws ns : List ℕ) (f : ℕ) → stated_noted Fact ws ns f ≡ initial_noted ws ns f
 unfolding stated_noted initial_noted

@@ -1,6 +1,6 @@
 -- One more note of a walk, and its end: how many records there are.
 use Prim.Native.Nat.{ℕ, ◌+◌, ◌≤◌, ◌<◌}
-use mathlib.Core.Path.{◌≡◌, refl, sym, ap, ◌∙◌}
+use mathlib.Core.Path.{◌≡◌, sym, ap, ◌∙◌}
 use mathlib.Core.Bool.{true, false, cond}
 use mathlib.Core.List.{List, [], ◌∷◌}
 use native.Mathlib.Numerals.{add-one}
@@ -11,7 +11,7 @@ use lib.Seq.{slice, slice_empty, slice-cons}
 use Rattle.notes.specs.Notes.{role_in}
 use Rattle.job_notes.specs.Tables.{number_noted, leading_noted, length_noted}
 use Rattle.job_from_notes.specs.declared.brought.Kind.{Kind}
-use Rattle.job_from_notes.specs.Brought.{brings, within, goes_on, count_noted, count_of_step}
+use Rattle.job_from_notes.specs.Brought.{brings, within, count_noted, count_of_step}
 
 -- the notes from a place on: the one there, and those behind it
 pub slice_next : (l : List ℕ) (n k : ℕ) → k < n → n ≤ length l → slice k n l ≡ get_or l k 0 ∷ slice (k + 1) n l
@@ -19,15 +19,6 @@ slice_next l n k h w = slice-cons k n l 0 h w ∙ sym (ap (λ j. get_or l k 0 �
 
 pub slice_none : (l : List ℕ) (n k : ℕ) → n ≤ k → k ≤ n → slice k n l ≡ []
 slice_none l n k h w = let q : k ≡ n = omega arith in rw q (slice_empty n l)
-
-module _ (kind : Kind) (said : List ℕ) (k : ℕ) where
-  pub goes_there : k < length said → goes_on kind (slice k (length said) said) ≡ within kind (get_or said k 0)
-  unfolding goes_on
-  goes_there h = rw (slice_next said (length said) k h (omega arith))
-
-  pub goes_not : length said ≤ k → k ≤ length said → goes_on kind (slice k (length said) said) ≡ false
-  unfolding goes_on
-  goes_not h w = rw (slice_none said (length said) k h w)
 
 pub leading_there : (said : List ℕ) (k : ℕ) → k < length said → leading_noted (slice k (length said) said) ≡ number_noted (get_or said k 0)
 unfolding leading_noted
@@ -39,19 +30,24 @@ leading_not said k h w = rw (slice_none said (length said) k h w)
 
 -- how many records there are
 module _ (kind : Kind) (duration : ℕ) where
-  pub count_done : (ws : List ℕ) → goes_on kind ws ≡ false → count_noted kind duration ws ≡ 0
-  unfolding goes_on count_noted
-  count_done [] e = refl
-  count_done (w ∷ ws) e = rw e
+  module _ (said : List ℕ) (k : ℕ) where
+    pub count_more :
+        k < length said → within kind (get_or said k 0) ≡ true
+        → count_noted kind duration (slice k (length said) said)
+        ≡ cond (brings kind duration (role_in (get_or said k 0))) 1 0 + count_noted kind duration (slice (k + 1) (length said) said)
+    unfolding count_noted
+    count_more h e = rw (slice_next said (length said) k h (omega arith), e)
 
-  pub count_more :
-      (said : List ℕ) (k : ℕ) → k < length said → goes_on kind (slice k (length said) said) ≡ true
-      → count_noted kind duration (slice k (length said) said)
-      ≡ cond (brings kind duration (role_in (get_or said k 0))) 1 0 + count_noted kind duration (slice (k + 1) (length said) said)
-  unfolding count_noted
-  count_more said k h e = rw (slice_next said (length said) k h (omega arith), sym (goes_there kind said k h) ∙ e)
+    -- none from a note on that the walk ends before, and none behind the last
+    pub count_over : k < length said → within kind (get_or said k 0) ≡ false → count_noted kind duration (slice k (length said) said) ≡ 0
+    unfolding count_noted
+    count_over h e = rw (slice_next said (length said) k h (omega arith), e)
 
--- one more step is counted, and all are
+    pub count_end : length said ≤ k → k ≤ length said → count_noted kind duration (slice k (length said) said) ≡ 0
+    unfolding count_noted
+    count_end h w = rw (slice_none said (length said) k h w)
+
+-- one more step is counted
 module _ (kind : Kind) (said plan acts : List ℕ) where
   pub planned_more :
       (s count : ℕ) {d r : ℕ} → count ≡ sum s (count_of_step kind said plan acts) → d ≡ length_noted plan s
@@ -59,7 +55,3 @@ module _ (kind : Kind) (said plan acts : List ℕ) where
       → count + r ≡ sum (s + 1) (count_of_step kind said plan acts)
   unfolding sum count_of_step
   planned_more s count e f g = rw add-one (rw (e, g, f))
-
-  pub planned_end :
-      (n s : ℕ) {count : ℕ} → count ≡ sum s (count_of_step kind said plan acts) → s ≤ n → n ≤ s → count ≡ sum n (count_of_step kind said plan acts)
-  planned_end n s e h g = let q : s ≡ n = omega arith in e ∙ ap (λ m. sum m (count_of_step kind said plan acts)) q

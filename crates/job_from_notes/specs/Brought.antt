@@ -1,5 +1,5 @@
 -- Inner: the records that notes bring, kind by kind: which notes do, which record it is, and its bytes.
-use Rattle.std.specs.Prelude.{ℕ, ◌+◌, ◌-◌, ◌/◌, ◌%◌, Bool, true, false, cond, not, ◌||◌, ◌&&◌, List, [], ◌∷◌, ◌++◌, eqb, ltb, leb, length, get_or}
+use Rattle.std.specs.Prelude.{ℕ, ◌+◌, ◌-◌, ◌/◌, ◌%◌, Bool, true, cond, not, ◌||◌, ◌&&◌, List, [], ◌∷◌, ◌++◌, eqb, ltb, leb, length, get_or}
 use Rattle.std.proofs.Math.Seq.{slice}
 use Rattle.laws.specs.Fold.{sum}
 use Rattle.laws.specs.Listed.{concatenate}
@@ -31,10 +31,6 @@ within Conditions w = in_action_noted w
 within Effects w = in_action_noted w
 within Uses w = in_action_noted w
 within Goals w = true
-
-unfoldable pub goes_on : Kind → List ℕ → Bool
-goes_on kind [] = false
-goes_on kind (w ∷ ws) = within kind w
 
 -- the records that notes bring, up to the walk's end
 unfoldable pub count_noted : Kind → ℕ → List ℕ → ℕ

@@ -1,9 +1,9 @@
 // Which notes bring a record of a kind, and the numbers that notes hold.
-ghost use Rattle.std.specs.Prelude.{◌≡◌, true, ◌/◌, ◌≤◌, ◌<◌, length};
+ghost use Rattle.std.specs.Prelude.{◌≡◌, ◌/◌, ◌≤◌, ◌<◌, length};
 ghost use Rattle.std.proofs.Math.Seq.{slice};
 ghost use Rattle.little_endian.specs.Bytes.{u32_values};
 ghost use Rattle.job_notes.specs.Tables.{number_noted, leading_noted, in_action_noted, length_noted};
-ghost use Rattle.job_from_notes.specs.Brought.{brings, within, goes_on};
+ghost use Rattle.job_from_notes.specs.Brought.{brings, within};
 
 use notes::{GIVEN, NUMBER, OVER_ALL, REACHED, RISE, SET, WANTED, WANTED_AT_END};
 
@@ -47,7 +47,7 @@ fn in_action(w: u64) -> bool
 }
 
 // Whether a walk goes on over a note: an action's to its end, that for goals over all notes.
-fn within(kind: Kind, w: u64) -> bool
+pub fn within(kind: Kind, w: u64) -> bool
     ensures { result ≡ within kind w }
 {
     match kind {
@@ -55,19 +55,6 @@ fn within(kind: Kind, w: u64) -> bool
         Kind::Effects => in_action(w),
         Kind::Uses => in_action(w),
         Kind::Goals => true,
-    }
-}
-
-// Whether it goes on there.
-pub fn goes_on(kind: Kind, said: &[u64], k: usize) -> bool
-    requires { k ≤ length said.now }
-    ensures value { result ≡ goes_on kind (slice k (length said.now) said.now) }
-    ensures inside { result ≡ true → k < length said.now }
-{
-    if k < said.len() {
-        within(kind, said[k])
-    } else {
-        false
     }
 }
 

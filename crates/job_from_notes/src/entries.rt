@@ -1,12 +1,13 @@
 // The records that notes bring, written one behind the other.
-ghost use Rattle.std.specs.Prelude.{◌≡◌, cond, ◌+◌, ◌-◌, ◌/◌, ◌≤◌, ◌<◌, length};
+ghost use Rattle.std.specs.Prelude.{◌≡◌, ◌+◌, ◌/◌, ◌≤◌, ◌<◌, length};
 ghost use Rattle.std.proofs.lemmas.List.Edits.{sets};
 ghost use Rattle.little_endian.specs.Bytes.{u32_values};
 ghost use Rattle.job_from_notes.specs.Brought.{wanted, set, used, reached, row_noted, part_noted, width_of, parts_from, planned_bytes};
 ghost use Rattle.job_from_notes.specs.Counted.{Walked};
 ghost use Rattle.job_from_notes.specs.Putting.{Put};
 
-use crate::brought::{Kind, brings, goes_on, lasts, leading};
+use crate::brought::{Kind, brings, lasts, leading, within};
+use crate::noted::Noted;
 use job::layout::{CONDITION, EFFECT, GOAL, USE, WIDTHS};
 use job::records::{Condition, Effect, Goal, NO_DEADLINE, Use};
 use job_writer::{write_condition, write_effect, write_goal, write_use};
@@ -20,32 +21,22 @@ pub struct Span {
     pub duration: usize,
 }
 
-// One number or the other.
-fn pick(test: bool, yes: usize, no: usize) -> usize
-    ensures { result ≡ cond test yes no }
-{
-    if test { yes } else { no }
-}
-
-// A difference, 0 where there is none.
-fn less(a: usize, b: usize) -> usize
-    ensures { result ≡ a - b }
-{
-    if a < b { 0 } else { a - b }
-}
-
 // The record that a note of a role brings, whose name has a number.
 fn wanted(span: Span, role: usize, fact: u16) -> Condition
     ensures { result ≡ wanted span.step span.duration role fact }
 {
-    let duration = span.duration;
-    let from = pick(role < WANTED_AT_END, 1, duration);
-    let to = pick(role < WANTED_AT_END, less(duration, 1), duration);
+    let (from, to) = if role < OVER_ALL {
+        (0, 0)
+    } else if role < WANTED_AT_END {
+        (1, span.duration.saturating_sub(1))
+    } else {
+        (span.duration, span.duration)
+    };
     Condition {
         step: span.step,
         fact,
-        from: pick(role < OVER_ALL, 0, from),
-        to: pick(role < OVER_ALL, 0, to),
+        from,
+        to,
         value: (role % 2) as u16,
     }
 }
@@ -56,7 +47,7 @@ fn set(span: Span, role: usize, fact: u16) -> Effect
     Effect {
         step: span.step,
         fact,
-        at: pick(role < SET_AT_END, 0, span.duration),
+        at: if role < SET_AT_END { 0 } else { span.duration },
         value: (role % 2) as u16,
     }
 }
@@ -68,8 +59,12 @@ fn used(span: Span, role: usize, level: u16, amount: usize) -> Use
     Use {
         step: span.step,
         level,
-        at: pick(role % 2 == 0, 0, span.duration),
-        amount: pick(role < FALL, SIGN_BIAS + amount, less(SIGN_BIAS, amount)),
+        at: if role % 2 == 0 { 0 } else { span.duration },
+        amount: if role < FALL {
+            SIGN_BIAS + amount
+        } else {
+            SIGN_BIAS.saturating_sub(amount)
+        },
     }
 }
 
@@ -133,32 +128,27 @@ fn write_note(
 // Puts those of the notes from a place on, up to the walk's end.
 pub fn write_notes(
     kind: Kind,
-    said: &[u64],
-    numbers: &[u16],
+    noted: Noted,
     from: usize,
     span: Span,
     at: usize,
     out: &mut [u8],
 ) -> usize
-    requires { (from ≤ length said.now) × (length said.now ≤ length numbers.now)
-        × (at + length (parts_from span.step span.duration kind said.now numbers.now from) ≤ length out.old) }
+    requires { (from ≤ length noted.said.now)
+        × (at + length (parts_from span.step span.duration kind noted.said.now noted.numbers.now from) ≤ length out.old) }
     ensures { Put out.old at
-        (parts_from span.step span.duration kind said.now numbers.now from)
+        (parts_from span.step span.duration kind noted.entry.said.now noted.entry.numbers.now from)
         result out.new }
 {
+    let said = noted.said;
     let mut next = at;
-    let mut k = from;
-    while goes_on(kind, said, k) {
-        next = write_note(
-            kind,
-            said[k],
-            numbers[k],
-            leading(said, k + 1),
-            span,
-            next,
-            out,
-        );
-        k += 1;
+    for k in from..said.len() {
+        let w = said[k];
+        if !within(kind, w) {
+            return next;
+        }
+        let amount = leading(said, k + 1);
+        next = write_note(kind, w, noted.numbers[k], amount, span, next, out);
     }
     next
 }
@@ -166,29 +156,25 @@ pub fn write_notes(
 // Puts those of all steps.
 pub fn write_planned(
     kind: Kind,
-    said: &[u64],
-    numbers: &[u16],
+    noted: Noted,
     plan: &[u64],
     acts: &[u16],
     at: usize,
     out: &mut [u8],
 ) -> usize
-    requires { Walked said.now plan.now acts.now × (length said.now ≤ length numbers.now)
-        × (at + length (planned_bytes kind said.now numbers.now plan.now acts.now) ≤ length out.old) }
+    requires { Walked noted.said.now plan.now acts.now
+        × (at + length (planned_bytes kind noted.said.now noted.numbers.now plan.now acts.now) ≤ length out.old) }
     ensures { Put out.old at
-        (planned_bytes kind said.now numbers.now plan.now acts.now)
+        (planned_bytes kind noted.entry.said.now noted.entry.numbers.now plan.now acts.now)
         result out.new }
 {
-    let steps = plan.len() / 3;
     let mut next = at;
-    let mut s = 0;
-    while s < steps {
+    for s in 0..plan.len() / 3 {
         let span = Span {
             step: s as u16,
             duration: lasts(plan, s),
         };
-        next = write_notes(kind, said, numbers, acts[s] as usize, span, next, out);
-        s += 1;
+        next = write_notes(kind, noted, usize::from(acts[s]), span, next, out);
     }
     next
 }

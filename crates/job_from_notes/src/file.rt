@@ -15,6 +15,7 @@ ghost use Rattle.job_from_notes.specs.Whole.{Writable};
 
 use crate::brought::{Kind, lasts, number};
 use crate::entries::{Span, write_notes, write_planned};
+use crate::noted::Noted;
 use crate::opening::{Opening, find_stated};
 use job::layout::{Counts, HIGHEST_LEVEL, Job, LEVEL, SHORTEST_HEADER, STEP, WIDTHS};
 use job::records::{Level, Step};
@@ -31,11 +32,9 @@ fn write_facts(facts: usize, list: &[usize], at: usize, out: &mut [u8]) -> usize
     ensures { Put out.old at (concatenate facts (byte_in list.now)) result out.new }
 {
     let mut next = at;
-    let mut f = 0;
-    while f < facts {
+    for f in 0..facts {
         put_byte(next, list[f] as u8, out);
         next += 1;
-        f += 1;
     }
     next
 }
@@ -47,8 +46,7 @@ fn write_levels(levels: usize, list: &[usize], at: usize, out: &mut [u8]) -> usi
     ensures { Put out.old at (concatenate levels (level_in list.now)) result out.new }
 {
     let mut next = at;
-    let mut l = 0;
-    while l < levels {
+    for l in 0..levels {
         let level = Level {
             initial: SIGN_BIAS + list[l],
             least: SIGN_BIAS,
@@ -56,30 +54,27 @@ fn write_levels(levels: usize, list: &[usize], at: usize, out: &mut [u8]) -> usi
         };
         write_level(next, level, out);
         next += WIDTHS[LEVEL];
-        l += 1;
     }
     next
 }
 
 // Puts what the text says of the first facts.
-fn write_given(said: &[u64], numbers: &[u16], facts: usize, at: usize, out: &mut [u8]) -> usize
-    requires { (length said.now ≤ length numbers.now) × (facts ≤ most_facts)
-        × (at + length (given_bytes facts said.now numbers.now) ≤ length out.old) }
-    ensures { Put out.old at (given_bytes facts said.now numbers.now) result out.new }
+fn write_given(noted: Noted, facts: usize, at: usize, out: &mut [u8]) -> usize
+    requires { (facts ≤ most_facts) × (at + length (given_bytes facts noted.said.now noted.numbers.now) ≤ length out.old) }
+    ensures { Put out.old at (given_bytes facts noted.entry.said.now noted.entry.numbers.now) result out.new }
 {
     let mut list = [0; Job::FACTS as usize];
-    find_stated(Opening::Fact, said, numbers, &mut list);
+    find_stated(Opening::Fact, noted, &mut list);
     write_facts(facts, &list, at, out)
 }
 
 // Puts what it says of the first levels.
-fn write_stocks(said: &[u64], numbers: &[u16], levels: usize, at: usize, out: &mut [u8]) -> usize
-    requires { (length said.now ≤ length numbers.now) × (levels ≤ most_levels)
-        × (at + length (stock_bytes levels said.now numbers.now) ≤ length out.old) }
-    ensures { Put out.old at (stock_bytes levels said.now numbers.now) result out.new }
+fn write_stocks(noted: Noted, levels: usize, at: usize, out: &mut [u8]) -> usize
+    requires { (levels ≤ most_levels) × (at + length (stock_bytes levels noted.said.now noted.numbers.now) ≤ length out.old) }
+    ensures { Put out.old at (stock_bytes levels noted.entry.said.now noted.entry.numbers.now) result out.new }
 {
     let mut list = [0; Job::LEVELS as usize];
-    find_stated(Opening::Level, said, numbers, &mut list);
+    find_stated(Opening::Level, noted, &mut list);
     write_levels(levels, &list, at, out)
 }
 
@@ -96,10 +91,8 @@ fn write_steps(plan: &[u64], at: usize, out: &mut [u8]) -> usize
     requires { at + length (step_bytes plan.now) ≤ length out.old }
     ensures { Put out.old at (step_bytes plan.now) result out.new }
 {
-    let steps = plan.len() / 3;
     let mut next = at;
-    let mut s = 0;
-    while s < steps {
+    for s in 0..plan.len() / 3 {
         let step = Step {
             start: starts(plan, s),
             length: lasts(plan, s),
@@ -107,21 +100,20 @@ fn write_steps(plan: &[u64], at: usize, out: &mut [u8]) -> usize
         };
         write_step(next, step, out);
         next += WIDTHS[STEP];
-        s += 1;
     }
     next
 }
 
 // Puts the goals.
-fn write_goals(said: &[u64], numbers: &[u16], at: usize, out: &mut [u8]) -> usize
-    requires { (length said.now ≤ length numbers.now) × (at + length (goal_bytes said.now numbers.now) ≤ length out.old) }
-    ensures { Put out.old at (goal_bytes said.now numbers.now) result out.new }
+fn write_goals(noted: Noted, at: usize, out: &mut [u8]) -> usize
+    requires { at + length (goal_bytes noted.said.now noted.numbers.now) ≤ length out.old }
+    ensures { Put out.old at (goal_bytes noted.entry.said.now noted.entry.numbers.now) result out.new }
 {
     let span = Span {
         step: 0,
         duration: 0,
     };
-    write_notes(Kind::Goals, said, numbers, 0, span, at, out)
+    write_notes(Kind::Goals, noted, 0, span, at, out)
 }
 
 // Writes the file of the job, and answers its length; the bytes past its end stay.
@@ -146,12 +138,13 @@ pub fn write_job(
         (tables_in count.facts count.levels said.now numbers.now plan.now acts.now)))
         out.old }
 {
+    let noted = Noted { said, numbers };
     write_header(count, out);
-    let levels = write_given(said, numbers, count.facts as usize, SHORTEST_HEADER, out);
-    let steps = write_stocks(said, numbers, count.levels as usize, levels, out);
+    let levels = write_given(noted, count.facts as usize, SHORTEST_HEADER, out);
+    let steps = write_stocks(noted, count.levels as usize, levels, out);
     let conditions = write_steps(plan, steps, out);
-    let effects = write_planned(Kind::Conditions, said, numbers, plan, acts, conditions, out);
-    let uses = write_planned(Kind::Effects, said, numbers, plan, acts, effects, out);
-    let goals = write_planned(Kind::Uses, said, numbers, plan, acts, uses, out);
-    write_goals(said, numbers, goals, out)
+    let effects = write_planned(Kind::Conditions, noted, plan, acts, conditions, out);
+    let uses = write_planned(Kind::Effects, noted, plan, acts, effects, out);
+    let goals = write_planned(Kind::Uses, noted, plan, acts, uses, out);
+    write_goals(noted, goals, out)
 }

@@ -4,5 +4,6 @@
 mod brought;
 mod entries;
 pub mod file;
+mod noted;
 mod opening;
 pub mod tally;

@@ -4,6 +4,7 @@ ghost use Rattle.std.proofs.Math.Seq.{slice};
 ghost use Rattle.job_from_notes.specs.Opening.{states, amount_in, Stated};
 
 use crate::brought::leading;
+use crate::noted::Noted;
 use notes::{GIVEN, STOCK};
 
 // What is said of the beginning.
@@ -39,8 +40,9 @@ fn amount(of: Opening, said: &[u64], k: usize) -> usize
 fn store(n: u16, value: usize, list: &mut [usize])
     ensures { list.new ≡ set list.old n value }
 {
-    if (n as usize) < list.len() {
-        list[n as usize] = value;
+    let n = usize::from(n);
+    if n < list.len() {
+        list[n] = value;
     }
 }
 
@@ -58,13 +60,11 @@ fn store_stated(of: Opening, said: &[u64], k: usize, n: u16, list: &mut [usize])
 }
 
 // Fills a list of zeros, from the last note to the first, so that the first one said of a name counts.
-pub fn find_stated(of: Opening, said: &[u64], numbers: &[u16], list: &mut [usize])
-    requires { (length said.now ≤ length numbers.now) × ((f : ℕ) → f < length list.old → get_or list.old f 0 ≡ 0) }
-    ensures { Stated of said.now numbers.now 0 list.old list.new }
+pub fn find_stated(of: Opening, noted: Noted, list: &mut [usize])
+    requires { (f : ℕ) → f < length list.old → get_or list.old f 0 ≡ 0 }
+    ensures { Stated of noted.entry.said.now noted.entry.numbers.now 0 list.old list.new }
 {
-    let mut k = said.len();
-    while 0 < k {
-        k -= 1;
-        store_stated(of, said, k, numbers[k], list);
+    for k in (0..noted.said.len()).rev() {
+        store_stated(of, noted.said, k, noted.numbers[k], list);
     }
 }

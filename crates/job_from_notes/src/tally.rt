@@ -1,11 +1,10 @@
 // How many records of each kind the notes bring.
-ghost use Rattle.std.specs.Prelude.{◌≡◌, cond, List, ℕ, ◌≤◌, length};
+ghost use Rattle.std.specs.Prelude.{◌≡◌, List, ℕ, ◌≤◌, length};
 ghost use Rattle.std.proofs.Math.Seq.{slice};
-ghost use Rattle.notes.specs.Notes.{role_in};
-ghost use Rattle.job_from_notes.specs.Brought.{brings, count_noted, count_planned};
+ghost use Rattle.job_from_notes.specs.Brought.{count_noted, count_planned};
 ghost use Rattle.job_from_notes.specs.Counted.{tables_in, Walked, Counted};
 
-use crate::brought::{Kind, brings, goes_on, lasts};
+use crate::brought::{Kind, brings, lasts, within};
 
 // How many records each table has that steps bring.
 #[derive(Clone, Copy)]
@@ -15,17 +14,6 @@ pub struct Totals {
     pub uses: usize,
 }
 
-// 1 where a note brings a record.
-fn one(kind: Kind, w: u64, duration: usize) -> usize
-    ensures { (result ≡ cond (brings kind duration (role_in w)) 1 0) × (result ≤ 1) }
-{
-    if brings(kind, notes::role(w), duration) {
-        1
-    } else {
-        0
-    }
-}
-
 // Those of the notes from a place on, up to the walk's end.
 fn count_notes(kind: Kind, said: &[u64], from: usize, duration: usize) -> usize
     requires { from ≤ length said.now }
@@ -33,10 +21,12 @@ fn count_notes(kind: Kind, said: &[u64], from: usize, duration: usize) -> usize
         × (result ≤ length said.now) }
 {
     let mut count = 0;
-    let mut k = from;
-    while goes_on(kind, said, k) {
-        count += one(kind, said[k], duration);
-        k += 1;
+    for k in from..said.len() {
+        let w = said[k];
+        if !within(kind, w) {
+            return count;
+        }
+        count += usize::from(brings(kind, notes::role(w), duration));
     }
     count
 }
@@ -46,12 +36,9 @@ fn count_planned(kind: Kind, said: &[u64], plan: &[u64], acts: &[u16]) -> usize
     requires { Walked said.now plan.now acts.now }
     ensures { result ≡ count_planned kind said.now plan.now acts.now }
 {
-    let steps = plan.len() / 3;
     let mut count = 0;
-    let mut s = 0;
-    while s < steps {
-        count += count_notes(kind, said, acts[s] as usize, lasts(plan, s));
-        s += 1;
+    for s in 0..plan.len() / 3 {
+        count += count_notes(kind, said, usize::from(acts[s]), lasts(plan, s));
     }
     count
 }

@@ -29,7 +29,7 @@ pub fn find(text: &[u8], said: &[u64], index: &[u16], m: usize, word: &[u8]) -> 
 {
     let key = mix(word);
     let mut j = usize::from(index[key]);
-    // The links of a key lead from each item to one before it.
+    // Each link leads to some item further back, so there is no range to go over.
     while j < m {
         let note = said[j];
         if word_is(text, name_at(note), name_end(note), word) {

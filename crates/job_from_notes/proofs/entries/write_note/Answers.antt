@@ -1,6 +1,4 @@
 -- A note brings one record or none.
-use native.Mathlib.Omega.{arith}
-use lib.ListN.{length}
 use Rattle.job_from_notes.proofs.Rows.{note_room, note_put, note_none}
 use Rattle.job_from_notes.proofs.entries.write_note.Goals as goal
 
@@ -11,18 +9,6 @@ write_row-requires c =
           c.brings.ensures args.at _ c.if-brings.true c.requires.0,
       c.requires.1,
     )
-
-pub overflow_add-result : goal.overflow_add-result
-overflow_add-result c =
-    let args = c.args in
-    let room =
-    note_room args.span.step args.span.duration args.kind args.w args.n args.amount c.role-role.ensures
-    c.brings.ensures
-    args.at
-    (length args.out.now)
-    c.if-brings.true
-    c.requires.0 in
-    omega (arith, room, c.width.ensures, c.well_formed.1.1.1.1.1.1.0)
 
 pub returns-then-brings : goal.returns-then-brings
 returns-then-brings c =

@@ -1,12 +1,7 @@
-use Prim.Native.Nat.{◌-◌, ◌≤◌}
 use Rattle.laws.specs.Listed.{concatenate}
 use Rattle.job_from_notes.specs.Brought.{parts_of_step}
 use Rattle.job_from_notes.specs.Putting.{Put}
 use Rattle.job_from_notes.proofs.entries.write_planned.Given as goal
 
 abbrev pub invariant-loop-s : goal.invariant-loop-s
-invariant-loop-s l =
-    (l.s ≤ l.steps) × Put l.initial.out l.at (concatenate l.s (parts_of_step l.kind l.said l.numbers l.plan l.acts)) l.next l.out
-
-abbrev pub decreases-loop-s : goal.decreases-loop-s
-decreases-loop-s l = l.steps - l.s
+invariant-loop-s l = Put l.initial.out l.at (concatenate l.s (parts_of_step l.kind l.noted.said.now l.noted.numbers.now l.plan l.acts)) l.next l.out

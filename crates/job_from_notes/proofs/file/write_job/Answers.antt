@@ -8,14 +8,14 @@ pub write_given-levels-requires : goal.write_given-levels-requires
 write_given-levels-requires c =
     let w = c.requires in
     let p0 = after_header w c.write_header.ensures in
-    (w.numbered, few_facts w, facts_fit w p0)
+    (few_facts w, facts_fit w p0)
 
 pub write_stocks-steps-requires : goal.write_stocks-steps-requires
 write_stocks-steps-requires c =
     let w = c.requires in
     let p0 = after_header w c.write_header.ensures in
     let p1 = after_facts w p0 c.write_given-levels.ensures in
-    (w.numbered, few_levels w, levels_fit w p1)
+    (few_levels w, levels_fit w p1)
 
 pub write_steps-conditions-requires : goal.write_steps-conditions-requires
 write_steps-conditions-requires c =
@@ -32,7 +32,7 @@ write_planned-effects-requires c =
     let p1 = after_facts w p0 c.write_given-levels.ensures in
     let p2 = after_levels w p1 c.write_stocks-steps.ensures in
     let p3 = after_steps w p2 c.write_steps-conditions.ensures in
-    (w.walked, w.numbered, conditions_fit w p3)
+    (w.walked, conditions_fit w p3)
 
 pub write_planned-uses-requires : goal.write_planned-uses-requires
 write_planned-uses-requires c =
@@ -42,7 +42,7 @@ write_planned-uses-requires c =
     let p2 = after_levels w p1 c.write_stocks-steps.ensures in
     let p3 = after_steps w p2 c.write_steps-conditions.ensures in
     let p4 = after_conditions w p3 c.write_planned-effects.ensures in
-    (w.walked, w.numbered, effects_fit w p4)
+    (w.walked, effects_fit w p4)
 
 pub write_planned-goals-requires : goal.write_planned-goals-requires
 write_planned-goals-requires c =
@@ -53,7 +53,7 @@ write_planned-goals-requires c =
     let p3 = after_steps w p2 c.write_steps-conditions.ensures in
     let p4 = after_conditions w p3 c.write_planned-effects.ensures in
     let p5 = after_effects w p4 c.write_planned-uses.ensures in
-    (w.walked, w.numbered, uses_fit w p5)
+    (w.walked, uses_fit w p5)
 
 pub write_goals-requires : goal.write_goals-requires
 write_goals-requires c =
@@ -65,7 +65,7 @@ write_goals-requires c =
     let p4 = after_conditions w p3 c.write_planned-effects.ensures in
     let p5 = after_effects w p4 c.write_planned-uses.ensures in
     let p6 = after_uses_lem w p5 c.write_planned-goals.ensures in
-    (w.numbered, goals_fit w p6)
+    goals_fit w p6
 
 pub shape_of-out : goal.shape_of-out
 shape_of-out c =

@@ -1,11 +1,7 @@
-use Prim.Native.Nat.{◌-◌, ◌≤◌}
 use Rattle.laws.specs.Listed.{concatenate}
 use Rattle.job_from_notes.specs.Putting.{Put}
 use Rattle.job_from_notes.specs.TableBytes.{level_in}
 use Rattle.job_from_notes.proofs.file.write_levels.Given as goal
 
 abbrev pub invariant-loop-l : goal.invariant-loop-l
-invariant-loop-l l = (l.l ≤ l.levels) × Put l.initial.out l.at (concatenate l.l (level_in l.list)) l.next l.out
-
-abbrev pub decreases-loop-l : goal.decreases-loop-l
-decreases-loop-l l = l.levels - l.l
+invariant-loop-l l = Put l.initial.out l.at (concatenate l.l (level_in l.list)) l.next l.out

@@ -1,36 +1,36 @@
 -- What is counted and what the notes from here on bring make up the whole.
-use mathlib.Core.Path.{sym, ◌∙◌}
+use Prim.Native.Nat.{◌≤◌}
+use mathlib.Core.Bool.{Bool, true, false, cond}
+use mathlib.Core.Path.{◌≡◌, refl, sym, ap, ◌∙◌}
+use mir.Val.{bool_byte}
 use native.Mathlib.Omega.{arith}
-use Rattle.job_from_notes.proofs.Walk.{count_done, count_more}
+use Rattle.job_from_notes.specs.Brought.{brings}
+use Rattle.job_from_notes.proofs.Walk.{count_more, count_over, count_end}
 use Rattle.job_from_notes.proofs.tally.count_notes.Goals as goal
 
-pub loop-kind-init : goal.loop-kind-init
-loop-kind-init c = (omega arith, omega arith, omega arith)
+as_number : (t : Bool) → bool_byte t ≡ cond t 1 0
+as_number true = refl
+as_number false = refl
 
-pub goes_on-requires : goal.goes_on-requires
-goes_on-requires c = omega arith
+one_at_most : (t : Bool) → bool_byte t ≤ 1
+one_at_most true = omega arith
+one_at_most false = omega arith
 
-pub bounds-said-k : goal.bounds-said-k
-bounds-said-k c = c.goes_on.ensures.inside c.loop-kind-test.true
-
-pub overflow_add-count : goal.overflow_add-count
-overflow_add-count c = omega (arith, c.one-count.ensures.1)
-
-pub loop-kind-smaller : goal.loop-kind-smaller
-loop-kind-smaller c = let there = c.goes_on.ensures.inside c.loop-kind-test.true in omega arith
-
-pub loop-kind-preserved : goal.loop-kind-preserved
-loop-kind-preserved c =
-    let taken = c.loop-kind-test.true in
-    let there = c.goes_on.ensures.inside taken in
+pub returns-then-not-within : goal.returns-then-not-within
+returns-then-not-within c =
     let start = c.args in
-    let more = count_more start.kind start.duration start.said.now _ there (sym c.goes_on.ensures.value ∙ taken) in
-    let v = c.loop-kind.invariant in
-    (omega arith, omega (arith, c.one-count.ensures.1), omega (arith, more, c.one-count.ensures.0, v.2))
+    let over = count_over start.kind start.duration start.said.now _ c.loop-k-test.true (sym c.within.ensures ∙ c.if-not-within.true) in
+    (omega (arith, c.loop-k.invariant.1, over), omega arith)
+
+pub loop-k-preserved : goal.loop-k-preserved
+loop-k-preserved c =
+    let start = c.args in
+    let more = count_more start.kind start.duration start.said.now _ c.loop-k-test.true (sym c.within.ensures ∙ c.if-not-within.false) in
+    let one = c.from-count.ensures ∙ as_number _ ∙ ap (λ b. cond b 1 0) (c.brings.ensures ∙ ap (λ r. brings start.kind start.duration r) c.role.ensures) in
+    (omega (arith, c.from-count.ensures, one_at_most c.brings.result), omega (arith, more, one, c.loop-k.invariant.1))
 
 pub returns : goal.returns
 returns c =
     let start = c.args in
-    let v = c.loop-kind.invariant in
-    let done = count_done start.kind start.duration _ (sym c.goes_on.ensures.value ∙ c.loop-kind-test.false) in
-    (omega (arith, v.2, done), omega arith)
+    let end = count_end start.kind start.duration start.said.now _ c.loop-k-test.false (omega arith) in
+    (omega (arith, c.loop-k.invariant.1, end), omega arith)

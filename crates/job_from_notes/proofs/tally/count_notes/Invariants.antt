@@ -1,14 +1,11 @@
-use Prim.Native.Nat.{◌+◌, ◌-◌, ◌≤◌}
+use Prim.Native.Nat.{◌+◌, ◌≤◌}
 use mathlib.Core.Path.{◌≡◌}
 use lib.ListN.{length}
 use lib.Seq.{slice}
 use Rattle.job_from_notes.specs.Brought.{count_noted}
 use Rattle.job_from_notes.proofs.tally.count_notes.Given as goal
 
-abbrev pub invariant-loop-kind : goal.invariant-loop-kind
-invariant-loop-kind l =
-    (l.k ≤ length l.said) × (l.count ≤ l.k)
+abbrev pub invariant-loop-k : goal.invariant-loop-k
+invariant-loop-k l =
+    (l.count ≤ l.k)
     × (l.count + count_noted l.kind l.duration (slice l.k (length l.said) l.said) ≡ count_noted l.kind l.duration (slice l.from (length l.said) l.said))
-
-abbrev pub decreases-loop-kind : goal.decreases-loop-kind
-decreases-loop-kind l = length l.said - l.k

@@ -1,4 +1,4 @@
-use Prim.Native.Nat.{◌-◌, ◌*◌, ◌≤◌}
+use Prim.Native.Nat.{◌*◌, ◌≤◌}
 use mathlib.Core.Path.{◌≡◌}
 use Rattle.laws.specs.Fold.{sum}
 use Rattle.spelling.specs.Tokens.{text_most}
@@ -7,7 +7,4 @@ use Rattle.job_from_notes.proofs.tally.count_planned.Given as goal
 
 abbrev pub invariant-loop-s : goal.invariant-loop-s
 invariant-loop-s l =
-    (l.s ≤ l.steps) × (l.count ≤ text_most * l.s) × (l.count ≡ sum l.s (count_of_step l.kind l.said l.plan l.acts))
-
-abbrev pub decreases-loop-s : goal.decreases-loop-s
-decreases-loop-s l = l.steps - l.s
+    (l.count ≤ text_most * l.s) × (l.count ≡ sum l.s (count_of_step l.kind l.said l.plan l.acts))
