@@ -13,7 +13,9 @@ use Rattle.grammar.specs.Said.{Item}
 use Rattle.grammar.specs.Reader.{refused}
 use Rattle.grammar.specs.Reading.{action_reading}
 use Rattle.notes.specs.Notes.{line_in, item_in, nothing, items_in, Sound}
-use Rattle.token_reader.specs.Reading.{heard, answer}
+use Rattle.token_reader.specs.Reading.{fault_of, heard, answer}
+use Rattle.std.specs.Prelude.{Some}
+use Rattle.token_reader.specs.declared.Fault.TheVariants.{OutsideGrammar}
 use Rattle.token_reader.specs.declared.Reader.{Reader}
 use Rattle.text_reader.specs.Heard.{Heard}
 use Rattle.supplied.specs.Names.{with_names}
@@ -44,14 +46,14 @@ module _ (text said : List ℕ) (r : Reader) (h : Heard false (action_reading te
         ≡ cond (ltb n.clash r.count) (refused 18 (get_or items n.clash nothing).line (take n.clash items)) (answer text said r)
     unfolding actions_read answer heard
     named_reading =
-        ap with_names h.same ∙ names_first (eqb r.fault 0) items r.fault r.line
+        ap with_names h.same ∙ names_first (eqb (fault_of r) 0) items (fault_of r) r.line
         ∙ f.clashing (answer text said r)
         ∙ ap (λ k. cond (ltb n.clash k) (refused 18 (get_or items n.clash nothing).line (take n.clash items)) (answer text said r)) notes_length
 
     -- a name that may not stand there is refused at its line
     pub clash_understood :
         (line : ℕ) → n.clash < r.count → line ≡ line_in (get_or said n.clash 0) → line < 65536
-        → Understood text said numbers index (record { fault = 18; line = line; count = r.count; names = n })
+        → Understood text said numbers index (record { fault = Some OutsideGrammar; line = line; count = r.count; names = n })
     unfolding item_in heard
     clash_understood line l e b = record {
       size = h.size;
@@ -76,8 +78,8 @@ module _ (text said : List ℕ) (r : Reader) (h : Heard false (action_reading te
       few = h.few;
       line = h.line;
       fault = h.fault;
-      refuses = λ z. (items, named_reading ∙ rw (le-ltb n.clash r.count l, ne_eqb r.fault 0 z));
-      reads = λ z. named_reading ∙ rw (le-ltb n.clash r.count l, eq-eqb r.fault 0 z);
+      refuses = λ z. (items, named_reading ∙ rw (le-ltb n.clash r.count l, ne_eqb (fault_of r) 0 z));
+      reads = λ z. named_reading ∙ rw (le-ltb n.clash r.count l, eq-eqb (fault_of r) 0 z);
       readable = notes_readable;
       named = λ z. f.named (omega (arith, l, f.within, notes_length));
     }
