@@ -16,7 +16,7 @@ use Rattle.notes.specs.Notes.{line_in, item_in, items_in, Sound}
 use Rattle.job.specs.Layout.{highest, count_list, count_too_high}
 use Rattle.job.specs.Model.{Model}
 use Rattle.job_encoding.specs.Encode.{counts_in, encode}
-use Rattle.token_reader.specs.Reading.{heard, answer}
+use Rattle.token_reader.specs.Reading.{fault_of, heard, answer}
 use Rattle.token_reader.specs.declared.Reader.{Reader}
 use Rattle.text_reader.specs.Heard.{Heard}
 use Rattle.supplied.specs.Plan.{lines_of}
@@ -58,19 +58,19 @@ module _ (plan lines : List ℕ) (r : Reader) (h : Heard true (plan_reading plan
   abbrev said : List Item
   said = items_in plan (take r.count lines)
 
-  plan_refused : (r.fault ≡ 0 → ⊥) → plan_reading plan ≡ refused r.fault r.line said
+  plan_refused : (fault_of r ≡ 0 → ⊥) → plan_reading plan ≡ refused (fault_of r) r.line said
   unfolding answer heard
-  plan_refused z = h.same ∙ rw (ne_eqb r.fault 0 z)
+  plan_refused z = h.same ∙ rw (ne_eqb (fault_of r) 0 z)
 
-  plan_read_lem : r.fault ≡ 0 → plan_reading plan ≡ read said
+  plan_read_lem : fault_of r ≡ 0 → plan_reading plan ≡ read said
   unfolding answer heard
-  plan_read_lem z = h.same ∙ rw (eq-eqb r.fault 0 z)
+  plan_read_lem z = h.same ∙ rw (eq-eqb (fault_of r) 0 z)
 
-  pub plan_outside : (is : List Item) (out : List ℕ) (line : ℕ) → (r.fault ≡ 0 → ⊥) → line ≡ r.line → Answered is plan out (Err (PlanOutside line)) out
+  pub plan_outside : (is : List Item) (out : List ℕ) (line : ℕ) → (fault_of r ≡ 0 → ⊥) → line ≡ r.line → Answered is plan out (Err (PlanOutside line)) out
   unfolding plan_answer written
   plan_outside is out line z e = record { answer = rw (plan_refused z, e); buffer = refl }
 
-  module _ (text notes out : List ℕ) (z : r.fault ≡ 0) where
+  module _ (text notes out : List ℕ) (z : fault_of r ≡ 0) where
     -- a line that differs
     pub line_refused :
         (first line : ℕ) → Differing text notes plan (take r.count lines) first → line ≡ line_in (get_or lines (3 * first + 1) 0)

@@ -13,7 +13,9 @@ use Rattle.grammar.specs.Said.{Item}
 use Rattle.grammar.specs.Reader.{refused}
 use Rattle.grammar.specs.Reading.{action_reading}
 use Rattle.notes.specs.Notes.{line_in, item_in, nothing, items_in, Sound}
-use Rattle.token_reader.specs.Reading.{heard, answer}
+use Rattle.token_reader.specs.Reading.{fault_of, heard, answer}
+use Rattle.std.specs.Prelude.{Some}
+use Rattle.token_reader.specs.declared.Fault.TheVariants.{OutsideGrammar}
 use Rattle.token_reader.specs.declared.Reader.{Reader}
 use Rattle.text_reader.specs.Heard.{Heard}
 use Rattle.supplied.specs.Names.{names_from, with_names}
@@ -41,12 +43,12 @@ module _ (text said : List ℕ) (r : Reader) (h : Heard false (action_reading te
 
     names_looked : actions_read text ≡ names_from [] items (answer text said r)
     unfolding actions_read answer heard
-    names_looked = ap with_names h.same ∙ names_first (eqb r.fault 0) items r.fault r.line
+    names_looked = ap with_names h.same ∙ names_first (eqb (fault_of r) 0) items (fault_of r) r.line
 
     -- a name that may not stand there is refused at its line
     pub clash_understood :
         (k line : ℕ) (n : Names) → Clashing text (take r.count said) k → line ≡ line_in (get_or said k 0) → line < 65536
-        → Understood text said numbers index (record { fault = 18; line = line; count = r.count; names = n })
+        → Understood text said numbers index (record { fault = Some OutsideGrammar; line = line; count = r.count; names = n })
     unfolding item_in heard
     clash_understood k line n c e b = record {
       size = h.size;
@@ -72,8 +74,8 @@ module _ (text said : List ℕ) (r : Reader) (h : Heard false (action_reading te
       few = h.few;
       line = h.line;
       fault = h.fault;
-      refuses = λ z. (items, names_looked ∙ s.stands (answer text said r) ∙ rw (ne_eqb r.fault 0 z));
-      reads = λ z. names_looked ∙ s.stands (answer text said r) ∙ rw (eq-eqb r.fault 0 z);
+      refuses = λ z. (items, names_looked ∙ s.stands (answer text said r) ∙ rw (ne_eqb (fault_of r) 0 z));
+      reads = λ z. names_looked ∙ s.stands (answer text said r) ∙ rw (eq-eqb (fault_of r) 0 z);
       readable = notes_readable;
       named = λ z. s.named;
     }

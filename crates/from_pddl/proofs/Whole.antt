@@ -15,7 +15,7 @@ use Rattle.texts_answer.specs.FromTexts.{actions_read, texts_answer, answer_to, 
 use Rattle.texts_answer.specs.Promise.{TextsPromise}
 use Rattle.texts_answer.proofs.Promised.{texts_promise}
 use Rattle.from_pddl.specs.declared.actions.Actions.{Actions}
-use Rattle.from_pddl.specs.Understood.{Understood}
+use Rattle.from_pddl.specs.Understood.{met_by, Understood}
 use Rattle.from_pddl.specs.Answered.{Answered}
 
 module _ (text plan out : List ℕ) where
@@ -31,22 +31,22 @@ module _ (text plan out : List ℕ) where
     pub actions_length : length (take r.count said) ≡ r.count
     actions_length = length-take-le r.count said (omega (arith, u.few, u.size))
 
-    pub too_deep : (line : ℕ) → r.fault ≡ 19 → line ≡ r.line → TextsPromise text plan out out (Err (ActionsTooDeep line))
+    pub too_deep : (line : ℕ) → met_by r ≡ 19 → line ≡ r.line → TextsPromise text plan out out (Err (ActionsTooDeep line))
     unfolding answer_to texts_answer written
     too_deep line z e =
         let refuses = (u.refuses (λ y. omega (arith, y, z))).1 in
-        promised (Err (ActionsTooDeep line)) out (sym (ap (λ o. texts_answer o (plan_reading plan) (length out)) refuses ∙ rw (eq-eqb r.fault 19 z, e))) refl
+        promised (Err (ActionsTooDeep line)) out (sym (ap (λ o. texts_answer o (plan_reading plan) (length out)) refuses ∙ rw (eq-eqb (met_by r) 19 z, e))) refl
 
     pub outside :
-        (line : ℕ) → (r.fault ≡ 19 → ⊥) → (r.fault ≡ 0 → ⊥) → line ≡ r.line → TextsPromise text plan out out (Err (ActionsOutside line))
+        (line : ℕ) → (met_by r ≡ 19 → ⊥) → (met_by r ≡ 0 → ⊥) → line ≡ r.line → TextsPromise text plan out out (Err (ActionsOutside line))
     unfolding answer_to texts_answer written
     outside line y z e =
         promised (Err (ActionsOutside line)) out
-        (sym (ap (λ o. texts_answer o (plan_reading plan) (length out)) (u.refuses z).1 ∙ rw (ne_eqb r.fault 19 y, e)))
+        (sym (ap (λ o. texts_answer o (plan_reading plan) (length out)) (u.refuses z).1 ∙ rw (ne_eqb (met_by r) 19 y, e)))
         refl
 
     pub answered :
-        {a : TextsAnswer} {after : List ℕ} → r.fault ≡ 0 → Answered (items_in text (take r.count said)) plan out a after
+        {a : TextsAnswer} {after : List ℕ} → met_by r ≡ 0 → Answered (items_in text (take r.count said)) plan out a after
         → TextsPromise text plan out after a
     unfolding answer_to texts_answer
     answered {a} {after} z p =

@@ -6,11 +6,12 @@ ghost use Rattle.from_pddl.specs.Understood.{Understood};
 
 use naming::{Names, number_names};
 use text_reader::read_actions;
+use token_reader::Fault;
 
-// What was read: a fault's number, 0 for none, with its line, how many notes were made, and how many names there are.
+// What was read: the fault that was met, with its line, how many notes were made, and how many names there are.
 #[derive(Clone, Copy)]
 pub struct Actions {
-    pub fault: usize,
+    pub fault: Option<Fault>,
     pub line: usize,
     pub count: usize,
     pub names: Names,
@@ -32,7 +33,7 @@ pub fn read_named(text: &[u8], said: &mut [u64], index: &mut [u16], numbers: &mu
             names,
         },
         Err(clash) => Actions {
-            fault: 18,
+            fault: Some(Fault::OutsideGrammar),
             line: notes::line(said[clash.item]),
             count,
             names: Names {

@@ -27,7 +27,7 @@ pub fn file_plan(
 {
     let mut lines = [0u64; NOTES_MOST];
     let r = read_plan(plan, &mut lines);
-    if r.fault != 0 {
+    if r.fault.is_some() {
         return Err(TextsRefusal::PlanOutside(r.line as u16));
     }
     let n = r.count;

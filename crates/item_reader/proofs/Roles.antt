@@ -15,7 +15,8 @@ use Rattle.notes.specs.declared.Place as noted
 use Rattle.notes.specs.declared.Place.TheVariants.{WantedAtStart, WantedOverAll, WantedAtEnd, SetAtStart, SetAtEnd, Reached, Given}
 use Rattle.notes.specs.Notes.{roles, action_role, planned_role, stock_role, rise_role, fall_role, wanted_role, role_of, place_of, fact_role}
 use Rattle.notes.proofs.Notes.{fact_role_is}
-use Rattle.token_reader.specs.Reading.{cursor_of, faulty, Fault, Stands, Takes, Reads, Leads}
+use Rattle.token_reader.specs.Reading.{cursor_of, fault_of, faulty, Known, Stands, Takes, Reads, Leads}
+use Rattle.token_reader.specs.declared.Fault.TheVariants.{TooDeep}
 use Rattle.token_reader.specs.declared.Reader.{Reader}
 use Rattle.token_reader.proofs.Steps.{fault, take_passes}
 use Rattle.item_reader.specs.Kinds.{kind_of, point_of, set_place, later}
@@ -111,13 +112,13 @@ module _ {text list list' : List ℕ} {r a : Reader} where
 
 -- an (and ..) that is too deep is refused with 19
 module _ (text : List ℕ) {r : Reader} (p : Stands false text r) where
-  pub deep_passes : {q : Kind} → (r.fault ≡ 0 → ⊥) → Takes false text r (body q 0) r
+  pub deep_passes : {q : Kind} → (fault_of r ≡ 0 → ⊥) → Takes false text r (body q 0) r
   deep_passes f = take_passes false text p f
 
   pub deep_fails :
-      is_word and_word (here false text (cursor_of r)) ≡ true → r.fault ≡ 0 → (q : Kind) {a : Reader} → a ≡ faulty r 19
+      is_word and_word (here false text (cursor_of r)) ≡ true → fault_of r ≡ 0 → (q : Kind) {a : Reader} → a ≡ faulty r TooDeep
       → Takes false text r (body q 0) a
   deep_fails w e q {a} f =
-      let n : Fault false 19 = inr (inr (refl, refl)) in
-      let there : Stands false text (faulty r 19) = record { short = p.short; standing = p.standing; few = p.few; fault = n } in
-      record { stands = rw f there; reads = λ list z. fault false text list r a (body q 0) 18 n z e (and_deep _ q w) f }
+      let n : Known false 19 = inr (inr (refl, refl)) in
+      let there : Stands false text (faulty r TooDeep) = record { short = p.short; standing = p.standing; few = p.few; fault = n } in
+      record { stands = rw f there; reads = λ list z. fault false text list r a (body q 0) TooDeep n z e (and_deep _ q w) f }

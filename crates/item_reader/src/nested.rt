@@ -4,12 +4,12 @@ ghost use Rattle.spelling.specs.Keywords.{and_word};
 ghost use Rattle.spelling.specs.Cursor.{here, is_bracket, is_word};
 ghost use Rattle.grammar.specs.Tree.{Kind, conditions, effects};
 ghost use Rattle.grammar.specs.Reader.{condition_point, effect_point, item, body, items};
-ghost use Rattle.token_reader.specs.Reading.{cursor_of, Stands, Ready, Takes, Reads};
+ghost use Rattle.token_reader.specs.Reading.{cursor_of, fault_of, Stands, Ready, Takes, Reads};
 ghost use Rattle.item_reader.specs.Kinds.{kind_of};
 
 use crate::literals::{read_change, read_fact, read_literal};
 use notes::Place;
-use token_reader::{Reader, refuse, sees_bracket, sees_word, take_bracket, take_word};
+use token_reader::{Fault, Reader, refuse, sees_bracket, sees_word, take_bracket, take_word};
 
 // What the items are.
 #[derive(Clone, Copy)]
@@ -90,18 +90,18 @@ fn too_deep(text: &[u8], r: Reader) -> Reader
     requires { Stands false text.now r × (is_word and_word (here false text.now (cursor_of r)) ≡ true) }
     ensures { (k : Kind) → Takes false text.now r (body k 0) result }
 {
-    if r.fault != 0 {
+    if r.fault.is_some() {
         return r;
     }
-    refuse(r, 19)
+    refuse(r, Fault::TooDeep)
 }
 
 // Whether items go on: no fault, and no bracket that closes them.
 pub fn goes_on(text: &[u8], r: Reader) -> bool
     requires { Stands false text.now r }
-    ensures { result ≡ (eqb r.fault 0 && not (is_bracket 41 (here false text.now (cursor_of r)))) }
+    ensures { result ≡ (eqb (fault_of r) 0 && not (is_bracket 41 (here false text.now (cursor_of r)))) }
 {
-    (r.fault == 0) & !sees_bracket(false, text, r, b')')
+    r.fault.is_none() & !sees_bracket(false, text, r, b')')
 }
 
 // An item, in which so many (and ..) may stand inside one another.
@@ -128,6 +128,7 @@ fn read_items(text: &[u8], said: &mut [u64], r: Reader, kind: Items, left: usize
     ensures { Reads false text.now said.old r (items (kind_of kind) left) said.new result }
 {
     let mut next = r;
+    // No range: where an item ends, and the next begins, only reading it tells.
     while goes_on(text, next) {
         next = read_item(text, said, next, kind, left);
     }

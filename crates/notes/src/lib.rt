@@ -4,7 +4,8 @@
 ghost use Rattle.std.specs.Prelude.{◌≡◌, ◌+◌, ◌≤◌, ◌<◌};
 ghost use Rattle.notes.specs.Notes.{value_in, line_in, role_in, name_at, name_end, roles, first_role, fact_role, numbered, named};
 
-// The role of a number, and those of names: a rise or a fall at the end has one more.
+// The role of a number, and those of names: a rise or a fall at the end has one more. They are numbers, and no enum, since a note is one
+// number with its role packed in, and roles are counted on from a first one.
 pub const NUMBER: usize = 0;
 
 pub const ACTION: usize = 1;

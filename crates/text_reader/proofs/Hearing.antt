@@ -9,6 +9,8 @@ use native.Mathlib.Decide.{dec_lt}
 use lib.ListN.{length, get_or, take, length-map, get_or-map, get_or-eq_default}
 use lib.Seq.{length-take-le, get_or-take}
 use borrow.Author.Tests.{lt-ltb, le-ltb}
+use Rattle.std.specs.Prelude.{Some, None}
+use Rattle.token_reader.specs.declared.Fault.TheVariants.{OutsideGrammar}
 use Rattle.spelling.specs.Tokens.{text_most, tokens}
 use Rattle.spelling.specs.Cursor.{First}
 use Rattle.spelling.specs.declared.Cursor.{Cursor}
@@ -75,7 +77,7 @@ heard_end {t} {list} {a} z e p =
 
 -- the first token
 module _ (plan : Bool) (t list : List ℕ) {c : Cursor} {r : Reader} (h : length t ≤ text_most) (z : length list ≡ notes_most)
-    (empty : (k : ℕ) → get_or list k 0 ≡ 0) (m : First plan t c) (e : r ≡ reader_at c 0 0) where
+    (empty : (k : ℕ) → get_or list k 0 ≡ 0) (m : First plan t c) (e : r ≡ reader_at c 0 None) where
   pub first_ready : Ready plan t list r
   first_ready = rw e (record {
     stands = record { short = h; standing = m.standing; few = omega arith; fault = inl refl };
@@ -86,11 +88,11 @@ module _ (plan : Bool) (t list : List ℕ) {c : Cursor} {r : Reader} (h : length
   unfolding heard
   first_outcome σ =
       rw e
-      (ap (run depth_most σ []) m.same ∙ sym (outcome_clear plan t list (reader_at c 0 0) σ refl))
+      (ap (run depth_most σ []) m.same ∙ sym (outcome_clear plan t list (reader_at c 0 None) σ refl))
 
 -- a text that is too long
 module _ (plan : Bool) (t list : List ℕ) {a : Reader} (h : text_most < length t) (z : length list ≡ notes_most)
-    (empty : (k : ℕ) → get_or list k 0 ≡ 0) (e : a ≡ record { at = 0; end = 0; line = 0; count = 0; fault = 18 }) where
+    (empty : (k : ℕ) → get_or list k 0 ≡ 0) (e : a ≡ record { at = 0; end = 0; line = 0; count = 0; fault = Some OutsideGrammar }) where
   long_notes : Noted t list []
   long_notes = record {
     each = λ k. rw (empty k) (sym (zero_says t));

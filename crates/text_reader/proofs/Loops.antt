@@ -12,7 +12,7 @@ use Rattle.spelling.specs.Cursor.{here, is_bracket, is_word, is_stop}
 use Rattle.grammar.specs.Allowed.{depth_most}
 use Rattle.grammar.specs.Reader.{bracket, keyword, time, text, text_body, inits, init_body, lines, line_end}
 use Rattle.grammar.specs.Reader.{action_symbols, init_symbols}
-use Rattle.token_reader.specs.Reading.{cursor_of, Ready, Takes, Reads, Leads, Turns, Ends}
+use Rattle.token_reader.specs.Reading.{cursor_of, fault_of, Ready, Takes, Reads, Leads, Turns, Ends}
 use Rattle.token_reader.specs.declared.Reader.{Reader}
 use Rattle.token_reader.proofs.Steps.{outcome_fault}
 use Rattle.token_reader.proofs.Compose.{alike, lead, then, stands}
@@ -25,27 +25,27 @@ use Rattle.token_reader.proofs.Turning.{ends_then, ends_turn, ends_alike, ends_f
 module _ {t list₀ list : List ℕ} {r₀ r : Reader} {y : Bool} where
   -- what init gives
   module _ (w : Turns false t list₀ r₀ inits list r inits)
-      (e : y ≡ (eqb r.fault 0 && not (is_bracket 41 (here false t (cursor_of r))))) where
+      (e : y ≡ (eqb (fault_of r) 0 && not (is_bracket 41 (here false t (cursor_of r))))) where
     pub inits_again :
         {list' : List ℕ} {b a : Reader} → y ≡ true → Takes false t r (bracket 40) b → Reads false t list b init_body list' a
         → Turns false t list₀ r₀ inits list' a inits
     inits_again f k p =
-        turned t (init_body ∷ []) w (λ _. inits_more _ (not-true _ (on_yes r.fault _ e f).1)) (λ σ. refl)
+        turned t (init_body ∷ []) w (λ _. inits_more _ (not-true _ (on_yes (fault_of r) _ e f).1)) (λ σ. refl)
         (then (k.reads list w.ready) (lead p))
 
     pub inits_done : {a : Reader} → y ≡ false → Takes false t r (bracket 41) a → Reads false t list₀ r₀ inits list a
     inits_done f k =
         turn_close w
-        (stands w.ready.stands (λ z. inits_close _ (not-false _ (on_no r.fault _ e f z))) (lead (k.reads list w.ready)))
+        (stands w.ready.stands (λ z. inits_close _ (not-false _ (on_no (fault_of r) _ e f z))) (lead (k.reads list w.ready)))
 
   -- actions
   module _ (w : Turns false t list₀ r₀ text_body list r text_body)
-      (e : y ≡ (eqb r.fault 0 && is_word durative_word (here false t (cursor_of r)))) where
+      (e : y ≡ (eqb (fault_of r) 0 && is_word durative_word (here false t (cursor_of r)))) where
     pub actions_again :
         {list' : List ℕ} {b a : Reader} → y ≡ true → Leads false t list r action_row list' b → Takes false t b (bracket 40) a
         → Turns false t list₀ r₀ text_body list' a text_body
     actions_again {list'} {b} f p k =
-        let first = action_alike (here false t (cursor_of r)) (on_yes r.fault _ e f).1 in
+        let first = action_alike (here false t (cursor_of r)) (on_yes (fault_of r) _ e f).1 in
         let rest = alike false t list r text_body (keyword durative_word) (action_symbols depth_most) w.ready.stands (λ _. first) in
         let mid : Turns false t list₀ r₀ text_body list' b text = turn_more action_row w rest p in
         turned t [] mid (λ _. text_alike _) (λ σ. refl) (lead (k.reads list' mid.ready))
@@ -58,26 +58,26 @@ module _ {t list₀ list : List ℕ} {r₀ r : Reader} {y : Bool} where
         ends_alike (text_body ∷ []) [] p.stands (λ _. text_alike _)
         (ends_then (k.reads list₀ p)
         (ends_turn [] w
-        (ends_alike (init_symbols depth_most) [] w.ready.stands (λ v. init_alike _ (on_no r.fault _ e f v))
+        (ends_alike (init_symbols depth_most) [] w.ready.stands (λ v. init_alike _ (on_no (fault_of r) _ e f v))
         (ends_then (i.reads list w.ready) (ends_then h z)))))
 
   -- lines
   module _ (w : Turns true t list₀ r₀ lines list r lines)
-      (e : y ≡ (eqb r.fault 0 && not (is_stop (here true t (cursor_of r))))) where
+      (e : y ≡ (eqb (fault_of r) 0 && not (is_stop (here true t (cursor_of r))))) where
     pub lines_done : y ≡ false → Ends true t list₀ r₀ (lines ∷ []) list r
     lines_done f =
         ends_turn [] w
-        (elim (dec_lt 0 r.fault) [
+        (elim (dec_lt 0 (fault_of r)) [
           | yes h ↦ ends_fault (lines ∷ []) w.ready (λ z. omega arith)
           | no h ↦
-              let z : r.fault ≡ 0 = omega arith in
-              let s = not-false _ (on_no r.fault _ e f z) in
+              let z : fault_of r ≡ 0 = omega arith in
+              let s = not-false _ (on_no (fault_of r) _ e f z) in
               ends_stop lines w.ready z s (lines_goes _ s)
         ])
 
 -- the end of a line
 module _ {t list : List ℕ} {r : Reader} (p : Ready true t list r) where
-  pub end_passes : (r.fault ≡ 0 → ⊥) → Turns true t list r line_end list r lines
+  pub end_passes : (fault_of r ≡ 0 → ⊥) → Turns true t list r line_end list r lines
   end_passes f = record {
     ready = p;
     size = refl;

@@ -3,7 +3,7 @@ use Rattle.std.specs.Prelude.{ℕ, ◌≤◌, ◌≡◌, Bool, List, length}
 use Rattle.spelling.specs.Tokens.{text_most}
 use Rattle.grammar.specs.Reader.{Outcome}
 use Rattle.notes.specs.Notes.{notes_most, Noted}
-use Rattle.token_reader.specs.Reading.{heard, answer, Fault}
+use Rattle.token_reader.specs.Reading.{fault_of, heard, answer, Known}
 use Rattle.token_reader.specs.declared.Reader.{Reader}
 
 pub record Heard (plan : Bool) (reading : Outcome) (text list : List ℕ) (r : Reader) : Type 0 where
@@ -13,4 +13,4 @@ pub record Heard (plan : Bool) (reading : Outcome) (text list : List ℕ) (r : R
   pub few : r.count ≤ text_most
   pub size : length list ≡ notes_most
   pub line : r.line ≤ text_most
-  pub fault : Fault plan r.fault
+  pub fault : Known plan (fault_of r)

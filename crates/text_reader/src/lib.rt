@@ -4,26 +4,27 @@
 mod plan_lines;
 mod sections;
 
-ghost use Rattle.std.specs.Prelude.{◌≡◌, ℕ, true, false, length, get_or};
+ghost use Rattle.std.specs.Prelude.{◌≡◌, ℕ, Some, true, false, length, get_or};
 ghost use Rattle.grammar.specs.Reading.{action_reading, plan_reading};
 ghost use Rattle.notes.specs.Notes.{notes_most};
+ghost use Rattle.token_reader.specs.declared.Fault.TheVariants.{OutsideGrammar};
 ghost use Rattle.text_reader.specs.Heard.{Heard};
 
-use token_reader::{Reader, reader_at};
+use token_reader::{Fault, Reader, reader_at};
 
 // The longest text.
 const TEXT_MOST: usize = 65535;
 
 // A reader that stands before a text which is too long.
 fn too_long() -> Reader
-    ensures { result ≡ record { at = 0; end = 0; line = 0; count = 0; fault = 18 } }
+    ensures { result ≡ record { at = 0; end = 0; line = 0; count = 0; fault = Some OutsideGrammar } }
 {
     Reader {
         at: 0,
         end: 0,
         line: 0,
         count: 0,
-        fault: 18,
+        fault: Some(Fault::OutsideGrammar),
     }
 }
 
@@ -36,7 +37,7 @@ pub fn read_actions(text: &[u8], said: &mut [u64]) -> Reader
         return too_long();
     }
     let c = spelling::first(false, text);
-    let r = reader_at(c, 0, 0);
+    let r = reader_at(c, 0, None);
     sections::read_text(text, said, r)
 }
 
@@ -49,6 +50,6 @@ pub fn read_plan(text: &[u8], said: &mut [u64]) -> Reader
         return too_long();
     }
     let c = spelling::first(true, text);
-    let r = reader_at(c, 0, 0);
+    let r = reader_at(c, 0, None);
     plan_lines::read_lines(text, said, r)
 }

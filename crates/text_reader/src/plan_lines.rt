@@ -2,7 +2,7 @@
 ghost use Rattle.std.specs.Prelude.{◌≡◌, true, false, not, ◌&&◌, List, [], ◌∷◌, ℕ, ◌<◌, eqb};
 ghost use Rattle.spelling.specs.Cursor.{here, is_stop};
 ghost use Rattle.grammar.specs.Reader.{lines, line_end};
-ghost use Rattle.token_reader.specs.Reading.{cursor_of, Stands, Ready, Turns, Ends};
+ghost use Rattle.token_reader.specs.Reading.{cursor_of, fault_of, Stands, Ready, Turns, Ends};
 
 use token_reader::{Reader, sees_bracket, sees_end, take_bracket, take_name, take_time};
 
@@ -12,10 +12,10 @@ const LINE_END: u8 = 10;
 // A line's end, or the text's.
 fn end_line(text: &[u8], r: Reader) -> Reader
     requires { Stands true text.now r }
-    ensures kept_fault { result.fault ≡ 0 → r.fault ≡ 0 }
+    ensures kept_fault { fault_of result ≡ 0 → fault_of r ≡ 0 }
     ensures turns { (list : List ℕ) → Ready true text.now list r → Turns true text.now list r line_end list result lines }
 {
-    if r.fault != 0 {
+    if r.fault.is_some() {
         return r;
     }
     if sees_end(true, text, r) {
@@ -26,8 +26,8 @@ fn end_line(text: &[u8], r: Reader) -> Reader
 
 // One line, or an empty one.
 fn read_line(text: &[u8], said: &mut [u64], r: Reader) -> Reader
-    requires { Ready true text.now said.old r × (r.fault ≡ 0) × (is_stop (here true text.now (cursor_of r)) ≡ false) }
-    ensures { Turns true text.now said.old r lines said.new result lines × (result.fault ≡ 0 → r.at < result.at) }
+    requires { Ready true text.now said.old r × (fault_of r ≡ 0) × (is_stop (here true text.now (cursor_of r)) ≡ false) }
+    ensures { Turns true text.now said.old r lines said.new result lines × (fault_of result ≡ 0 → r.at < result.at) }
 {
     if sees_bracket(true, text, r, LINE_END) {
         return take_bracket(true, text, r, LINE_END);
@@ -46,9 +46,9 @@ fn read_line(text: &[u8], said: &mut [u64], r: Reader) -> Reader
 // Whether a line follows: no fault, and not the text's end.
 fn at_line(text: &[u8], r: Reader) -> bool
     requires { Stands true text.now r }
-    ensures { result ≡ (eqb r.fault 0 && not (is_stop (here true text.now (cursor_of r)))) }
+    ensures { result ≡ (eqb (fault_of r) 0 && not (is_stop (here true text.now (cursor_of r)))) }
 {
-    (r.fault == 0) & !sees_end(true, text, r)
+    r.fault.is_none() & !sees_end(true, text, r)
 }
 
 // All lines.
@@ -57,6 +57,7 @@ pub fn read_lines(text: &[u8], said: &mut [u64], r: Reader) -> Reader
     ensures { Ends true text.now said.old r (lines ∷ []) said.new result }
 {
     let mut next = r;
+    // No range: where a line ends, and the next begins, only reading it tells.
     while at_line(text, next) {
         next = read_line(text, said, next);
     }

@@ -3,14 +3,14 @@ ghost use Rattle.std.specs.Prelude.{◌≡◌, false, ◌&&◌, List, [], ◌∷
 ghost use Rattle.spelling.specs.Keywords.{durative_word};
 ghost use Rattle.spelling.specs.Cursor.{here, is_word};
 ghost use Rattle.grammar.specs.Reader.{Symbol, text, inits, init_body, finish};
-ghost use Rattle.token_reader.specs.Reading.{cursor_of, Stands, Ready, Reads, Leads, Ends};
+ghost use Rattle.token_reader.specs.Reading.{cursor_of, fault_of, Stands, Ready, Reads, Leads, Ends};
 ghost use Rattle.text_reader.specs.Rows.{action_row, goal_row};
 
 use item_reader::literals::read_level;
 use item_reader::nested::{Items, goes_on, read_item};
 use notes::{Place, fact_role};
 use token_reader::{
-    Reader, refuse, sees_end, sees_word, take_bracket, take_name, take_time, take_word,
+    Fault, Reader, refuse, sees_end, sees_word, take_bracket, take_name, take_time, take_word,
 };
 
 // How many (and ..) may stand inside one another.
@@ -56,6 +56,7 @@ fn read_inits(text: &[u8], said: &mut [u64], r: Reader) -> Reader
     ensures { Reads false text.now said.old r inits said.new result }
 {
     let mut next = r;
+    // No range: where an item ends, and the next begins, only reading it tells.
     while goes_on(text, next) {
         let opened = take_bracket(false, text, next, b'(');
         next = read_init_item(text, said, opened);
@@ -68,13 +69,13 @@ fn take_end(text: &[u8], r: Reader) -> Reader
     requires { Stands false text.now r }
     ensures { (list : List ℕ) → Ready false text.now list r → Ends false text.now list r (finish ∷ []) list result }
 {
-    if r.fault != 0 {
+    if r.fault.is_some() {
         return r;
     }
     if sees_end(false, text, r) {
         return r;
     }
-    refuse(r, 18)
+    refuse(r, Fault::OutsideGrammar)
 }
 
 // The goal, and nothing behind it.
@@ -92,9 +93,9 @@ fn read_goal(text: &[u8], said: &mut [u64], r: Reader) -> Reader
 // Whether an action follows: no fault, and its first word.
 fn at_action(text: &[u8], r: Reader) -> bool
     requires { Stands false text.now r }
-    ensures { result ≡ (eqb r.fault 0 && is_word durative_word (here false text.now (cursor_of r))) }
+    ensures { result ≡ (eqb (fault_of r) 0 && is_word durative_word (here false text.now (cursor_of r))) }
 {
-    (r.fault == 0) & sees_word(false, text, r, b":durative-action")
+    r.fault.is_none() & sees_word(false, text, r, b":durative-action")
 }
 
 // The whole text.
@@ -103,6 +104,7 @@ pub fn read_text(text: &[u8], said: &mut [u64], r: Reader) -> Reader
     ensures { Ends false text.now said.old r (Symbol.text ∷ []) said.new result }
 {
     let mut next = take_bracket(false, text, r, b'(');
+    // No range: where an action ends, and the next begins, only reading it tells.
     while at_action(text, next) {
         let done = read_action(text, said, next);
         next = take_bracket(false, text, done, b'(');

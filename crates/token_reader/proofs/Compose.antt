@@ -10,7 +10,7 @@ use Rattle.spelling.specs.Cursor.{here}
 use Rattle.grammar.specs.Said.{Said, Item}
 use Rattle.grammar.specs.Allowed.{depth_most}
 use Rattle.grammar.specs.Reader.{Symbol, goes, fails, step, Outcome, onward}
-use Rattle.token_reader.specs.Reading.{cursor_of, outcome, Stands, Reads, Leads}
+use Rattle.token_reader.specs.Reading.{cursor_of, fault_of, outcome, Stands, Reads, Leads}
 use Rattle.token_reader.specs.declared.Reader.{Reader}
 use Rattle.token_reader.proofs.Steps.{outcome_fault, stepped}
 
@@ -38,20 +38,20 @@ Alike t s s' more =
 
 pub alike :
     (plan : Bool) (text list : List ℕ) (r : Reader) (s s' : Symbol) (more : List Symbol) → Stands plan text r
-    → (r.fault ≡ 0 → Alike (here plan text (cursor_of r)) s s' more) → (σ : List Symbol)
+    → (fault_of r ≡ 0 → Alike (here plan text (cursor_of r)) s s' more) → (σ : List Symbol)
     → outcome plan text list r (s ∷ σ) ≡ outcome plan text list r (s' ∷ more ++ σ)
-alike plan text list r s s' more p f σ = elim (dec_lt 0 r.fault) [ yes h ↦ off (λ z. omega arith) | no h ↦ on (omega arith) ]
+alike plan text list r s s' more p f σ = elim (dec_lt 0 (fault_of r)) [ yes h ↦ off (λ z. omega arith) | no h ↦ on (omega arith) ]
   where
-    off : (r.fault ≡ 0 → ⊥) → outcome plan text list r (s ∷ σ) ≡ outcome plan text list r (s' ∷ more ++ σ)
+    off : (fault_of r ≡ 0 → ⊥) → outcome plan text list r (s ∷ σ) ≡ outcome plan text list r (s' ∷ more ++ σ)
     off h = outcome_fault plan text list r (s ∷ σ) h ∙ sym (outcome_fault plan text list r (s' ∷ more ++ σ) h)
 
-    on : r.fault ≡ 0 → outcome plan text list r (s ∷ σ) ≡ outcome plan text list r (s' ∷ more ++ σ)
+    on : fault_of r ≡ 0 → outcome plan text list r (s ∷ σ) ≡ outcome plan text list r (s' ∷ more ++ σ)
     on e = stepped plan text list r s σ p e ∙ f e σ _ _ _ ∙ sym (stepped plan text list r s' (more ++ σ) p e)
 
 -- what has read those has read this
 pub stands :
     {plan : Bool} {text list list' : List ℕ} {r a : Reader} {s s' : Symbol} {more : List Symbol} → Stands plan text r
-    → (r.fault ≡ 0 → Alike (here plan text (cursor_of r)) s s' more) → Leads plan text list r (s' ∷ more) list' a
+    → (fault_of r ≡ 0 → Alike (here plan text (cursor_of r)) s s' more) → Leads plan text list r (s' ∷ more) list' a
     → Reads plan text list r s list' a
 stands {plan} {text} {list} {r} {s} {s'} {more} p f q = record {
   ready = q.ready;

@@ -9,15 +9,16 @@ use native.Mathlib.Decide.{ℕ_discrete}
 use native.Mathlib.Numerals.{add-one}
 use lib.ListN.{length, get_or, set, take, length-set}
 use lib.Seq.{take-suc-set, get_or-set_same, get_or-set_other}
+use Rattle.std.specs.Prelude.{None}
 use Rattle.grammar.specs.Said.{on_line}
 use Rattle.notes.specs.Notes.{item_in, Sound}
-use Rattle.token_reader.specs.Reading.{heard, Listed, Ready, Advanced, Notes}
+use Rattle.token_reader.specs.Reading.{fault_of, heard, Listed, Ready, Advanced, Notes}
 use Rattle.token_reader.specs.declared.Reader.{Reader}
 use Rattle.token_reader.proofs.Steps.{outcome_clear, led}
 
 -- the reader that has noted one item more
 abbrev noting : Reader → ℕ → Reader
-noting a count = record { at = a.at; end = a.end; line = a.line; count = count + 1; fault = 0 }
+noting a count = record { at = a.at; end = a.end; line = a.line; count = count + 1; fault = None }
 
 module _ (text list : List ℕ) (count w : ℕ) where
   heard_set : count < length list → heard text (count + 1) (set list count w) ≡ heard text count list ++ (item_in text w ∷ [])
@@ -44,7 +45,7 @@ module _ (plan : Bool) (text list : List ℕ) (r : Reader) (p : Ready plan text 
       omega (arith, p.stands.few, p.listed.room, s.onward, s.within)
 
   pub noted :
-      (w : ℕ) {a : Reader} → r.fault ≡ 0 → Sound text w → Advanced plan text r a
+      (w : ℕ) {a : Reader} → fault_of r ≡ 0 → Sound text w → Advanced plan text r a
       → Notes plan text list r w (set list r.count w) (noting a r.count)
   unfolding on_line
   noted w {a} e s v k x g i =

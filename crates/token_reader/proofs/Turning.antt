@@ -15,7 +15,8 @@ use Rattle.spelling.proofs.Standing.{stop_is}
 use Rattle.grammar.specs.Said.{on_line}
 use Rattle.grammar.specs.Allowed.{depth_most}
 use Rattle.grammar.specs.Reader.{Symbol, finish, goes, fails, step, run}
-use Rattle.token_reader.specs.Reading.{cursor_of, faulty, heard, outcome, answer, Stands, Ready, Reads, Leads, Turns, Ends}
+use Rattle.token_reader.specs.Reading.{cursor_of, fault_of, faulty, heard, outcome, answer, Stands, Ready, Reads, Leads, Turns, Ends}
+use Rattle.token_reader.specs.declared.Fault.TheVariants.{OutsideGrammar}
 use Rattle.token_reader.specs.declared.Reader.{Reader}
 use Rattle.token_reader.proofs.Steps.{outcome_fault, led, fault}
 use Rattle.token_reader.proofs.Compose.{Alike, alike}
@@ -29,15 +30,15 @@ on_no n z e f g = let h : (eqb n 0 && z) ≡ z = rw (eq-eqb n 0 g) refl in sym h
 
 -- what is left: the bytes, and whether there is a fault
 abbrev pub ahead : List ℕ → Reader → ℕ
-ahead text r = 2 * (length text - r.at) + (1 - r.fault)
+ahead text r = 2 * (length text - r.at) + (1 - fault_of r)
 
 pub ahead_less :
-    {plan : Bool} {text : List ℕ} (r : Reader) {a : Reader} → Stands plan text a → r.fault ≡ 0 → r.at ≤ a.at → (a.fault ≡ 0 → r.at < a.at)
+    {plan : Bool} {text : List ℕ} (r : Reader) {a : Reader} → Stands plan text a → fault_of r ≡ 0 → r.at ≤ a.at → (fault_of a ≡ 0 → r.at < a.at)
     → ahead text a < ahead text r
 ahead_less r {a} p e f g =
     let w = p.standing.within in
     let o = p.standing.onward in
-    elim (dec_lt 0 a.fault) [ yes h ↦ omega arith | no h ↦ let z : a.fault ≡ 0 = omega arith in let k = g z in omega arith ]
+    elim (dec_lt 0 (fault_of a)) [ yes h ↦ omega arith | no h ↦ let z : fault_of a ≡ 0 = omega arith in let k = g z in omega arith ]
 
 module _ {plan : Bool} {text : List ℕ} where
   pub turn_start : {list : List ℕ} {r : Reader} (s : Symbol) → Ready plan text list r → Turns plan text list r s list r s
@@ -89,12 +90,12 @@ module _ {plan : Bool} {text : List ℕ} where
 
   pub ends_alike :
       {list list' : List ℕ} {r a : Reader} {s s' : Symbol} (more σ : List Symbol) → Stands plan text r
-      → (r.fault ≡ 0 → Alike (here plan text (cursor_of r)) s s' more) → Ends plan text list r (s' ∷ more ++ σ) list' a
+      → (fault_of r ≡ 0 → Alike (here plan text (cursor_of r)) s s' more) → Ends plan text list r (s' ∷ more ++ σ) list' a
       → Ends plan text list r (s ∷ σ) list' a
   ends_alike {list} {r} {s} {s'} more σ p f q =
       record { ready = q.ready; size = q.size; same = alike plan text list r s s' more p f σ ∙ q.same }
 
-  pub ends_fault : {list : List ℕ} {r : Reader} (σ : List Symbol) → Ready plan text list r → (r.fault ≡ 0 → ⊥) → Ends plan text list r σ list r
+  pub ends_fault : {list : List ℕ} {r : Reader} (σ : List Symbol) → Ready plan text list r → (fault_of r ≡ 0 → ⊥) → Ends plan text list r σ list r
   unfolding answer
   ends_fault {list} {r} σ p f = record { ready = p; size = refl; same = outcome_fault plan text list r σ f ∙ rw (ne_eqb _ _ f) refl }
 
@@ -107,7 +108,7 @@ module _ {plan : Bool} {text : List ℕ} where
 
   -- the last symbol goes at the text's end
   pub ends_stop :
-      {list : List ℕ} {r : Reader} (s : Symbol) → Ready plan text list r → r.fault ≡ 0 → is_stop (here plan text (cursor_of r)) ≡ true
+      {list : List ℕ} {r : Reader} (s : Symbol) → Ready plan text list r → fault_of r ≡ 0 → is_stop (here plan text (cursor_of r)) ≡ true
       → step depth_most s (here plan text (cursor_of r)) ≡ goes [] [] → Ends plan text list r (s ∷ []) list r
   unfolding answer run on_line
   ends_stop {list} {r} s p e f g = record {
@@ -119,16 +120,16 @@ module _ {plan : Bool} {text : List ℕ} where
   }
 
   pub ends_fails :
-      {list : List ℕ} {r a : Reader} → Ready plan text list r → r.fault ≡ 0
-      → step depth_most finish (here plan text (cursor_of r)) ≡ fails 18 → a ≡ faulty r 18 → Ends plan text list r (finish ∷ []) list a
+      {list : List ℕ} {r a : Reader} → Ready plan text list r → fault_of r ≡ 0
+      → step depth_most finish (here plan text (cursor_of r)) ≡ fails 18 → a ≡ faulty r OutsideGrammar → Ends plan text list r (finish ∷ []) list a
   ends_fails {list} {r} {a} p e g q =
-      let h = fault plan text list r a finish 17 (inr (inl refl)) p e g q in
-      ends_then h (ends_fault [] h.ready (λ z. let n : a.fault ≡ 18 = ap (λ x. x.fault) q in omega arith))
+      let h = fault plan text list r a finish OutsideGrammar (inr (inl refl)) p e g q in
+      ends_then h (ends_fault [] h.ready (λ z. let n : fault_of a ≡ 18 = ap fault_of q in omega arith))
 
 -- one symbol gives way to a row that ends with another
 pub turned :
     {plan : Bool} (t : List ℕ) {list₀ list list' : List ℕ} {r₀ r a : Reader} {s₀ s s₁ s' : Symbol} (more : List Symbol)
-    → Turns plan t list₀ r₀ s₀ list r s → (r.fault ≡ 0 → Alike (here plan t (cursor_of r)) s s₁ (more ++ (s' ∷ [])))
+    → Turns plan t list₀ r₀ s₀ list r s → (fault_of r ≡ 0 → Alike (here plan t (cursor_of r)) s s₁ (more ++ (s' ∷ [])))
     → ((σ : List Symbol) → (more ++ (s' ∷ [])) ++ σ ≡ more ++ (s' ∷ σ))
     → Leads plan t list r (s₁ ∷ more) list' a → Turns plan t list₀ r₀ s₀ list' a s'
 turned {plan} t {list} {r} {s} {s₁} {s'} more w f e p =

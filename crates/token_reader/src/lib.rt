@@ -6,25 +6,32 @@ ghost use Rattle.std.specs.Prelude.{◌≡◌, ◌<◌, length};
 ghost use Rattle.spelling.specs.Cursor.{here, is_bracket, is_word, is_stop};
 ghost use Rattle.grammar.specs.Reader.{bracket, keyword, name, time, amount};
 ghost use Rattle.notes.specs.Notes.{roles, role_of, Sound};
-ghost use Rattle.token_reader.specs.Reading.{cursor_of, reader_at, faulty, Stands, Ready, Advanced, Takes, Reads, Notes};
+ghost use Rattle.token_reader.specs.Reading.{cursor_of, reader_at, fault_of, faulty, Stands, Ready, Advanced, Takes, Reads, Notes};
 
 use spelled_names::{at_name, at_word};
 use spelled_numbers::{time_at, whole_at};
 use spelling::Cursor;
 use spelling::here::{at_bracket, at_end};
 
-// The token [at, end) on a line at which the reader stands, the items noted so far, and a fault's number, 0 for none.
+// Why a text is refused: it is not of the grammar, or an (and ..) stands too deep.
+#[derive(Clone, Copy, Debug, PartialEq, Eq)]
+pub enum Fault {
+    OutsideGrammar,
+    TooDeep,
+}
+
+// The token [at, end) on a line at which the reader stands, the items noted so far, and the fault that was met.
 #[derive(Clone, Copy)]
 pub struct Reader {
     pub at: usize,
     pub end: usize,
     pub line: usize,
     pub count: usize,
-    pub fault: usize,
+    pub fault: Option<Fault>,
 }
 
 // A reader at a cursor.
-pub fn reader_at(c: Cursor, count: usize, fault: usize) -> Reader
+pub fn reader_at(c: Cursor, count: usize, fault: Option<Fault>) -> Reader
     ensures { result ≡ reader_at c count fault }
 {
     Reader {
@@ -56,15 +63,15 @@ fn advance(plan: bool, text: &[u8], r: Reader) -> Reader
 }
 
 // A fault at this token.
-pub fn refuse(r: Reader, number: usize) -> Reader
-    ensures { result ≡ faulty r number }
+pub fn refuse(r: Reader, fault: Fault) -> Reader
+    ensures { result ≡ faulty r fault }
 {
     Reader {
         at: r.at,
         end: r.end,
         line: r.line,
         count: r.count,
-        fault: number,
+        fault: Some(fault),
     }
 }
 
@@ -97,13 +104,13 @@ pub fn take_bracket(plan: bool, text: &[u8], r: Reader, b: u8) -> Reader
     requires { Stands plan text.now r }
     ensures { Takes plan text.now r (bracket b) result }
 {
-    if r.fault != 0 {
+    if r.fault.is_some() {
         return r;
     }
     if sees_bracket(plan, text, r, b) {
         return advance(plan, text, r);
     }
-    refuse(r, 18)
+    refuse(r, Fault::OutsideGrammar)
 }
 
 // Reads a word of the grammar.
@@ -111,18 +118,18 @@ pub fn take_word(plan: bool, text: &[u8], r: Reader, word: &[u8]) -> Reader
     requires { Stands plan text.now r }
     ensures { Takes plan text.now r (keyword word.now) result }
 {
-    if r.fault != 0 {
+    if r.fault.is_some() {
         return r;
     }
     if sees_word(plan, text, r, word) {
         return advance(plan, text, r);
     }
-    refuse(r, 18)
+    refuse(r, Fault::OutsideGrammar)
 }
 
 // Notes what the token says, and goes one token further.
 fn note(plan: bool, text: &[u8], said: &mut [u64], r: Reader, w: u64) -> Reader
-    requires { Ready plan text.now said.old r × (r.at < length text.now) × (r.fault ≡ 0) × Sound text.now w }
+    requires { Ready plan text.now said.old r × (r.at < length text.now) × (fault_of r ≡ 0) × Sound text.now w }
     ensures { Notes plan text.now said.old r w said.new result }
 {
     let a = advance(plan, text, r);
@@ -133,7 +140,7 @@ fn note(plan: bool, text: &[u8], said: &mut [u64], r: Reader, w: u64) -> Reader
         end: a.end,
         line: a.line,
         count: count + 1,
-        fault: 0,
+        fault: None,
     }
 }
 
@@ -142,11 +149,11 @@ pub fn take_name(plan: bool, text: &[u8], said: &mut [u64], r: Reader, role: usi
     requires { Ready plan text.now said.old r × (role ≡ 0 → ⊥) × (role < roles) }
     ensures { Reads plan text.now said.old r (name (role_of role)) said.new result }
 {
-    if r.fault != 0 {
+    if r.fault.is_some() {
         return r;
     }
     if !at_name(plan, text, cursor(r)) {
-        return refuse(r, 18);
+        return refuse(r, Fault::OutsideGrammar);
     }
     let w = notes::note_name(r.at, r.end, r.line, role);
     note(plan, text, said, r, w)
@@ -157,11 +164,11 @@ pub fn take_time(plan: bool, text: &[u8], said: &mut [u64], r: Reader) -> Reader
     requires { Ready plan text.now said.old r }
     ensures { Reads plan text.now said.old r time said.new result }
 {
-    if r.fault != 0 {
+    if r.fault.is_some() {
         return r;
     }
     let Some(n) = time_at(plan, text, cursor(r)) else {
-        return refuse(r, 18);
+        return refuse(r, Fault::OutsideGrammar);
     };
     let w = notes::note_number(n, r.line);
     note(plan, text, said, r, w)
@@ -172,11 +179,11 @@ pub fn take_amount(plan: bool, text: &[u8], said: &mut [u64], r: Reader) -> Read
     requires { Ready plan text.now said.old r }
     ensures { Reads plan text.now said.old r amount said.new result }
 {
-    if r.fault != 0 {
+    if r.fault.is_some() {
         return r;
     }
     let Some(n) = whole_at(plan, text, cursor(r)) else {
-        return refuse(r, 18);
+        return refuse(r, Fault::OutsideGrammar);
     };
     let w = notes::note_number(n, r.line);
     note(plan, text, said, r, w)

@@ -1,14 +1,15 @@
 use mathlib.Core.Path.{refl}
 use mathlib.Core.Logic.{inl, inr}
-use Rattle.token_reader.proofs.Steps.{stand, passes, fault}
+use Rattle.token_reader.specs.declared.Fault.TheVariants.{OutsideGrammar}
+use Rattle.token_reader.proofs.Steps.{stand, passes, fault, clear, met}
 use Rattle.token_reader.proofs.Numbering.{lines_fit, numbered_sound, whole_inside, whole_no, whole_reads}
 use borrow.Author.Rules.{rules}
 use Rattle.token_reader.proofs.take_amount.Goals as goal
 
-pub returns-then-r-ne0 : goal.returns-then-r-ne0
-returns-then-r-ne0 c =
+pub returns-then-is_some : goal.returns-then-is_some
+returns-then-is_some c =
     let start = c in
-    passes _ _ _ _ _ start.requires c.if-r-ne0.true
+    passes _ _ _ _ _ start.requires (met _ c.is_some.ensures c.if-is_some.true)
 
 pub whole_at-requires : goal.whole_at-requires
 whole_at-requires c =
@@ -22,7 +23,7 @@ returns-in_default c =
     let at-cursor = at-whole-at in
     let at-if1 = at-cursor in
     let start = at-if1 in
-    fault _ _ _ _ _ _ 17 (inr (inl refl)) start.requires at-if1.if-r-ne0.false
+    fault _ _ _ _ _ _ OutsideGrammar (inr (inl refl)) start.requires (clear _ at-if1.is_some.ensures at-if1.if-is_some.false)
     (whole_no _ _ start.requires.stands at-cursor.cursor.ensures at-whole-at.whole_at.ensures at-enum-told.in_default.is)
     c.refuse.ensures
 
@@ -43,7 +44,7 @@ note-requires c =
       start.requires,
       whole_inside _ _ p at-cursor.cursor.ensures at-whole-at.whole_at.ensures
           at_n.in-Some.is,
-      at-if1.if-r-ne0.false,
+      (clear _ at-if1.is_some.ensures at-if1.if-is_some.false),
       numbered_sound p (search rules) at-note-number.note_number-w.ensures,
     )
 

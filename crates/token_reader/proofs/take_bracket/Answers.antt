@@ -1,11 +1,11 @@
-use Rattle.token_reader.proofs.Steps.{take_passes, take_goes, take_fails}
+use Rattle.token_reader.proofs.Steps.{take_passes, take_goes, take_fails, clear, met}
 use Rattle.token_reader.proofs.Tested.{bracket_inside, bracket_yes, bracket_no}
 use Rattle.token_reader.proofs.take_bracket.Goals as goal
 
-pub returns-then-r-ne0 : goal.returns-then-r-ne0
-returns-then-r-ne0 c =
+pub returns-then-is_some : goal.returns-then-is_some
+returns-then-is_some c =
     let start = c in
-    take_passes _ _ start.requires c.if-r-ne0.true
+    take_passes _ _ start.requires (met _ c.is_some.ensures c.if-is_some.true)
 
 pub sees_bracket-requires : goal.sees_bracket-requires
 sees_bracket-requires c =
@@ -24,7 +24,7 @@ returns-then-sees_bracket c =
     let at-sees-bracket = at-if2 in
     let at-if1 = at-sees-bracket in
     let start = at-if1 in
-    take_goes _ _ start.requires at-if1.if-r-ne0.false (bracket_yes _ _ at-sees-bracket.sees_bracket.ensures at-if2.if-sees_bracket.true)
+    take_goes _ _ start.requires (clear _ at-if1.is_some.ensures at-if1.if-is_some.false) (bracket_yes _ _ at-sees-bracket.sees_bracket.ensures at-if2.if-sees_bracket.true)
     c.advance.ensures
 
 pub returns : goal.returns
@@ -33,5 +33,5 @@ returns c =
     let at-sees-bracket = at-if2 in
     let at-if1 = at-sees-bracket in
     let start = at-if1 in
-    take_fails _ _ start.requires at-if1.if-r-ne0.false (bracket_no _ _ at-sees-bracket.sees_bracket.ensures at-if2.if-sees_bracket.false)
+    take_fails _ _ start.requires (clear _ at-if1.is_some.ensures at-if1.if-is_some.false) (bracket_no _ _ at-sees-bracket.sees_bracket.ensures at-if2.if-sees_bracket.false)
     c.refuse.ensures

@@ -1,14 +1,15 @@
 use mathlib.Core.Path.{refl, ap}
 use mathlib.Core.Logic.{inl, inr}
-use Rattle.token_reader.proofs.Steps.{stand, passes, fault}
+use Rattle.token_reader.specs.declared.Fault.TheVariants.{OutsideGrammar}
+use Rattle.token_reader.proofs.Steps.{stand, passes, fault, clear, met}
 use Rattle.token_reader.proofs.Naming.{bounds, name_no, named_sound, name_reads}
 use mathlib.Core.Bool.{not}
 use Rattle.token_reader.proofs.take_name.Goals as goal
 
-pub returns-then-r-ne0 : goal.returns-then-r-ne0
-returns-then-r-ne0 c =
+pub returns-then-is_some : goal.returns-then-is_some
+returns-then-is_some c =
     let start = c in
-    passes _ _ _ _ _ start.requires.0 c.if-r-ne0.true
+    passes _ _ _ _ _ start.requires.0 (met _ c.is_some.ensures c.if-is_some.true)
 
 pub at_name-requires : goal.at_name-requires
 at_name-requires c =
@@ -22,7 +23,7 @@ returns-then-not-at_name c =
     let at-cursor = at_name in
     let at-if1 = at-cursor in
     let start = at-if1 in
-    fault _ _ _ _ _ _ 17 (inr (inl refl)) start.requires.0 at-if1.if-r-ne0.false
+    fault _ _ _ _ _ _ OutsideGrammar (inr (inl refl)) start.requires.0 (clear _ at-if1.is_some.ensures at-if1.if-is_some.false)
     (name_no _ _ start.requires.0.stands at-cursor.cursor.ensures at_name.at_name.ensures _ (ap not at-if2.if-not-at_name.true)) c.refuse.ensures
 
 pub note_name-w-requires : goal.note_name-w-requires
@@ -45,7 +46,7 @@ note-requires c =
     let b = bounds _ _ p at-cursor.cursor.ensures at_name.at_name.ensures (ap not at-if2.if-not-at_name.false) in (
       start.requires.0,
       b.inside,
-      at-if1.if-r-ne0.false,
+      (clear _ at-if1.is_some.ensures at-if1.if-is_some.false),
       named_sound _ _ p at-cursor.cursor.ensures at_name.at_name.ensures _
           (ap not at-if2.if-not-at_name.false) start.requires.2 at-note-name.note_name-w.ensures,
     )

@@ -1,11 +1,11 @@
-use Rattle.token_reader.proofs.Steps.{take_passes, take_goes, take_fails}
+use Rattle.token_reader.proofs.Steps.{take_passes, take_goes, take_fails, clear, met}
 use Rattle.token_reader.proofs.Tested.{word_inside, word_yes, word_no}
 use Rattle.token_reader.proofs.take_word.Goals as goal
 
-pub returns-then-r-ne0 : goal.returns-then-r-ne0
-returns-then-r-ne0 c =
+pub returns-then-is_some : goal.returns-then-is_some
+returns-then-is_some c =
     let start = c in
-    take_passes _ _ start.requires c.if-r-ne0.true
+    take_passes _ _ start.requires (met _ c.is_some.ensures c.if-is_some.true)
 
 pub sees_word-requires : goal.sees_word-requires
 sees_word-requires c =
@@ -24,7 +24,7 @@ returns-then-sees_word c =
     let at-sees-word = at-if2 in
     let at-if1 = at-sees-word in
     let start = at-if1 in
-    take_goes _ _ start.requires at-if1.if-r-ne0.false (word_yes _ _ at-sees-word.sees_word.ensures at-if2.if-sees_word.true)
+    take_goes _ _ start.requires (clear _ at-if1.is_some.ensures at-if1.if-is_some.false) (word_yes _ _ at-sees-word.sees_word.ensures at-if2.if-sees_word.true)
     c.advance.ensures
 
 pub returns : goal.returns
@@ -33,4 +33,4 @@ returns c =
     let at-sees-word = at-if2 in
     let at-if1 = at-sees-word in
     let start = at-if1 in
-    take_fails _ _ start.requires at-if1.if-r-ne0.false (word_no _ _ at-sees-word.sees_word.ensures at-if2.if-sees_word.false) c.refuse.ensures
+    take_fails _ _ start.requires (clear _ at-if1.is_some.ensures at-if1.if-is_some.false) (word_no _ _ at-sees-word.sees_word.ensures at-if2.if-sees_word.false) c.refuse.ensures

@@ -1,6 +1,6 @@
-use lib.Dec.{eqb}
 use mathlib.Core.Bool.{◌&&◌, not}
-use mathlib.Core.Path.{ap}
+use mathlib.Core.Path.{ap₂}
+use Rattle.token_reader.proofs.Steps.{none_met}
 use Rattle.item_reader.proofs.nested.goes_on.Goals as goal
 
 pub sees_bracket-requires : goal.sees_bracket-requires
@@ -9,6 +9,4 @@ sees_bracket-requires c =
     start.requires
 
 pub returns : goal.returns
-returns c =
-    let start = c in
-    ap (λ z. eqb start.args.r.fault 0 && not z) c.sees_bracket.ensures
+returns c = ap₂ (λ w z. w && not z) (none_met _ c.is_none.ensures) c.sees_bracket.ensures
