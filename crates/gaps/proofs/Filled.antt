@@ -61,9 +61,6 @@ empty_gaps gaps l z = record { size = l; most = λ p. omega (arith, z p); low = 
 
 -- own entries cleared one by one
 module _ (before : List ℕ) where
-  pub cleared_start : Cleared 0 before before
-  cleared_start = record { size = refl; own = λ i h. absurd (omega arith); rest = λ p d. refl }
-
   pub cleared_more :
       (i : ℕ) (mid : List ℕ) → i < row_width → length before ≡ table_size → Cleared i before mid
       → Cleared (i + 1) before (set mid (row_width * i + i) no_order)
@@ -79,9 +76,6 @@ module _ (before : List ℕ) where
             ];
         rest = λ p d. get_or-set_other mid (row_width * i + i) p no_order 0 (d i (omega arith)) ∙ w.rest p (λ j l. d j (omega arith));
       }
-
-  pub cleared_all : {i n : ℕ} {after : List ℕ} → i ≡ n → Cleared i before after → Cleared n before after
-  cleared_all {i} {n} {after} e w = subst (λ j. Cleared j before after) e w
 
 -- an empty table, raised and then cleared of own entries
 pub table_of :

@@ -9,7 +9,6 @@ use native.Mathlib.Omega.{arith}
 use lib.Dec.{eqb}
 use lib.ListN.{length, get_or, set}
 use Rattle.job.specs.Model.{Model}
-use Rattle.job.specs.Clocked.{ClockedForm}
 use Rattle.timeline.specs.declared.walk.Cursor.{Cursor}
 use Rattle.timeline.specs.Words.{step_span, step_at, number_at, tick_at, value_at}
 use Rattle.timeline.specs.Placed.{Parted, Run}
@@ -22,7 +21,7 @@ use Rattle.links.specs.declared.tie.Tie.{Tie}
 use Rattle.links.specs.Tied.{TieAt, OwnPlace}
 use Rattle.links.proofs.Tied.{tie_empty}
 use Rattle.links.proofs.Supported.{TakenAt, taken_own, condition_some, condition_is}
-use Rattle.links.proofs.Putting.{put_none, put_one, put_then, put_as, put_filled, links_size, links_room}
+use Rattle.links.proofs.Putting.{put_none, put_one, put_then, put_as, put_filled, links_room}
 
 -- Along the conditions of fact f.
 module _ {points begins before : List ℕ} (f : ℕ) {initial low high first end : ℕ} where
@@ -54,10 +53,6 @@ module _ {points begins before : List ℕ} (f : ℕ) {initial low high first end
       (so : Linking points begins f initial low high first end p cursor tie firsts before list) where
     -- at one more condition: what is known of it, and that there is room for its link
     module _ (l : p < end) where
-      pub linking_there : p < length points
-      linking_there =
-          let beside = so.some.1 in omega (arith, beside.last, (beside.can.some.1.wanted f beside.fact).ends)
-
       pub linking_room : number_at points p < length list
       linking_room =
           let beside = so.some.1 in
@@ -145,9 +140,6 @@ module _ {points begins before : List ℕ} (f : ℕ) {initial low high first end
                   ]);
             }
 
-    pub linking_size : length list ≡ length before
-    linking_size = links_size so.some.1.can (so.put so.some.0 so.some.1)
-
     -- all conditions of the fact have been passed
     pub linking_end :
         {m : Model} → Beside m points begins f initial low high first end before → end ≤ p
@@ -162,9 +154,6 @@ module _ {points begins before : List ℕ} (f : ℕ) {initial low high first end
 
 module _ {m : Model} {points begins before : List ℕ} where
   -- Fact by fact.
-  pub below_start : LinksPut m points begins (Below m 0) before before
-  below_start x known valid = put_none before (λ k q. let none = q.1 in omega arith)
-
   pub below_more :
       {f : ℕ} {list after : List ℕ} → LinksPut m points begins (Below m f) before list → LinksPut m points begins (Wanting m f) list after
       → LinksPut m points begins (Below m (f + 1)) before after
@@ -178,16 +167,7 @@ module _ {m : Model} {points begins before : List ℕ} where
         | no e ↦ inr ((q.0, omega (arith, q.1)), λ g. e g.1)
       ])
 
-  pub below_end :
-      {f : ℕ} {list : List ℕ} → ClockedForm m → LinksPut m points begins (Below m f) before list → m.facts ≤ f
-      → LinksPut m points begins (λ c. c < m.conditions) before list
-  below_end {f} form so h x known valid =
-      put_as (so x known valid) (λ k q. q.0) (λ k l. (l, omega (arith, form.condition_fact k l)))
-
   -- Goal by goal.
-  pub goals_start : LinksPut m points begins (FromTo m.conditions (m.conditions + 0)) before before
-  goals_start x known valid = put_none before (λ k q. let from = q.0 in let to = q.1 in omega arith)
-
   pub goals_more :
       (g : ℕ) {link : ℕ} {list : List ℕ} → m.conditions + g < length list → LinkIs m points begins (m.conditions + g) link
       → LinksPut m points begins (FromTo m.conditions (m.conditions + g)) before list
@@ -201,11 +181,6 @@ module _ {m : Model} {points begins before : List ℕ} where
         | yes e ↦ inl e
         | no e ↦ inr ((q.0, omega (arith, q.1)), e)
       ])
-
-  pub goals_end :
-      (g : ℕ) {list : List ℕ} → g ≤ m.goals → m.goals ≤ g → LinksPut m points begins (FromTo m.conditions (m.conditions + g)) before list
-      → LinksPut m points begins (FromTo m.conditions (m.conditions + m.goals)) before list
-  goals_end g h l so = let e : g ≡ m.goals = omega arith in rw e at so
 
   -- conditions and goals together
   pub links_found :

@@ -54,9 +54,6 @@ module _ (m : Model) {before list : List ℕ} where
         rest = λ j l. get_or-set_other list k j number 0 (λ (z : j ≡ k). omega arith) ∙ w.rest j (omega arith);
       }
 
-pub numbered_none : (m : Model) (list : List ℕ) → NumberedTo m 0 list list
-numbered_none m list = record { size = refl; each = λ k l. absurd (omega arith); rest = λ k l. refl }
-
 -- the walk has come to the end of a list's beginning, where all links are
 pub numbered_all :
     (m : Model) {links list : List ℕ} {k : ℕ} → m.conditions + m.goals ≤ length links → length (take (m.conditions + m.goals) links) ≤ k

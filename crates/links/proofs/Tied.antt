@@ -1,26 +1,22 @@
 -- A tie: how far it goes, how the first place of each step is noted from its last point to its first, and which point is taken.
 use Prim.Native.Nat.{ℕ, ◌+◌, ◌-◌, ◌≤◌, ◌<◌}
 use mathlib.Core.Path.{◌≡◌, refl, sym, ap, ◌∙◌}
-use mathlib.Core.Bool.{true, false, ◌&&◌, ◌||◌}
+use mathlib.Core.Bool.{true, false, ◌||◌}
 use mathlib.Core.List.{List}
 use mathlib.Core.Logic.{⊎_elim}
 use native.Mathlib.Decide.{dec_lt, ℕ_discrete}
 use native.Mathlib.Omega.{arith}
-use borrow.Author.Tests.{eqb-true, ltb-true, ltb-false, leb-true, leb-false}
-use lib.Dec.{ltb, leb, eqb}
+use borrow.Author.Tests.{ltb-true, ltb-false, leb-true, leb-false}
+use lib.Dec.{ltb, leb}
 use lib.ListN.{length, get_or, set}
 use lib.Seq.{get_or-set_same, get_or-set_other}
-use Rattle.laws.proofs.Search.{and_both, or_out, or_both}
+use Rattle.laws.proofs.Search.{or_out, or_both}
 use Rattle.timeline.specs.Words.{step_span, step_at, tick_at}
 use Rattle.orders.specs.Supporter.{own_step, lower_number}
-use Rattle.links.specs.declared.tie.Tie.{Tie}
 use Rattle.links.specs.Tied.{OneTick, Tied, Firsts, TieKnown, TieAt, OwnPlace}
 
 module _ {points : List ℕ} {from : ℕ} where
-  -- a point has one tick, and the next of the same tick goes on with it
-  pub tick_start : {end : ℕ} → end ≡ from + 1 → OneTick points from end
-  tick_start e = record { same = λ p l i. ap (tick_at points) (let q : p ≡ from = omega arith in q) }
-
+  -- the next of the same tick goes on with it
   pub tick_more : {end : ℕ} → OneTick points from end → tick_at points end ≡ tick_at points from → OneTick points from (end + 1)
   tick_more {end} so e =
       record {
@@ -30,10 +26,6 @@ module _ {points : List ℕ} {from : ℕ} where
               | no j ↦ ap (tick_at points) (let q : p ≡ end = omega arith in q) ∙ e
             ];
       }
-
-  -- nothing is noted of no points
-  pub firsts_none : {end : ℕ} {firsts : List ℕ} → end ≤ from → Firsts points from end firsts
-  firsts_none h = record { first = λ p l i. absurd (omega arith) }
 
 -- one more point, before those that are noted, is the first of its step
 pub firsts_more :
@@ -76,14 +68,6 @@ tie_empty size h =
     }
 
 module _ {points : List ℕ} {high run : ℕ} (room : high ≤ length points) where
-  -- the last tie is still the one
-  pub tie_kept :
-      {tie : Tie} {firsts : List ℕ} → TieKnown points high tie firsts → (eqb tie.from run && ltb run tie.end) ≡ true
-      → TieAt points high run tie firsts
-  tie_kept {tie} known t =
-      let b = and_both _ _ t in
-      record { known = known; begins = eqb-true tie.from run b.0; some = λ _. ltb-true run tie.end b.1 }
-
   -- no point stands there
   pub tie_none :
       {firsts : List ℕ} → length firsts ≡ step_span → run ≤ high → high ≤ run
@@ -116,15 +100,6 @@ pub within : (from end r : ℕ) → (ltb r from || leb end r) ≡ false → (fro
 within from end r t = let b = or_both _ _ t in (ltb-false r from b.0, leb-false end r b.1)
 
 module _ {points : List ℕ} {from end step : ℕ} where
-  -- the only point is taken
-  pub own_only : from ≤ end → end ≤ from + 1 → OwnPlace points from end step from
-  own_only h l =
-      record {
-        begins = omega arith;
-        ends = λ i. i;
-        first = λ p j k. lower_number (λ o. ap (step_at points) (let e : from ≡ p = omega arith in e) ∙ o) j;
-      }
-
   module _ {firsts : List ℕ} (noted : Firsts points from end firsts) {r : ℕ} (is : r ≡ get_or firsts step 0) where
     -- a point of the own step is noted by its step's first place
     own_noted :
