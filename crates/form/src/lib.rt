@@ -9,6 +9,7 @@ ghost use Rattle.verdict.specs.Verdict.{number as number_of};
 ghost use Rattle.job.specs.WellFormed.{WellFormed};
 
 use job::layout::Job;
+use job_reader::reader::JobReader;
 use record_check::read_records;
 use self_check::check_steps;
 use self_check::clock::check_clock;
@@ -18,10 +19,11 @@ use verdict::{Refusal, Verdict};
 pub fn read_form(s: &[u8]) -> Result<Job, Refusal>
     ensures { FormPromise s.now result }
 {
-    let job = read_records(s)?;
-    check_steps(s, job)?;
-    check_clock(s, job)?;
-    Ok(job)
+    let head = read_records(s)?;
+    let job = JobReader { bytes: s, head };
+    check_steps(job)?;
+    check_clock(job)?;
+    Ok(head)
 }
 
 // Whether a file is well formed: accepted, or the first of refusals 1 to 7 and 17 that fits. Of an accepted file every record is in

@@ -1,8 +1,9 @@
 // The table of gaps, filled rule by rule (orders, rules 1 to 4). Of several gaps for one entry the largest stays.
+ghost use Rattle.points.specs.Timelines.{model, schedule};
+ghost use Rattle.job_reader.specs.Seen.{seen, IsLaid};
 ghost use Rattle.std.specs.Prelude.{◌≡◌, ℕ, ◌+◌, ◌≤◌, ◌<◌, List, length};
 ghost use Rattle.job.specs.Model.{view};
 ghost use Rattle.job.specs.Clocked.{clocked};
-ghost use Rattle.job.specs.Laid.{Laid};
 ghost use Rattle.validity.specs.Ticks.{schedule_of};
 ghost use Rattle.orders.specs.Gaps.{support_order, support_gap, opposing_gap, condition_gap, level_gap, gap_of};
 ghost use Rattle.order_file.specs.Table.{Gaps, row_width, table_size};
@@ -12,27 +13,28 @@ ghost use Rattle.gaps.specs.Rules.{Cleared, SupportKnown, RaisedByLinks, ValidPo
 
 use crate::needs::fill_needs;
 use job::layout::Job;
-use job_reader::laid::{condition_of, effect_of};
+use job_reader::reader::JobReader;
 use order_file::table::{NO_ORDER, WIDTH};
 use origins::{Fact, raise, strictly};
+use points::timeline::Timeline;
 use rows::{raise_among, raise_conditions, raise_setters};
 use timeline::word::begin_at;
 
 // Rule 1 for condition c, by its link. One to the initial state or to a timed fact, which are numbered behind the effects, orders no two steps.
-fn raise_support(s: &[u8], job: Job, links: &[u16], c: u16, gaps: &mut [u32])
-    requires { SupportKnown (view job s.now) links.now gaps.old × (c < job.count.conditions) × Laid job s.now }
-    ensures raised_by_links { RaisedByLinks (clocked (view job s.now)) links.now (λ m x i k. support_order m x i k c)
+fn raise_support(job: JobReader, links: &[u16], c: u16, gaps: &mut [u32])
+    requires { SupportKnown (seen job) links.now gaps.old × (c < job.head.count.conditions) × IsLaid job }
+    ensures raised_by_links { RaisedByLinks (clocked (seen job.entry)) links.now (λ m x i k. support_order m x i k c)
         gaps.old gaps.new }
     ensures gaps { Gaps gaps.new }
 {
-    let effects = job.count.effects;
+    let effects = job.head.count.effects;
     let link = links[c as usize];
     let of_clock = link >= effects;
     if of_clock {
         return;
     }
-    let condition = condition_of(s, job, c);
-    let effect = effect_of(s, job, link);
+    let condition = job.condition(c);
+    let effect = job.effect(link);
     raise(
         effect.step,
         condition.step,
@@ -42,23 +44,30 @@ fn raise_support(s: &[u8], job: Job, links: &[u16], c: u16, gaps: &mut [u32])
 }
 
 // Rule 1.
-fn fill_support(s: &[u8], job: Job, links: &[u16], gaps: &mut [u32])
-    requires { SupportKnown (view job s.now) links.now gaps.old × Laid job s.now }
-    ensures { RaisedByLinks (clocked (view job s.now)) links.now support_gap gaps.old gaps.new }
+fn fill_support(job: JobReader, links: &[u16], gaps: &mut [u32])
+    requires { SupportKnown (seen job) links.now gaps.old × IsLaid job }
+    ensures { RaisedByLinks (clocked (seen job.entry)) links.now support_gap gaps.old gaps.new }
 {
-    let n = job.count.conditions;
+    let n = job.head.count.conditions;
     for c in 0..n {
-        raise_support(s, job, links, c, gaps);
+        raise_support(job, links, c, gaps);
     }
 }
 
 // Rule 2 for each fact.
-fn fill_opposing(job: Job, starts: &[u32], points: &[u64], begins: &[u16], gaps: &mut [u32])
-    requires { (s : List ℕ) × ValidPoints (view job s) (schedule_of starts.now) points.now begins.now × Gaps gaps.old
-        × (job.count.steps ≤ length starts.now) }
-    ensures { (s : List ℕ) → ValidPoints (view job s) (schedule_of starts.now) points.now begins.now
-        → Raised job.count.steps (opposing_gap (view job s) (schedule_of starts.now)) gaps.old gaps.new }
+fn fill_opposing(timeline: Timeline, gaps: &mut [u32])
+    requires { (s : List ℕ) × ValidPoints (view timeline.job.head s) (schedule timeline) timeline.points.now timeline.begins.now
+        × Gaps gaps.old
+        × (timeline.job.head.count.steps ≤ length timeline.starts.now) }
+    ensures { (s : List ℕ) → ValidPoints (view timeline.entry.job.head s) (schedule timeline.entry) timeline.entry.points.now timeline.entry.begins.now
+        → Raised timeline.entry.job.head.count.steps (opposing_gap (view timeline.entry.job.head s) (schedule timeline.entry)) gaps.old gaps.new }
 {
+    let Timeline {
+        job: JobReader { head: job, .. },
+        starts,
+        points,
+        begins,
+    } = timeline;
     let n = job.count.facts as usize;
     let steps = job.count.steps as usize;
     for f in 0..n {
@@ -82,33 +91,39 @@ fn places_of(begins: &[u16], facts: usize, f: usize) -> Fact
 }
 
 // Rule 3 for each fact.
-fn fill_conditions(
-    s: &[u8],
-    job: Job,
-    starts: &[u32],
-    points: &[u64],
-    begins: &[u16],
-    gaps: &mut [u32],
-)
-    requires { ValidPoints (view job s.now) (schedule_of starts.now) points.now begins.now × Gaps gaps.old
-        × (job.count.steps ≤ length starts.now) }
-    ensures { Raised job.count.steps (condition_gap (view job s.now) (schedule_of starts.now))
+fn fill_conditions(timeline: Timeline, gaps: &mut [u32])
+    requires { ValidPoints (seen timeline.job) (schedule timeline) timeline.points.now timeline.begins.now × Gaps gaps.old
+        × (timeline.job.head.count.steps ≤ length timeline.starts.now) }
+    ensures { Raised timeline.entry.job.head.count.steps (condition_gap (seen timeline.entry.job) (schedule timeline.entry))
         gaps.old gaps.new }
 {
-    let n = job.count.facts as usize;
+    let Timeline {
+        job,
+        starts,
+        points,
+        begins,
+    } = timeline;
+    let n = job.head.count.facts as usize;
     for f in 0..n {
         let fact = places_of(begins, n, f);
-        raise_conditions(s, job, starts, points, fact, gaps);
+        raise_conditions(job, starts, points, fact, gaps);
     }
 }
 
 // Rule 4 for each level.
-fn fill_levels(job: Job, starts: &[u32], points: &[u64], begins: &[u16], gaps: &mut [u32])
-    requires { (s : List ℕ) × ValidPoints (view job s) (schedule_of starts.now) points.now begins.now × Gaps gaps.old
-        × (job.count.steps ≤ length starts.now) }
-    ensures { (s : List ℕ) → ValidPoints (view job s) (schedule_of starts.now) points.now begins.now
-        → Raised job.count.steps (level_gap (view job s) (schedule_of starts.now)) gaps.old gaps.new }
+fn fill_levels(timeline: Timeline, gaps: &mut [u32])
+    requires { (s : List ℕ) × ValidPoints (view timeline.job.head s) (schedule timeline) timeline.points.now timeline.begins.now
+        × Gaps gaps.old
+        × (timeline.job.head.count.steps ≤ length timeline.starts.now) }
+    ensures { (s : List ℕ) → ValidPoints (view timeline.entry.job.head s) (schedule timeline.entry) timeline.entry.points.now timeline.entry.begins.now
+        → Raised timeline.entry.job.head.count.steps (level_gap (view timeline.entry.job.head s) (schedule timeline.entry)) gaps.old gaps.new }
 {
+    let Timeline {
+        job: JobReader { head: job, .. },
+        starts,
+        points,
+        begins,
+    } = timeline;
     let facts = job.count.facts as usize;
     let n = job.count.levels as usize;
     let steps = job.count.steps as usize;
@@ -131,23 +146,17 @@ fn clear_own(gaps: &mut [u32])
 }
 
 // All rules, one after the other, into an empty table.
-pub fn fill_gaps(
-    s: &[u8],
-    job: Job,
-    starts: &[u32],
-    points: &[u64],
-    begins: &[u16],
-    links: &[u16],
-    gaps: &mut [u32],
-)
-    requires { Fillable (view job s.now) (schedule_of starts.now) points.now begins.now links.now gaps.old × Laid job s.now
-        × (job.count.steps ≤ length starts.now) }
-    ensures { TableOf job.count.steps (gap_of (clocked (view job s.now)) (schedule_of starts.now)) gaps.new }
+pub fn fill_gaps(timeline: Timeline, links: &[u16], gaps: &mut [u32])
+    requires { Fillable (seen timeline.job) (schedule timeline) timeline.points.now timeline.begins.now links.now gaps.old
+        × IsLaid timeline.job
+        × (timeline.job.head.count.steps ≤ length timeline.starts.now) }
+    ensures { TableOf timeline.entry.job.head.count.steps (gap_of (model timeline.entry) (schedule timeline.entry)) gaps.new }
 {
-    fill_support(s, job, links, gaps);
-    fill_opposing(job, starts, points, begins, gaps);
-    fill_conditions(s, job, starts, points, begins, gaps);
-    fill_levels(job, starts, points, begins, gaps);
-    fill_needs(job, starts, points, begins, gaps);
+    let Timeline { job, .. } = timeline;
+    fill_support(job, links, gaps);
+    fill_opposing(timeline, gaps);
+    fill_conditions(timeline, gaps);
+    fill_levels(timeline, gaps);
+    fill_needs(timeline, gaps);
     clear_own(gaps);
 }

@@ -1,4 +1,5 @@
 // Needs and the uses of their levels, into the table of gaps: ordered as they lie, with rule 4.
+ghost use Rattle.points.specs.Timelines.{schedule};
 ghost use Rattle.std.specs.Prelude.{◌≡◌, ℕ, ◌+◌, ◌≤◌, ◌<◌, List, length};
 ghost use Rattle.job.specs.Model.{view};
 ghost use Rattle.validity.specs.Ticks.{schedule_of};
@@ -8,7 +9,9 @@ ghost use Rattle.origins.specs.Raised.{Raised};
 ghost use Rattle.gaps.specs.Rules.{ValidPoints, span_at};
 
 use job::layout::Job;
+use job_reader::reader::JobReader;
 use origins::Span;
+use points::timeline::Timeline;
 use rows::raise_between;
 use timeline::word::begin_at;
 
@@ -24,12 +27,19 @@ fn span_of(begins: &[u16], group: usize) -> Span
 }
 
 // The uses of each level and its needs.
-pub fn fill_needs(job: Job, starts: &[u32], points: &[u64], begins: &[u16], gaps: &mut [u32])
-    requires { (s : List ℕ) × ValidPoints (view job s) (schedule_of starts.now) points.now begins.now × Gaps gaps.old
-        × (job.count.steps ≤ length starts.now) }
-    ensures { (s : List ℕ) → ValidPoints (view job s) (schedule_of starts.now) points.now begins.now
-        → Raised job.count.steps (need_gap (view job s) (schedule_of starts.now)) gaps.old gaps.new }
+pub fn fill_needs(timeline: Timeline, gaps: &mut [u32])
+    requires { (s : List ℕ) × ValidPoints (view timeline.job.head s) (schedule timeline) timeline.points.now timeline.begins.now
+        × Gaps gaps.old
+        × (timeline.job.head.count.steps ≤ length timeline.starts.now) }
+    ensures { (s : List ℕ) → ValidPoints (view timeline.entry.job.head s) (schedule timeline.entry) timeline.entry.points.now timeline.entry.begins.now
+        → Raised timeline.entry.job.head.count.steps (need_gap (view timeline.entry.job.head s) (schedule timeline.entry)) gaps.old gaps.new }
 {
+    let Timeline {
+        job: JobReader { head: job, .. },
+        starts,
+        points,
+        begins,
+    } = timeline;
     if job.count.needs == 0 {
         return;
     }

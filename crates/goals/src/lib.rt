@@ -1,17 +1,18 @@
 // Refusal 13: what the last points of a goal's fact say of it.
 #![tactic(auto)]
 
+ghost use Rattle.points.specs.Timelines.{model};
+ghost use Rattle.job_reader.specs.Seen.{seen};
 ghost use Rattle.std.specs.Prelude.{◌≡◌, ℕ, ◌≤◌, ◌<◌, length};
 ghost use Rattle.laws.specs.Search.{first_where};
 ghost use Rattle.job.specs.Clocked.{clocked};
-ghost use Rattle.job.specs.Model.{view};
 ghost use Rattle.validity.specs.Checks.{goal_fails};
 ghost use Rattle.points.specs.Points.{PointsKnown, OneValue};
 ghost use Rattle.goals.specs.GoalRuns.{GoalsKnown, LateRun};
 
-use job::layout::Job;
 use job::records::NO_DEADLINE;
-use job_reader::reader::{fact_at, goal_at};
+use job_reader::reader::JobReader;
+use points::timeline::Timeline;
 use timeline::walk::last_run;
 use timeline::word::{begin_at, tick_of, value_of};
 
@@ -28,18 +29,24 @@ fn late(points: &[u64], low: usize, high: usize, kept: bool, deadline: usize) ->
 }
 
 // Whether goal g fails or comes after its deadline.
-fn goal_fails(s: &[u8], job: Job, points: &[u64], begins: &[u16], g: u16) -> bool
-    requires { GoalsKnown (clocked (view job s.now)) points.now begins.now × (g < job.count.goals) }
-    ensures { (x : ℕ → ℕ) → PointsKnown (clocked (view job s.now)) x points.now begins.now
-        → OneValue (clocked (view job s.now)) x → result ≡ goal_fails (clocked (view job s.now)) x g }
+fn goal_fails(timeline: Timeline, g: u16) -> bool
+    requires { GoalsKnown (model timeline) timeline.points.now timeline.begins.now × (g < timeline.job.head.count.goals) }
+    ensures { (x : ℕ → ℕ) → PointsKnown (model timeline.entry) x timeline.entry.points.now timeline.entry.begins.now
+        → OneValue (model timeline.entry) x → result ≡ goal_fails (model timeline.entry) x g }
 {
-    let goal = goal_at(s, job, g);
+    let Timeline {
+        job,
+        points,
+        begins,
+        ..
+    } = timeline;
+    let goal = job.goal(g);
     let fact = goal.fact;
     let value = goal.value;
     let deadline = goal.deadline;
     let low = begin_at(begins, fact as usize);
     let high = begin_at(begins, fact as usize + 1);
-    let kept = fact_at(s, job, fact) == value;
+    let kept = job.fact_initial(fact) == value;
     if high <= low {
         return !kept;
     }
@@ -50,14 +57,15 @@ fn goal_fails(s: &[u8], job: Job, points: &[u64], begins: &[u16], g: u16) -> boo
 }
 
 // The lowest goal that fails or comes after its deadline, if one does.
-pub fn first_missed(s: &[u8], job: Job, points: &[u64], begins: &[u16]) -> Option<u16>
-    requires { GoalsKnown (clocked (view job s.now)) points.now begins.now }
-    ensures { (x : ℕ → ℕ) → PointsKnown (clocked (view job s.now)) x points.now begins.now
-        → OneValue (clocked (view job s.now)) x
-        → result ≡ first_where job.count.goals (goal_fails (clocked (view job s.now)) x) }
+pub fn first_missed(timeline: Timeline) -> Option<u16>
+    requires { GoalsKnown (model timeline) timeline.points.now timeline.begins.now }
+    ensures { (x : ℕ → ℕ) → PointsKnown (model timeline.entry) x timeline.entry.points.now timeline.entry.begins.now
+        → OneValue (model timeline.entry) x
+        → result ≡ first_where timeline.entry.job.head.count.goals (goal_fails (model timeline.entry) x) }
 {
-    for g in 0..job.count.goals {
-        if goal_fails(s, job, points, begins, g) {
+    let Timeline { job, .. } = timeline;
+    for g in 0..job.head.count.goals {
+        if goal_fails(timeline, g) {
             return Some(g);
         }
     }

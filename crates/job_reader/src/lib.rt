@@ -1,6 +1,7 @@
-// Whole records of a job, through the reader that holds the caller's bytes: facts, levels, steps and goals of any bytes; conditions,
-// effects, uses, timed facts and needs that lie within the bytes, without a test for room.
+// The reader of a job: its fields and records, read from the caller's own bytes.
 #![tactic(auto)]
 
+pub mod fields;
 pub mod laid;
 pub mod reader;
+pub mod records;

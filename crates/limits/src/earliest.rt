@@ -1,8 +1,8 @@
 // Earliest limits: a point strictly after the tick T of a timed fact gives start ≥ T + 1 − point.
+ghost use Rattle.points.specs.Timelines.{schedule};
+ghost use Rattle.job_reader.specs.Seen.{seen, IsLaid};
 ghost use Rattle.std.specs.Prelude.{◌≡◌, ◌-◌, ◌<◌, length};
-ghost use Rattle.job.specs.Model.{view};
 ghost use Rattle.job.specs.WellFormed.{WellFormed};
-ghost use Rattle.job.specs.Laid.{Laid};
 ghost use Rattle.validity.specs.Ticks.{schedule_of};
 ghost use Rattle.order_file.specs.Table.{row_width};
 ghost use Rattle.limits.specs.Timed.{TimedPoints, TimedLinks, AllAre, ClockLimits};
@@ -11,11 +11,11 @@ ghost use Rattle.limits.specs.Beside.{LaterThan, OfWords, OfTimed, LimitBy, Limi
 ghost use Rattle.moves.specs.Others.{Row};
 
 use crate::timed::{MARKS, MOST_TIMED, Span, list_timed, span_of};
-use job::layout::Job;
-use job_reader::laid::{condition_of, timed_of};
+use job_reader::reader::JobReader;
 use moves::others::last_other;
 use moves::{raise_limit, raise_point};
 use order_file::layout::INITIAL_STATE;
+use points::timeline::Timeline;
 use timeline::walk::{Cursor, advance};
 use timeline::word::{tick_of, value_of};
 
@@ -44,27 +44,27 @@ fn raise_points(starts: &[u32], points: &[u64], order: &[u64], span: Span, limit
 }
 
 // For all points of each fact.
-fn raise_timed(
-    s: &[u8],
-    job: Job,
-    starts: &[u32],
-    points: &[u64],
-    begins: &[u16],
-    limits: &mut [u32],
-)
-    requires { TimedPoints (view job s.now) starts.now points.now begins.now × Laid job s.now × (length limits.old ≡ row_width) }
+fn raise_timed(timeline: Timeline, limits: &mut [u32])
+    requires { TimedPoints (seen timeline.job) timeline.starts.now timeline.points.now timeline.begins.now × IsLaid timeline.job
+        × (length limits.old ≡ row_width) }
     ensures { Moved Up
-        (Among 0 job.count.timed
-        (LimitBy (view job s.now) (schedule_of starts.now) points.now begins.now))
+        (Among 0 timeline.entry.job.head.count.timed
+        (LimitBy (seen timeline.entry.job) (schedule timeline.entry) timeline.entry.points.now timeline.entry.begins.now))
         limits.old limits.new }
 {
-    if job.count.timed == 0 {
+    let Timeline {
+        job,
+        starts,
+        points,
+        begins,
+    } = timeline;
+    if job.head.count.timed == 0 {
         return;
     }
     let mut order = [0u64; MOST_TIMED];
     let mut marks = [0u16; MARKS];
-    list_timed(s, job, starts, &mut order, &mut marks);
-    let facts = job.count.facts as usize;
+    list_timed(job, starts, &mut order, &mut marks);
+    let facts = job.head.count.facts as usize;
     for f in 0..facts {
         let setters = span_of(begins, f, &marks, f);
         raise_points(starts, points, &order, setters, limits);
@@ -74,48 +74,42 @@ fn raise_timed(
 }
 
 // Rule 1: condition c begins after the timed fact that it is linked to.
-fn raise_linked(s: &[u8], job: Job, links: &[u16], c: u16, limits: &mut [u32])
-    requires { WellFormed (view job s.now) × LinksNamed (view job s.now) links.now × (c < job.count.conditions) × Laid job s.now
+fn raise_linked(job: JobReader, links: &[u16], c: u16, limits: &mut [u32])
+    requires { WellFormed (seen job) × LinksNamed (seen job) links.now × (c < job.head.count.conditions) × IsLaid job
         × (length limits.old ≡ row_width) }
-    ensures { Moved Up (LimitByLink (view job s.now) links.now c) limits.old limits.new }
+    ensures { Moved Up (LimitByLink (seen job.entry) links.now c) limits.old limits.new }
 {
     let link = links[c as usize];
-    if (link < job.count.effects) | (link == INITIAL_STATE) {
+    if (link < job.head.count.effects) | (link == INITIAL_STATE) {
         return;
     }
-    let condition = condition_of(s, job, c);
-    let timed = timed_of(s, job, link - job.count.effects);
+    let condition = job.condition(c);
+    let timed = job.timed(link - job.head.count.effects);
     raise_limit(condition.step, condition.from, timed.tick + 1, limits);
 }
 
 // For all conditions.
-fn raise_supported(s: &[u8], job: Job, links: &[u16], limits: &mut [u32])
-    requires { WellFormed (view job s.now) × LinksNamed (view job s.now) links.now × Laid job s.now × (length limits.old ≡ row_width) }
-    ensures { Moved Up (Among 0 job.count.conditions (LimitByLink (view job s.now) links.now))
+fn raise_supported(job: JobReader, links: &[u16], limits: &mut [u32])
+    requires { WellFormed (seen job) × LinksNamed (seen job) links.now × IsLaid job × (length limits.old ≡ row_width) }
+    ensures { Moved Up (Among 0 job.entry.head.count.conditions (LimitByLink (seen job.entry) links.now))
         limits.old limits.new }
 {
-    if job.count.timed == 0 {
+    if job.head.count.timed == 0 {
         return;
     }
-    for c in 0..job.count.conditions {
-        raise_linked(s, job, links, c, limits);
+    for c in 0..job.head.count.conditions {
+        raise_linked(job, links, c, limits);
     }
 }
 
 // Raises the limits of the steps, all of them 0, to what timed facts leave.
-pub fn clock_limits(
-    s: &[u8],
-    job: Job,
-    starts: &[u32],
-    points: &[u64],
-    begins: &[u16],
-    links: &[u16],
-    limits: &mut [u32],
-)
-    requires { TimedPoints (view job s.now) starts.now points.now begins.now × TimedLinks (view job s.now) starts.now links.now
-        × Laid job s.now × AllAre 0 limits.old }
-    ensures { ClockLimits (view job s.now) (schedule_of starts.now) limits.new }
+pub fn clock_limits(timeline: Timeline, links: &[u16], limits: &mut [u32])
+    requires { TimedPoints (seen timeline.job) timeline.starts.now timeline.points.now timeline.begins.now
+        × TimedLinks (seen timeline.job) timeline.starts.now links.now
+        × IsLaid timeline.job × AllAre 0 limits.old }
+    ensures { ClockLimits (seen timeline.entry.job) (schedule timeline.entry) limits.new }
 {
-    raise_timed(s, job, starts, points, begins, limits);
-    raise_supported(s, job, links, limits);
+    let Timeline { job, .. } = timeline;
+    raise_timed(timeline, limits);
+    raise_supported(job, links, limits);
 }

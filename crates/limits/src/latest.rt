@@ -1,8 +1,8 @@
 // Latest starts: a point strictly before the tick T of a timed fact gives start ≤ T − point − 1.
+ghost use Rattle.points.specs.Timelines.{schedule};
+ghost use Rattle.job_reader.specs.Seen.{seen, IsLaid};
 ghost use Rattle.std.specs.Prelude.{◌≡◌, ℕ, ◌+◌, ◌<◌, length};
-ghost use Rattle.job.specs.Model.{view};
 ghost use Rattle.job.specs.WellFormed.{WellFormed};
-ghost use Rattle.job.specs.Laid.{Laid};
 ghost use Rattle.validity.specs.Ticks.{schedule_of};
 ghost use Rattle.order_file.specs.Contents.{no_latest};
 ghost use Rattle.order_file.specs.Table.{row_width};
@@ -12,9 +12,10 @@ ghost use Rattle.limits.specs.Beside.{SoonerAt, SoonerThan, EndedBy, OfWords, Of
 ghost use Rattle.moves.specs.Others.{Row};
 
 use crate::timed::{MARKS, MOST_TIMED, Span, list_timed, span_of};
-use job::layout::Job;
+use job_reader::reader::JobReader;
 use moves::others::{next_other, next_tick};
 use moves::{end_in, lower_start, offset_in};
+use points::timeline::Timeline;
 use timeline::word::{step_of, tick_of, value_of};
 
 // For points of a span, each as far into its step as `at` says: along them and, beside them, the timed facts that come next.
@@ -62,66 +63,53 @@ fn lower_setters(starts: &[u32], points: &[u64], order: &[u64], span: Span, late
 
 // Rule 3 for the conditions of a span: one that wants another value ends before the timed fact that it begins before, as the schedule is
 // valid.
-fn lower_conditions(
-    s: &[u8],
-    job: Job,
-    points: &[u64],
-    order: &[u64],
-    span: Span,
-    latest: &mut [u32],
-)
-    requires { Wanted (view job s.now) (length latest.old) points.now span.low span.high × Row order.now span.from span.until
-        × Laid job s.now }
+fn lower_conditions(job: JobReader, points: &[u64], order: &[u64], span: Span, latest: &mut [u32])
+    requires { Wanted (seen job) (length latest.old) points.now span.low span.high × Row order.now span.from span.until
+        × IsLaid job }
     ensures { Moved Down
         (OfWords points.now span.low span.high
-        (OfTimed order.now span.from span.until (EndedBy (view job s.now))))
+        (OfTimed order.now span.from span.until (EndedBy (seen job.entry))))
         latest.old latest.new }
 {
-    lower_points(points, order, span, |word| end_in(s, job, word), latest);
+    lower_points(points, order, span, |word| end_in(job, word), latest);
 }
 
 // For all setters and conditions of each fact. Apart from `raise_timed`, though the walk is the same: there one rule raises both kinds of
 // points, and here each has its own.
-fn lower_timed(
-    s: &[u8],
-    job: Job,
-    starts: &[u32],
-    points: &[u64],
-    begins: &[u16],
-    latest: &mut [u32],
-)
-    requires { TimedPoints (view job s.now) starts.now points.now begins.now × Laid job s.now × (length latest.old ≡ row_width) }
+fn lower_timed(timeline: Timeline, latest: &mut [u32])
+    requires { TimedPoints (seen timeline.job) timeline.starts.now timeline.points.now timeline.begins.now × IsLaid timeline.job
+        × (length latest.old ≡ row_width) }
     ensures { Moved Down
-        (Among 0 job.count.timed
-        (LatestBy (view job s.now) (schedule_of starts.now) points.now begins.now))
+        (Among 0 timeline.entry.job.head.count.timed
+        (LatestBy (seen timeline.entry.job) (schedule timeline.entry) timeline.entry.points.now timeline.entry.begins.now))
         latest.old latest.new }
 {
-    if job.count.timed == 0 {
+    let Timeline {
+        job,
+        starts,
+        points,
+        begins,
+    } = timeline;
+    if job.head.count.timed == 0 {
         return;
     }
     let mut order = [0u64; MOST_TIMED];
     let mut marks = [0u16; MARKS];
-    list_timed(s, job, starts, &mut order, &mut marks);
-    let facts = job.count.facts as usize;
+    list_timed(job, starts, &mut order, &mut marks);
+    let facts = job.head.count.facts as usize;
     for f in 0..facts {
         let setters = span_of(begins, f, &marks, f);
         lower_setters(starts, points, &order, setters, latest);
         let wanted = span_of(begins, facts + f, &marks, f);
-        lower_conditions(s, job, points, &order, wanted, latest);
+        lower_conditions(job, points, &order, wanted, latest);
     }
 }
 
 // Lowers the latest starts of the steps, none of which has one, to what timed facts leave.
-pub fn clock_latest(
-    s: &[u8],
-    job: Job,
-    starts: &[u32],
-    points: &[u64],
-    begins: &[u16],
-    latest: &mut [u32],
-)
-    requires { TimedPoints (view job s.now) starts.now points.now begins.now × Laid job s.now × AllAre no_latest latest.old }
-    ensures { ClockLatest (view job s.now) (schedule_of starts.now) latest.new }
+pub fn clock_latest(timeline: Timeline, latest: &mut [u32])
+    requires { TimedPoints (seen timeline.job) timeline.starts.now timeline.points.now timeline.begins.now × IsLaid timeline.job
+        × AllAre no_latest latest.old }
+    ensures { ClockLatest (seen timeline.entry.job) (schedule timeline.entry) latest.new }
 {
-    lower_timed(s, job, starts, points, begins, latest);
+    lower_timed(timeline, latest);
 }

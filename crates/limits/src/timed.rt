@@ -1,13 +1,13 @@
 // The timed facts of a job, fact by fact in the order of their ticks.
+ghost use Rattle.job_reader.specs.Seen.{seen, IsLaid};
 ghost use Rattle.std.specs.Prelude.{◌≡◌, ◌+◌, ◌<◌, length, get_or};
 ghost use Rattle.job.specs.Layout.{most_timed};
-ghost use Rattle.job.specs.Model.{view};
 ghost use Rattle.job.specs.WellFormed.{WellFormed};
-ghost use Rattle.job.specs.Laid.{Laid};
 ghost use Rattle.validity.specs.Ticks.{schedule_of};
 ghost use Rattle.limits.specs.Known.{only_timed, TimedKnown, mark_count};
 
 use job::layout::{Counts, Job};
+use job_reader::reader::JobReader;
 use points::words::list_points;
 use timeline::word::begin_at;
 
@@ -48,13 +48,17 @@ fn only_timed(job: Job) -> Job
 }
 
 // Lists the timed facts; a schedule starts the clock at 0.
-pub fn list_timed(s: &[u8], job: Job, starts: &[u32], order: &mut [u64], marks: &mut [u16])
-    requires { WellFormed (view job s.now) × Laid job s.now × (schedule_of starts.now job.count.steps ≡ 0)
+pub fn list_timed(job: JobReader, starts: &[u32], order: &mut [u64], marks: &mut [u16])
+    requires { WellFormed (seen job) × IsLaid job × (schedule_of starts.now job.head.count.steps ≡ 0)
         × (length order.old ≡ most_timed) × (length marks.old ≡ mark_count) }
-    ensures { TimedKnown (view job s.now) order.new marks.new }
+    ensures { TimedKnown (seen job.entry) order.new marks.new }
 {
     let mut spare = [0u64; MOST_TIMED];
-    list_points(s, only_timed(job), starts, &mut spare, order, marks);
+    let only = JobReader {
+        bytes: job.bytes,
+        head: only_timed(job.head),
+    };
+    list_points(only, starts, &mut spare, order, marks);
 }
 
 // The points of a group beside the timed facts of fact f.

@@ -1,6 +1,7 @@
 // Links: what supports each condition and each goal (orders, rule 1).
+ghost use Rattle.points.specs.Timelines.{model};
+ghost use Rattle.job_reader.specs.Seen.{seen};
 ghost use Rattle.std.specs.Prelude.{◌≡◌, false, ◌&&◌, ◌+◌, ◌<◌, eqb, length};
-ghost use Rattle.job.specs.Model.{view};
 ghost use Rattle.job.specs.Clocked.{clocked, ClockedForm};
 ghost use Rattle.timeline.specs.Words.{step_span};
 ghost use Rattle.points.specs.Points.{Wanting};
@@ -8,9 +9,9 @@ ghost use Rattle.links.specs.Linkable.{OfValid, Linkable, LinksFound};
 ghost use Rattle.links.specs.Linking.{run_link, LinkIs, LinksPut, FromTo};
 
 use crate::tie::{FIRSTS, Tie, own_place, tie_at};
-use job::layout::Job;
-use job_reader::reader::{fact_at, goal_at};
+use job_reader::reader::JobReader;
 use order_file::layout::INITIAL_STATE;
+use points::timeline::Timeline;
 use timeline::walk::{Cursor, advance, last_run};
 use timeline::word::{begin_at, number_of, step_of, tick_of, value_of};
 
@@ -27,24 +28,22 @@ fn run_link(points: &[u64], initial: u16, value: u16, low: usize, run: usize, at
 }
 
 // Puts the link of each condition of a fact: along the conditions and, beside them, its setters.
-fn link_fact(
-    s: &[u8],
-    job: Job,
-    points: &[u64],
-    begins: &[u16],
-    fact: u16,
-    firsts: &mut [u16],
-    links: &mut [u16],
-)
-    requires { Linkable (clocked (view job s.now)) points.now begins.now links.old × (fact < job.count.facts)
+fn link_fact(timeline: Timeline, fact: u16, firsts: &mut [u16], links: &mut [u16])
+    requires { Linkable (model timeline) timeline.points.now timeline.begins.now links.old × (fact < timeline.job.head.count.facts)
         × (length firsts.old ≡ step_span) }
-    ensures { LinksPut (clocked (view job s.now)) points.now begins.now
-        (Wanting (clocked (view job s.now)) fact) links.old links.new }
+    ensures { LinksPut (model timeline.entry) timeline.entry.points.now timeline.entry.begins.now
+        (Wanting (model timeline.entry) fact) links.old links.new }
 {
-    let initial = fact_at(s, job, fact);
+    let Timeline {
+        job,
+        points,
+        begins,
+        ..
+    } = timeline;
+    let initial = job.fact_initial(fact);
     let low = begin_at(begins, fact as usize);
     let high = begin_at(begins, fact as usize + 1);
-    let group = job.count.facts as usize + fact as usize;
+    let group = job.head.count.facts as usize + fact as usize;
     let end = begin_at(begins, group + 1);
     let begin = begin_at(begins, group);
     let mut cursor = Cursor {
@@ -65,46 +64,55 @@ fn link_fact(
     }
 }
 
-fn link_conditions(s: &[u8], job: Job, points: &[u64], begins: &[u16], links: &mut [u16])
-    requires { Linkable (clocked (view job s.now)) points.now begins.now links.old }
-    ensures { LinksPut (clocked (view job s.now)) points.now begins.now
-        (λ c. c < job.count.conditions) links.old links.new }
+fn link_conditions(timeline: Timeline, links: &mut [u16])
+    requires { Linkable (model timeline) timeline.points.now timeline.begins.now links.old }
+    ensures { LinksPut (model timeline.entry) timeline.entry.points.now timeline.entry.begins.now
+        (λ c. c < timeline.entry.job.head.count.conditions) links.old links.new }
 {
+    let Timeline { job, .. } = timeline;
     let mut firsts = [0u16; FIRSTS];
-    for fact in 0..job.count.facts {
-        link_fact(s, job, points, begins, fact, &mut firsts, links);
+    for fact in 0..job.head.count.facts {
+        link_fact(timeline, fact, &mut firsts, links);
     }
 }
 
-fn goal_link(s: &[u8], job: Job, points: &[u64], begins: &[u16], g: u16) -> u16
-    requires { ClockedForm (clocked (view job s.now)) × OfValid (clocked (view job s.now)) points.now begins.now × (g < job.count.goals) }
-    ensures { LinkIs (clocked (view job s.now)) points.now begins.now (job.count.conditions + g) result }
+fn goal_link(timeline: Timeline, g: u16) -> u16
+    requires { ClockedForm (model timeline) × OfValid (model timeline) timeline.points.now timeline.begins.now
+        × (g < timeline.job.head.count.goals) }
+    ensures { LinkIs (model timeline.entry) timeline.entry.points.now timeline.entry.begins.now (timeline.entry.job.head.count.conditions + g) result }
 {
-    let goal = goal_at(s, job, g);
+    let Timeline {
+        job,
+        points,
+        begins,
+        ..
+    } = timeline;
+    let goal = job.goal(g);
     let fact = goal.fact;
     let value = goal.value;
     let low = begin_at(begins, fact as usize);
     let high = begin_at(begins, fact as usize + 1);
     let run = last_run(points, low, high);
-    run_link(points, fact_at(s, job, fact), value, low, run, run)
+    run_link(points, job.fact_initial(fact), value, low, run, run)
 }
 
-fn link_goals(s: &[u8], job: Job, points: &[u64], begins: &[u16], links: &mut [u16])
-    requires { Linkable (clocked (view job s.now)) points.now begins.now links.old }
-    ensures { LinksPut (clocked (view job s.now)) points.now begins.now
-        (FromTo job.count.conditions (job.count.conditions + job.count.goals)) links.old links.new }
+fn link_goals(timeline: Timeline, links: &mut [u16])
+    requires { Linkable (model timeline) timeline.points.now timeline.begins.now links.old }
+    ensures { LinksPut (model timeline.entry) timeline.entry.points.now timeline.entry.begins.now
+        (FromTo timeline.entry.job.head.count.conditions (timeline.entry.job.head.count.conditions + timeline.entry.job.head.count.goals)) links.old links.new }
 {
-    for g in 0..job.count.goals {
-        links[(job.count.conditions + g) as usize] = goal_link(s, job, points, begins, g);
+    let Timeline { job, .. } = timeline;
+    for g in 0..job.head.count.goals {
+        links[(job.head.count.conditions + g) as usize] = goal_link(timeline, g);
     }
 }
 
 // Puts the link of each condition, then of each goal, of a valid schedule into a list.
-pub fn find_links(s: &[u8], job: Job, points: &[u64], begins: &[u16], links: &mut [u16])
-    requires { Linkable (clocked (view job s.now)) points.now begins.now links.old }
-    ensures { LinksFound (clocked (view job s.now)) points.now begins.now
+pub fn find_links(timeline: Timeline, links: &mut [u16])
+    requires { Linkable (model timeline) timeline.points.now timeline.begins.now links.old }
+    ensures { LinksFound (model timeline.entry) timeline.entry.points.now timeline.entry.begins.now
         links.old links.new }
 {
-    link_conditions(s, job, points, begins, links);
-    link_goals(s, job, points, begins, links);
+    link_conditions(timeline, links);
+    link_goals(timeline, links);
 }

@@ -1,18 +1,17 @@
 // The start of one step moved beside a timed fact: a limit raised, a latest start lowered.
 #![tactic(auto)]
 
+ghost use Rattle.job_reader.specs.Seen.{seen, IsLaid};
 ghost use Rattle.std.specs.Prelude.{◌≡◌, ◌+◌, ◌-◌, ◌≤◌, ◌<◌, length};
 ghost use Rattle.timeline.specs.Words.{word_step, word_number, word_tick};
-ghost use Rattle.job.specs.Model.{view, last_timed};
-ghost use Rattle.job.specs.Laid.{Laid};
+ghost use Rattle.job.specs.Model.{last_timed};
 ghost use Rattle.validity.specs.Ticks.{schedule_of};
 ghost use Rattle.moves.specs.Moved.{Up, Down, Moved, Single, After, Before};
 ghost use Rattle.moves.specs.Others.{InTime};
 
 pub mod others;
 
-use job::layout::Job;
-use job_reader::laid::condition_of;
+use job_reader::reader::JobReader;
 use ticks::start_of;
 use timeline::word::{number_of, step_of, tick_of};
 
@@ -35,11 +34,11 @@ pub fn offset_in(starts: &[u32], word: u64) -> usize
 }
 
 // How far into its step a condition ends that a word names.
-pub fn end_in(s: &[u8], job: Job, word: u64) -> usize
-    requires { Laid job s.now × (word_number word < job.count.conditions) }
-    ensures { result ≡ (view job s.now).condition_to (word_number word) }
+pub fn end_in(job: JobReader, word: u64) -> usize
+    requires { IsLaid job × (word_number word < job.head.count.conditions) }
+    ensures { result ≡ (seen job.entry).condition_to (word_number word) }
 {
-    condition_of(s, job, number_of(word)).to
+    job.condition(number_of(word)).to
 }
 
 // Rules 2 and 3: a point, an effect or where a condition begins, comes after the last timed fact of another value that it lies after, if

@@ -1,12 +1,12 @@
 // Refusal 21: the needs of each level, in the order of their ticks, beside its uses.
 #![tactic(auto)]
 
+ghost use Rattle.points.specs.Timelines.{model};
+ghost use Rattle.job_reader.specs.Seen.{seen, IsLaid};
 ghost use Rattle.std.specs.Prelude.{◌≡◌, cond, ℕ, ◌+◌, ◌≤◌, ◌<◌};
 ghost use Rattle.laws.specs.Search.{first_where};
 ghost use Rattle.little_endian.specs.Bytes.{sign_bias};
 ghost use Rattle.job.specs.Clocked.{clocked};
-ghost use Rattle.job.specs.Laid.{Laid};
-ghost use Rattle.job.specs.Model.{view};
 ghost use Rattle.job.specs.WellFormed.{Ranged};
 ghost use Rattle.timeline.specs.Placed.{Parted, place_limit};
 ghost use Rattle.timeline.specs.Words.{word_tick, word_number};
@@ -15,18 +15,17 @@ ghost use Rattle.points.specs.Points.{PointsKnown};
 ghost use Rattle.levels.specs.LevelSums.{sum_limit, Summed};
 ghost use Rattle.needs.specs.LevelNeeds.{Behind, NeedAt, NeedsOfLevels};
 
-use job::layout::Job;
-use job_fields::{level_initial, use_amount};
-use job_reader::laid::need_of;
+use job_reader::reader::JobReader;
 use levels::bounds::{Sums, with_use};
 use little_endian::SIGN_BIAS;
+use points::timeline::Timeline;
 use timeline::word::{begin_at, number_of, step_of, tick_of};
 
 // The sums with all uses before the tick of a need's word.
-fn sums_before(s: &[u8], job: Job, points: &[u64], high: usize, from: Sums, word: u64) -> Sums
-    requires { (low : ℕ) × Behind (clocked (view job s.now)) points.now low high (word_tick word) from }
-    ensures { (low : ℕ) → Behind (clocked (view job s.now)) points.now low high (word_tick word) from
-        → Summed (clocked (view job s.now)) points.now low high result
+fn sums_before(job: JobReader, points: &[u64], high: usize, from: Sums, word: u64) -> Sums
+    requires { (low : ℕ) × Behind (clocked (seen job)) points.now low high (word_tick word) from }
+    ensures { (low : ℕ) → Behind (clocked (seen job.entry)) points.now low high (word_tick word) from
+        → Summed (clocked (seen job.entry)) points.now low high result
         × Parted points.now low high (word_tick word) result.place }
 {
     let tick = tick_of(word);
@@ -38,19 +37,19 @@ fn sums_before(s: &[u8], job: Job, points: &[u64], high: usize, from: Sums, word
         if tick <= tick_of(used) {
             return sums;
         }
-        sums = with_use(s, job, sums, number_of(used));
+        sums = with_use(job, sums, number_of(used));
     }
     sums
 }
 
 // What use u takes from its level, if it counts.
-fn fall_of(s: &[u8], job: Job, u: u16, counts: bool) -> usize
-    ensures { (result ≡ cond counts (fall (clocked (view job s.now)) u) 0) × (result ≤ sign_bias) }
+fn fall_of(job: JobReader, u: u16, counts: bool) -> usize
+    ensures { (result ≡ cond counts (fall (clocked (seen job.entry)) u) 0) × (result ≤ sign_bias) }
 {
     if !counts {
         return 0;
     }
-    let amount = use_amount(s, job, u);
+    let amount = job.use_amount(u);
     if amount < SIGN_BIAS {
         SIGN_BIAS - amount
     } else {
@@ -59,10 +58,10 @@ fn fall_of(s: &[u8], job: Job, u: u16, counts: bool) -> usize
 }
 
 // The falls that count against the need in a word: all before its tick, which the sums hold, and those of other steps at it.
-fn falls_against(s: &[u8], job: Job, points: &[u64], high: usize, before: Sums, word: u64) -> usize
-    requires { (high < place_limit) × ((x : ℕ → ℕ) × NeedAt (clocked (view job s.now)) x points.now high before word) }
-    ensures { (result ≤ sum_limit) × ((x : ℕ → ℕ) → NeedAt (clocked (view job s.now)) x points.now high before word
-        → result ≡ falls_against (clocked (view job s.now)) x (word_number word)) }
+fn falls_against(job: JobReader, points: &[u64], high: usize, before: Sums, word: u64) -> usize
+    requires { (high < place_limit) × ((x : ℕ → ℕ) × NeedAt (clocked (seen job)) x points.now high before word) }
+    ensures { (result ≤ sum_limit) × ((x : ℕ → ℕ) → NeedAt (clocked (seen job.entry)) x points.now high before word
+        → result ≡ falls_against (clocked (seen job.entry)) x (word_number word)) }
 {
     let tick = tick_of(word);
     let step = step_of(word);
@@ -74,33 +73,40 @@ fn falls_against(s: &[u8], job: Job, points: &[u64], high: usize, before: Sums, 
             return falls;
         }
         let others = step_of(used) != step;
-        falls += fall_of(s, job, number_of(used), others);
+        falls += fall_of(job, number_of(used), others);
     }
     falls
 }
 
 // Whether the need in a word is unmet, by the sums of its level's uses before its tick.
-fn is_unmet(s: &[u8], job: Job, points: &[u64], high: usize, before: Sums, word: u64) -> bool
-    requires { Laid job s.now × (high < place_limit) × ((x : ℕ → ℕ) × NeedAt (clocked (view job s.now)) x points.now high before word) }
-    ensures { (x : ℕ → ℕ) → NeedAt (clocked (view job s.now)) x points.now high before word
-        → result ≡ unmet (clocked (view job s.now)) x (word_number word) }
+fn is_unmet(job: JobReader, points: &[u64], high: usize, before: Sums, word: u64) -> bool
+    requires { IsLaid job × (high < place_limit) × ((x : ℕ → ℕ) × NeedAt (clocked (seen job)) x points.now high before word) }
+    ensures { (x : ℕ → ℕ) → NeedAt (clocked (seen job.entry)) x points.now high before word
+        → result ≡ unmet (clocked (seen job.entry)) x (word_number word) }
 {
-    let need = need_of(s, job, number_of(word));
-    let initial = level_initial(s, job, need.level);
-    let falls = falls_against(s, job, points, high, before, word);
+    let need = job.need(number_of(word));
+    let initial = job.level_initial(need.level);
+    let falls = falls_against(job, points, high, before, word);
     initial + before.rises < need.least + falls
 }
 
 // The lowest unmet need of level l and of those below it, whose own is given; the count of needs stands for none.
-fn with_level(s: &[u8], job: Job, points: &[u64], begins: &[u16], l: u16, below: u16) -> u16
-    requires { Laid job s.now × (l < job.count.levels) × ((x : ℕ → ℕ) × PointsKnown (clocked (view job s.now)) x points.now begins.now) }
-    ensures { (x : ℕ → ℕ) → PointsKnown (clocked (view job s.now)) x points.now begins.now
-        → NeedsOfLevels (clocked (view job s.now)) x l below
-        → NeedsOfLevels (clocked (view job s.now)) x (l + 1) result }
+fn with_level(timeline: Timeline, l: u16, below: u16) -> u16
+    requires { IsLaid timeline.job × (l < timeline.job.head.count.levels)
+        × ((x : ℕ → ℕ) × PointsKnown (model timeline) x timeline.points.now timeline.begins.now) }
+    ensures { (x : ℕ → ℕ) → PointsKnown (model timeline.entry) x timeline.entry.points.now timeline.entry.begins.now
+        → NeedsOfLevels (model timeline.entry) x l below
+        → NeedsOfLevels (model timeline.entry) x (l + 1) result }
 {
-    let first = job.count.facts as usize + job.count.facts as usize;
+    let Timeline {
+        job,
+        points,
+        begins,
+        ..
+    } = timeline;
+    let first = job.head.count.facts as usize + job.head.count.facts as usize;
     let used = first + l as usize;
-    let needed = first + job.count.levels as usize + l as usize;
+    let needed = first + job.head.count.levels as usize + l as usize;
     let high = begin_at(begins, used + 1);
     let end = begin_at(begins, needed + 1);
     let mut sums = Sums {
@@ -111,8 +117,8 @@ fn with_level(s: &[u8], job: Job, points: &[u64], begins: &[u16], l: u16, below:
     let mut best = below;
     for q in begin_at(begins, needed)..end {
         let word = points[q];
-        sums = sums_before(s, job, points, high, sums, word);
-        if is_unmet(s, job, points, high, sums, word) {
+        sums = sums_before(job, points, high, sums, word);
+        if is_unmet(job, points, high, sums, word) {
             best = best.min(number_of(word));
         }
     }
@@ -120,18 +126,20 @@ fn with_level(s: &[u8], job: Job, points: &[u64], begins: &[u16], l: u16, below:
 }
 
 // The lowest need that is not met, if one is not.
-pub fn first_unmet(s: &[u8], job: Job, points: &[u64], begins: &[u16]) -> Option<u16>
-    requires { Ranged (view job s.now) × Laid job s.now × ((x : ℕ → ℕ) × PointsKnown (clocked (view job s.now)) x points.now begins.now) }
-    ensures { (x : ℕ → ℕ) → PointsKnown (clocked (view job s.now)) x points.now begins.now
-        → result ≡ first_where job.count.needs (unmet (clocked (view job s.now)) x) }
+pub fn first_unmet(timeline: Timeline) -> Option<u16>
+    requires { Ranged (seen timeline.job) × IsLaid timeline.job
+        × ((x : ℕ → ℕ) × PointsKnown (model timeline) x timeline.points.now timeline.begins.now) }
+    ensures { (x : ℕ → ℕ) → PointsKnown (model timeline.entry) x timeline.entry.points.now timeline.entry.begins.now
+        → result ≡ first_where timeline.entry.job.head.count.needs (unmet (model timeline.entry) x) }
 {
-    let n = job.count.needs;
+    let Timeline { job, .. } = timeline;
+    let n = job.head.count.needs;
     if n == 0 {
         return None;
     }
     let mut best = n;
-    for l in 0..job.count.levels {
-        best = with_level(s, job, points, begins, l, best);
+    for l in 0..job.head.count.levels {
+        best = with_level(timeline, l, best);
     }
     if best < n { Some(best) } else { None }
 }

@@ -1,8 +1,9 @@
 // What orders lead from, and one order into the table of gaps.
 #![tactic(auto)]
 
+ghost use Rattle.job_reader.specs.Seen.{seen};
 ghost use Rattle.std.specs.Prelude.{◌≡◌, ◌+◌, ◌%◌, ◌≤◌, ◌<◌};
-ghost use Rattle.job.specs.Model.{view, longest};
+ghost use Rattle.job.specs.Model.{longest};
 ghost use Rattle.validity.specs.Ticks.{schedule_of};
 ghost use Rattle.orders.specs.Gaps as spec;
 ghost use Rattle.timeline.specs.Words.{value_span};
@@ -10,8 +11,7 @@ ghost use Rattle.order_file.specs.Table.{gap_of_entry, Gaps, row_width};
 ghost use Rattle.origins.specs.Raised.{single, EntryKnown, Raised};
 ghost use Rattle.origins.specs.Points.{turned, offset_of, point_origin, last_origin, Notable};
 
-use job::layout::Job;
-use job_fields::condition_to;
+use job_reader::reader::JobReader;
 use order_file::table::{ENTRY_BIAS, WIDTH, higher};
 use timeline::word::{VALUE_SPAN, number_of, step_of, tick_of, value_of};
 
@@ -83,12 +83,12 @@ pub fn point_origin(starts: &[u32], word: u64, turn: Turn) -> Origin
 
 // From the last tick of a condition to setters of the other value. They are looked for from its first tick: what opposes it and is not
 // before the one is after the other, as the schedule is valid.
-pub fn last_origin(s: &[u8], job: Job, word: u64) -> Origin
-    ensures { result ≡ last_origin (view job s.now) word }
+pub fn last_origin(job: JobReader, word: u64) -> Origin
+    ensures { result ≡ last_origin (seen job.entry) word }
 {
     Origin {
         step: step_of(word),
-        at: condition_to(s, job, number_of(word)),
+        at: job.condition_to(number_of(word)),
         value: Turn::Other.of(value_of(word)),
         tick: tick_of(word),
     }

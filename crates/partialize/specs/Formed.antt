@@ -1,7 +1,5 @@
 -- Inner: what loosening knows before it lists the points of a job: that refusals 1 to 6 pass the file, and the written starts.
-use Rattle.std.specs.Prelude.{ℕ, ◌+◌, ◌≤◌, ◌<◌, ◌≡◌, List}
-use Rattle.little_endian.specs.Bytes.{u32_values}
-use Rattle.job.specs.declared.layout.Counts.{Counts}
+use Rattle.std.specs.Prelude.{◌≡◌, ℕ, List}
 use Rattle.job.specs.declared.layout.Job.{Job}
 use Rattle.job.specs.Laid.{Laid}
 use Rattle.job.specs.Model.{view}
@@ -14,9 +12,3 @@ pub record Formed (s : List ℕ) (job : Job) (starts : List ℕ) : Type 0 where
   pub ranged : Ranged (view job s)
   pub laid : Laid job s
   pub written : starts ≡ planned_starts (view job s)
-
--- so much room is enough for a job's points, and for the beginnings of their groups and one more; and it lies in memory
-pub record Room (n : Counts) (points begins : ℕ) : Type 0 where
-  pub listed : n.conditions + n.effects + n.timed + n.uses + n.needs ≤ points
-  pub grouped : n.facts + n.facts + n.levels + n.levels + 2 ≤ begins
-  pub fits : (points < u32_values) × (begins < u32_values)

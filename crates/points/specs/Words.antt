@@ -1,6 +1,7 @@
 -- Between crates: the points of a job as words: those of its conditions, then of its effects, its timed facts behind them, then of its uses,
 -- then of its needs, before they are sorted.
 use Rattle.std.specs.Prelude.{ℕ, ◌+◌, ◌≤◌, ◌<◌, ◌≡◌, List, length, get_or}
+use Rattle.little_endian.specs.Bytes.{u32_values}
 use Rattle.job.specs.declared.layout.Counts.{Counts}
 use Rattle.job.specs.Model.{Model}
 use Rattle.job.specs.Clocked.{clocked}
@@ -69,3 +70,9 @@ few_groups = 96
 pub record Small (n : Counts) : Type 0 where
   pub points : n.conditions + n.effects + n.timed + n.uses + n.needs ≤ few_points
   pub groups : n.facts + n.facts + n.levels + n.levels ≤ few_groups
+
+-- so much room is enough for a job's points, and for the beginnings of their groups and one more; and it lies in memory
+pub record Room (n : Counts) (points begins : ℕ) : Type 0 where
+  pub listed : n.conditions + n.effects + n.timed + n.uses + n.needs ≤ points
+  pub grouped : n.facts + n.facts + n.levels + n.levels + 2 ≤ begins
+  pub fits : (points < u32_values) × (begins < u32_values)

@@ -1,8 +1,7 @@
 // The points of a job as words: those of its conditions, effects, timed facts, uses and needs, listed and then sorted by group, tick and number.
+ghost use Rattle.job_reader.specs.Seen.{seen, IsLaid};
 ghost use Rattle.std.specs.Prelude.{◌≡◌, ℕ, true, ◌+◌, ◌≤◌, ◌<◌, length};
-ghost use Rattle.job.specs.Laid.{Laid};
 ghost use Rattle.job.specs.Clocked.{clocked};
-ghost use Rattle.job.specs.Model.{view};
 ghost use Rattle.job.specs.WellFormed.{Ranged};
 ghost use Rattle.points.specs.Points.{PointsKnown};
 ghost use Rattle.points.specs.Words.{point_count};
@@ -10,6 +9,7 @@ ghost use Rattle.points.specs.Words.{PutBy, WordsListed, PointRoom, Small};
 ghost use Rattle.validity.specs.Ticks.{schedule_of};
 
 use job::layout::{Counts, Job};
+use job_reader::reader::JobReader;
 use point_words::own::untimed;
 use point_words::{condition_word, effect_word, need_word, timed_word, use_word};
 use sort::sort_points;
@@ -27,6 +27,11 @@ pub const MOST_GROUPS: usize = 2 * Job::FACTS as usize + 2 * Job::LEVELS as usiz
 pub const FEW_POINTS: usize = 192;
 
 pub const FEW_GROUPS: usize = 96;
+
+// Room for where the groups begin, and where the last of them ends and one more.
+pub const FEW_BEGINS: usize = FEW_GROUPS + 2;
+
+pub const MOST_BEGINS: usize = MOST_GROUPS + 2;
 
 // How many points a job has, and in how many groups.
 fn points_counted(count: Counts) -> usize
@@ -63,12 +68,12 @@ fn put_words_of<F: Fn(u16) -> u64>(n: u16, from: usize, word: F, points: &mut [u
 }
 
 // Lists the words of all points of a job: those of each table behind those of the last.
-fn put_words(s: &[u8], job: Job, starts: &[u32], points: &mut [u64])
-    requires { Ranged (view job s.now) × (point_count (clocked (view job s.now)) ≤ length points.old) × Laid job s.now }
-    ensures { WordsListed (clocked (view job s.now)) (schedule_of starts.now) points.new
+fn put_words(job: JobReader, starts: &[u32], points: &mut [u64])
+    requires { Ranged (seen job) × (point_count (clocked (seen job)) ≤ length points.old) × IsLaid job }
+    ensures { WordsListed (clocked (seen job.entry)) (schedule_of starts.now) points.new
         × (length points.new ≡ length points.old) }
 {
-    let count = job.count;
+    let count = job.head.count;
     let effects = count.conditions as usize;
     let timed = effects + count.effects as usize;
     let uses = timed + count.timed as usize;
@@ -76,41 +81,35 @@ fn put_words(s: &[u8], job: Job, starts: &[u32], points: &mut [u64])
     put_words_of(
         count.conditions,
         0,
-        |c| condition_word(s, job, starts, c),
+        |c| condition_word(job, starts, c),
         points,
     );
     put_words_of(
         count.effects,
         effects,
-        |e| effect_word(s, job, starts, e),
+        |e| effect_word(job, starts, e),
         points,
     );
-    put_words_of(
-        count.timed,
-        timed,
-        |j| timed_word(s, job, starts, j),
-        points,
-    );
-    put_words_of(count.uses, uses, |u| use_word(s, job, starts, u), points);
-    put_words_of(count.needs, needs, |n| need_word(s, job, starts, n), points);
+    put_words_of(count.timed, timed, |j| timed_word(job, starts, j), points);
+    put_words_of(count.uses, uses, |u| use_word(job, starts, u), points);
+    put_words_of(count.needs, needs, |n| need_word(job, starts, n), points);
 }
 
 // Lists the points of a job at the given starts, its timed facts among its effects, group by group in the order of their ticks.
 pub fn list_points(
-    s: &[u8],
-    job: Job,
+    job: JobReader,
     starts: &[u32],
     spare: &mut [u64],
     points: &mut [u64],
     begins: &mut [u16],
 )
-    requires { Ranged (view job s.now) × PointRoom (clocked (view job s.now)) spare.old points.old begins.old × Laid job s.now }
-    ensures { PointsKnown (clocked (view job s.now)) (schedule_of starts.now) points.new begins.new }
+    requires { Ranged (seen job) × PointRoom (clocked (seen job)) spare.old points.old begins.old × IsLaid job }
+    ensures { PointsKnown (clocked (seen job.entry)) (schedule_of starts.now) points.new begins.new }
 {
-    put_words(s, job, starts, spare);
+    put_words(job, starts, spare);
     sort_points(
-        points_counted(job.count),
-        groups_counted(job.count),
+        points_counted(job.head.count),
+        groups_counted(job.head.count),
         spare,
         points,
         begins,
@@ -119,15 +118,18 @@ pub fn list_points(
 
 // The same without timed facts.
 pub fn list_own_points(
-    s: &[u8],
-    job: Job,
+    job: JobReader,
     starts: &[u32],
     spare: &mut [u64],
     points: &mut [u64],
     begins: &mut [u16],
 )
-    requires { Ranged (view job s.now) × PointRoom (view job s.now) spare.old points.old begins.old × Laid job s.now }
-    ensures { PointsKnown (view job s.now) (schedule_of starts.now) points.new begins.new }
+    requires { Ranged (seen job) × PointRoom (seen job) spare.old points.old begins.old × IsLaid job }
+    ensures { PointsKnown (seen job.entry) (schedule_of starts.now) points.new begins.new }
 {
-    list_points(s, untimed(job), starts, spare, points, begins);
+    let own = JobReader {
+        bytes: job.bytes,
+        head: untimed(job.head),
+    };
+    list_points(own, starts, spare, points, begins);
 }

@@ -1,9 +1,9 @@
 // What refusal 6 asks of a record: it keeps its ranges and names what is counted.
 #![tactic(auto)]
 
+ghost use Rattle.job_reader.specs.Seen.{seen, IsLaid};
 ghost use Rattle.std.specs.Prelude.{◌≡◌, List, ℕ, ◌≤◌, ◌<◌};
 ghost use Rattle.laws.specs.Search.{first_where};
-ghost use Rattle.job.specs.Laid.{Laid};
 ghost use Rattle.job.specs.Model.{view};
 ghost use Rattle.ranges.specs.Ranges.{fact_ok, level_in_range, level_ok, step_ok, condition_ok, effect_ok, use_ok, goal_ok, timed_ok, need_ok};
 ghost use Rattle.ranges.specs.Ranges.{record_ok, record_broken, count_in};
@@ -13,14 +13,13 @@ use job::layout::{
     LOWEST_AMOUNT, LOWEST_LEVEL, Table,
 };
 use job::records::NO_DEADLINE;
-use job_reader::laid::{condition_of, effect_of, length_within, need_of, timed_of, use_of};
-use job_reader::reader::{fact_at, goal_at, level_at, step_at};
+use job_reader::reader::JobReader;
 use little_endian::SIGN_BIAS;
 
-fn fact_ok(s: &[u8], job: Job, k: u16) -> bool
-    ensures { result ≡ fact_ok (view job s.now) k }
+fn fact_ok(job: JobReader, k: u16) -> bool
+    ensures { result ≡ fact_ok (seen job.entry) k }
 {
-    fact_at(s, job, k) <= 1
+    job.fact_initial(k) <= 1
 }
 
 fn level_in_range(n: usize) -> bool
@@ -29,10 +28,10 @@ fn level_in_range(n: usize) -> bool
     (LOWEST_LEVEL <= n) & (n <= HIGHEST_LEVEL)
 }
 
-fn level_ok(s: &[u8], job: Job, k: u16) -> bool
-    ensures { result ≡ level_ok (view job s.now) k }
+fn level_ok(job: JobReader, k: u16) -> bool
+    ensures { result ≡ level_ok (seen job.entry) k }
 {
-    let level = level_at(s, job, k);
+    let level = job.level(k);
     level_in_range(level.initial)
         & level_in_range(level.least)
         & level_in_range(level.most)
@@ -40,95 +39,97 @@ fn level_ok(s: &[u8], job: Job, k: u16) -> bool
         & (level.initial <= level.most)
 }
 
-fn step_ok(s: &[u8], job: Job, k: u16) -> bool
-    ensures { result ≡ step_ok (view job s.now) k }
+fn step_ok(job: JobReader, k: u16) -> bool
+    ensures { result ≡ step_ok (seen job.entry) k }
 {
-    let step = step_at(s, job, k);
+    let step = job.step(k);
     (step.start <= LAST_START) & (step.length <= LONGEST) & (step.fixed <= 1)
 }
 
-fn condition_ok(s: &[u8], job: Job, k: u16) -> bool
-    requires { Laid job s.now × (k < job.count.conditions) }
-    ensures { result ≡ condition_ok (view job s.now) k }
+fn condition_ok(job: JobReader, k: u16) -> bool
+    requires { IsLaid job × (k < job.head.count.conditions) }
+    ensures { result ≡ condition_ok (seen job.entry) k }
 {
-    let c = condition_of(s, job, k);
-    if job.count.steps <= c.step {
+    let c = job.condition(k);
+    if job.head.count.steps <= c.step {
         return false;
     }
-    (c.fact < job.count.facts)
+    (c.fact < job.head.count.facts)
         & (c.from <= c.to)
-        & (c.to <= length_within(s, job, c.step))
+        & (c.to <= job.length_within(c.step))
         & (c.value <= 1)
 }
 
-fn effect_ok(s: &[u8], job: Job, k: u16) -> bool
-    requires { Laid job s.now × (k < job.count.effects) }
-    ensures { result ≡ effect_ok (view job s.now) k }
+fn effect_ok(job: JobReader, k: u16) -> bool
+    requires { IsLaid job × (k < job.head.count.effects) }
+    ensures { result ≡ effect_ok (seen job.entry) k }
 {
-    let e = effect_of(s, job, k);
-    if job.count.steps <= e.step {
+    let e = job.effect(k);
+    if job.head.count.steps <= e.step {
         return false;
     }
-    (e.fact < job.count.facts) & (e.at <= length_within(s, job, e.step)) & (e.value <= 1)
+    (e.fact < job.head.count.facts) & (e.at <= job.length_within(e.step)) & (e.value <= 1)
 }
 
-fn use_ok(s: &[u8], job: Job, k: u16) -> bool
-    requires { Laid job s.now × (k < job.count.uses) }
-    ensures { result ≡ use_ok (view job s.now) k }
+fn use_ok(job: JobReader, k: u16) -> bool
+    requires { IsLaid job × (k < job.head.count.uses) }
+    ensures { result ≡ use_ok (seen job.entry) k }
 {
-    let u = use_of(s, job, k);
-    if job.count.steps <= u.step {
+    let u = job.usage(k);
+    if job.head.count.steps <= u.step {
         return false;
     }
-    (u.level < job.count.levels)
-        & (u.at <= length_within(s, job, u.step))
+    (u.level < job.head.count.levels)
+        & (u.at <= job.length_within(u.step))
         & (LOWEST_AMOUNT <= u.amount)
         & (u.amount <= HIGHEST_AMOUNT)
         & (u.amount != SIGN_BIAS)
 }
 
-fn goal_ok(s: &[u8], job: Job, k: u16) -> bool
-    ensures { result ≡ goal_ok (view job s.now) k }
+fn goal_ok(job: JobReader, k: u16) -> bool
+    ensures { result ≡ goal_ok (seen job.entry) k }
 {
-    let goal = goal_at(s, job, k);
-    (goal.fact < job.count.facts)
+    let goal = job.goal(k);
+    (goal.fact < job.head.count.facts)
         & (goal.value <= 1)
         & ((goal.deadline <= LAST_DEADLINE) | (goal.deadline == NO_DEADLINE))
 }
 
-fn timed_ok(s: &[u8], job: Job, k: u16) -> bool
-    requires { Laid job s.now × (k < job.count.timed) }
-    ensures { result ≡ timed_ok (view job s.now) k }
+fn timed_ok(job: JobReader, k: u16) -> bool
+    requires { IsLaid job × (k < job.head.count.timed) }
+    ensures { result ≡ timed_ok (seen job.entry) k }
 {
-    let timed = timed_of(s, job, k);
-    (timed.fact < job.count.facts) & (timed.tick <= LAST_TIMED) & (timed.value <= 1)
+    let timed = job.timed(k);
+    (timed.fact < job.head.count.facts) & (timed.tick <= LAST_TIMED) & (timed.value <= 1)
 }
 
-fn need_ok(s: &[u8], job: Job, k: u16) -> bool
-    requires { Laid job s.now × (k < job.count.needs) }
-    ensures { result ≡ need_ok (view job s.now) k }
+fn need_ok(job: JobReader, k: u16) -> bool
+    requires { IsLaid job × (k < job.head.count.needs) }
+    ensures { result ≡ need_ok (seen job.entry) k }
 {
-    let n = need_of(s, job, k);
-    if job.count.steps <= n.step {
+    let n = job.need(k);
+    if job.head.count.steps <= n.step {
         return false;
     }
-    (n.level < job.count.levels) & (n.at <= length_within(s, job, n.step)) & level_in_range(n.least)
+    (n.level < job.head.count.levels)
+        & (n.at <= job.length_within(n.step))
+        & level_in_range(n.least)
 }
 
-fn record_ok(s: &[u8], job: Job, table: Table, k: u16) -> bool
-    requires { Laid job s.now × (k < count_in (view job s.now) table) }
-    ensures { result ≡ record_ok (view job s.now) table k }
+fn record_ok(job: JobReader, table: Table, k: u16) -> bool
+    requires { IsLaid job × (k < count_in (seen job) table) }
+    ensures { result ≡ record_ok (seen job.entry) table k }
 {
     match table {
-        Table::Facts => fact_ok(s, job, k),
-        Table::Levels => level_ok(s, job, k),
-        Table::Steps => step_ok(s, job, k),
-        Table::Conditions => condition_ok(s, job, k),
-        Table::Effects => effect_ok(s, job, k),
-        Table::Uses => use_ok(s, job, k),
-        Table::Goals => goal_ok(s, job, k),
-        Table::TimedFacts => timed_ok(s, job, k),
-        Table::Needs => need_ok(s, job, k),
+        Table::Facts => fact_ok(job, k),
+        Table::Levels => level_ok(job, k),
+        Table::Steps => step_ok(job, k),
+        Table::Conditions => condition_ok(job, k),
+        Table::Effects => effect_ok(job, k),
+        Table::Uses => use_ok(job, k),
+        Table::Goals => goal_ok(job, k),
+        Table::TimedFacts => timed_ok(job, k),
+        Table::Needs => need_ok(job, k),
     }
 }
 
@@ -150,12 +151,12 @@ pub fn count_in(job: Job, table: Table) -> u16
 }
 
 // The lowest of the first n records of a table that is broken, if one is.
-pub fn first_broken(s: &[u8], job: Job, table: Table, n: u16) -> Option<u16>
-    requires { Laid job s.now × (n ≤ count_in (view job s.now) table) }
-    ensures { result ≡ first_where n (record_broken (view job s.now) table) }
+pub fn first_broken(job: JobReader, table: Table, n: u16) -> Option<u16>
+    requires { IsLaid job × (n ≤ count_in (seen job) table) }
+    ensures { result ≡ first_where n (record_broken (seen job.entry) table) }
 {
     for k in 0..n {
-        if !record_ok(s, job, table, k) {
+        if !record_ok(job, table, k) {
             return Some(k);
         }
     }

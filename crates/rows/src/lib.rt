@@ -1,8 +1,8 @@
 // Orders between groups of points, into the table of gaps: pair by pair, or a row of the table for each point. No rule.
 #![tactic(auto)]
 
+ghost use Rattle.job_reader.specs.Seen.{seen};
 ghost use Rattle.std.specs.Prelude.{◌≤◌};
-ghost use Rattle.job.specs.Model.{view};
 ghost use Rattle.validity.specs.Ticks.{schedule_of};
 ghost use Rattle.order_file.specs.Table.{Gaps};
 ghost use Rattle.origins.specs.declared.Turn.TheVariants.{Same, Other};
@@ -12,7 +12,7 @@ ghost use Rattle.order_file.specs.Contents.{step_limit};
 mod pairs;
 mod rows;
 
-use job::layout::Job;
+use job_reader::reader::JobReader;
 use origins::{Fact, Span, Turn};
 use pairs::{pair_among, pair_conditions};
 use rows::{row_conditions, row_points, row_setters};
@@ -64,22 +64,21 @@ pub fn raise_among(
 
 // Orders the conditions of a fact and its setters of the other value.
 pub fn raise_conditions(
-    s: &[u8],
-    job: Job,
+    job: JobReader,
     starts: &[u32],
     points: &[u64],
     fact: Fact,
     gaps: &mut [u32],
 )
-    requires { FactKnown (view job s.now) starts.now points.now fact × Gaps gaps.old }
-    ensures { Reached job.count.steps
-        (FactOrder (view job s.now) (schedule_of starts.now) points.now fact)
+    requires { FactKnown (seen job) starts.now points.now fact × Gaps gaps.old }
+    ensures { Reached job.entry.head.count.steps
+        (FactOrder (seen job.entry) (schedule_of starts.now) points.now fact)
         gaps.old gaps.new }
 {
     if fact.high - fact.low < MANY {
-        pair_conditions(s, job, starts, points, fact, gaps);
+        pair_conditions(job, starts, points, fact, gaps);
     } else {
-        let n = job.count.steps as usize;
+        let n = job.head.count.steps as usize;
         let setters = Span {
             low: fact.low,
             high: fact.high,
@@ -89,7 +88,7 @@ pub fn raise_conditions(
             high: fact.until,
         };
         row_points(n, starts, points, setters, wanted, Turn::Other, gaps);
-        row_conditions(s, job, starts, points, fact, gaps);
+        row_conditions(job, starts, points, fact, gaps);
     }
 }
 

@@ -1,13 +1,14 @@
 // Orders between points, pair by pair.
+ghost use Rattle.job_reader.specs.Seen.{seen};
 ghost use Rattle.std.specs.Prelude.{ℕ, ◌≤◌, ◌<◌};
-ghost use Rattle.job.specs.Model.{view, longest};
+ghost use Rattle.job.specs.Model.{longest};
 ghost use Rattle.validity.specs.Ticks.{schedule_of};
 ghost use Rattle.timeline.specs.Words.{word_step};
 ghost use Rattle.order_file.specs.Table.{Gaps, row_width};
 ghost use Rattle.origins.specs.Points.{OriginKnown, Group, Notable, FactKnown, Reached, Onto, After, Beside, Around, FactOrder, FromPoints};
 ghost use Rattle.order_file.specs.Contents.{step_limit};
 
-use job::layout::Job;
+use job_reader::reader::JobReader;
 use origins::{Fact, Origin, Turn, last_origin, offset_of, point_origin, raise, strictly};
 use std::hint::select_unpredictable;
 use timeline::word::{step_of, tick_of, value_of};
@@ -81,21 +82,14 @@ fn raise_around(
 }
 
 // Each condition after or before each setter of the other value.
-pub fn pair_conditions(
-    s: &[u8],
-    job: Job,
-    starts: &[u32],
-    points: &[u64],
-    fact: Fact,
-    gaps: &mut [u32],
-)
-    requires { FactKnown (view job s.now) starts.now points.now fact × Gaps gaps.old }
-    ensures { Reached job.count.steps
-        (FactOrder (view job s.now) (schedule_of starts.now) points.now fact)
+pub fn pair_conditions(job: JobReader, starts: &[u32], points: &[u64], fact: Fact, gaps: &mut [u32])
+    requires { FactKnown (seen job) starts.now points.now fact × Gaps gaps.old }
+    ensures { Reached job.entry.head.count.steps
+        (FactOrder (seen job.entry) (schedule_of starts.now) points.now fact)
         gaps.old gaps.new }
 {
     for &word in &points[fact.after..fact.until] {
-        let origin = last_origin(s, job, word);
+        let origin = last_origin(job, word);
         let from = offset_of(starts, word);
         raise_around(starts, points, origin, from, fact.low, fact.high, gaps);
     }

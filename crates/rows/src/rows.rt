@@ -1,7 +1,7 @@
 // Orders between points, a row of the table for each point. Going back in time, what lies far enough ahead only grows, and of a step only its
 // largest lead matters.
+ghost use Rattle.job_reader.specs.Seen.{seen};
 ghost use Rattle.std.specs.Prelude.{◌≡◌, ℕ, ◌≤◌};
-ghost use Rattle.job.specs.Model.{view};
 ghost use Rattle.validity.specs.Ticks.{schedule_of};
 ghost use Rattle.order_file.specs.Table.{Gaps, row_width};
 ghost use Rattle.origins.specs.declared.Turn.TheVariants.{Other};
@@ -9,7 +9,7 @@ ghost use Rattle.origins.specs.Points.{OriginKnown, Group, ValuesApart, FactKnow
 ghost use Rattle.origins.specs.Points.{Notable, Noting, NotedBack, leads_with, LeadsKnown, RowKnown, Rowed, due_at, Ahead};
 ghost use Rattle.order_file.specs.Contents.{step_limit};
 
-use job::layout::Job;
+use job_reader::reader::JobReader;
 use order_file::table::{WIDTH, higher};
 use origins::{AT_START, Fact, Origin, Span, Turn, last_origin, offset_of, point_origin};
 use timeline::word::{VALUE_SPAN, step_of, tick_of, value_of};
@@ -131,24 +131,17 @@ pub fn row_points(
 }
 
 // Each condition before the later setters of the other value: the latest condition first, by a row.
-pub fn row_conditions(
-    s: &[u8],
-    job: Job,
-    starts: &[u32],
-    points: &[u64],
-    fact: Fact,
-    gaps: &mut [u32],
-)
-    requires { FactKnown (view job s.now) starts.now points.now fact × Gaps gaps.old }
-    ensures { Reached job.count.steps
-        (FromConditions (view job s.now) (schedule_of starts.now) points.now fact)
+pub fn row_conditions(job: JobReader, starts: &[u32], points: &[u64], fact: Fact, gaps: &mut [u32])
+    requires { FactKnown (seen job) starts.now points.now fact × Gaps gaps.old }
+    ensures { Reached job.entry.head.count.steps
+        (FromConditions (seen job.entry) (schedule_of starts.now) points.now fact)
         gaps.old gaps.new }
 {
     let mut leads = [NO_LEAD; LEADS];
     let mut noted = fact.high;
     for p in (fact.after..fact.until).rev() {
-        let origin = last_origin(s, job, points[p]);
+        let origin = last_origin(job, points[p]);
         noted = note_from(starts, points, fact.low, noted, origin.tick, &mut leads);
-        raise_row(job.count.steps as usize, origin, &leads, gaps);
+        raise_row(job.head.count.steps as usize, origin, &leads, gaps);
     }
 }

@@ -1,11 +1,11 @@
 // The timing check: refusals 8 to 13 and 21, on the written starts or on any list of starts.
 #![tactic(auto)]
 
+ghost use Rattle.points.specs.Timelines.{model, schedule};
+ghost use Rattle.job_reader.specs.Seen.{seen, IsLaid};
 ghost use Rattle.std.specs.Prelude.{◌≡◌, true, ℕ};
-ghost use Rattle.job.specs.Model.{view};
 ghost use Rattle.job.specs.WellFormed.{Ranged};
 ghost use Rattle.job.specs.Clocked.{clocked};
-ghost use Rattle.job.specs.Laid.{Laid};
 ghost use Rattle.verdict.specs.Verdict.{◌then◌};
 ghost use Rattle.against.specs.Against.{step_check};
 ghost use Rattle.against.specs.Clock.{timed_check};
@@ -14,58 +14,61 @@ ghost use Rattle.validity.specs.Ticks.{schedule_of};
 ghost use Rattle.validity.specs.Checks.{rule_check, timing_check, count_check, starts_check};
 ghost use Rattle.validity.specs.Promise.{JobPromise, SchedulePromise};
 ghost use Rattle.points.specs.Points.{PointsKnown};
-ghost use Rattle.points.specs.Words.{Small};
+ghost use Rattle.points.specs.Words.{Room};
 ghost use Rattle.schedule.specs.Timed.{Ordered, Clear, FormedPoints, Settled, settled_check};
 ghost use Rattle.schedule.specs.Opened.{Read, Opened, Planned};
 
 use job::layout::Job;
+use job_reader::reader::JobReader;
 use levels::{bounds, uses};
 use opposing::neighbours::any_mixed;
-use points::words::{FEW_GROUPS, FEW_POINTS, MOST_GROUPS, MOST_POINTS, is_small, list_points};
+use points::timeline::Timeline;
+use points::words::{FEW_BEGINS, FEW_POINTS, MOST_BEGINS, MOST_POINTS, is_small, list_points};
 use values::{conditions, effects};
 use verdict::{Refusal, Verdict};
 
 // Refusals 12, 13 and 21, of a schedule that 10 and 11 pass.
-fn check_settled(s: &[u8], job: Job, points: &[u64], begins: &[u16]) -> Verdict
-    requires { Laid job s.now × ((x : ℕ → ℕ) × Settled (view job s.now) x points.now begins.now) }
-    ensures { (x : ℕ → ℕ) → Settled (view job s.now) x points.now begins.now → result ≡ settled_check (clocked (view job s.now)) x }
+fn check_settled(timeline: Timeline) -> Verdict
+    requires { IsLaid timeline.job × ((x : ℕ → ℕ) × Settled (seen timeline.job) x timeline.points.now timeline.begins.now) }
+    ensures { (x : ℕ → ℕ) → Settled (seen timeline.entry.job) x timeline.entry.points.now timeline.entry.begins.now
+        → result ≡ settled_check (model timeline.entry) x }
 {
-    if let Some(l) = bounds::first_out_of_bounds(s, job, points, begins) {
+    if let Some(l) = bounds::first_out_of_bounds(timeline) {
         return Err(Refusal::LevelOutOfBounds(l));
     }
-    if let Some(n) = needs::first_unmet(s, job, points, begins) {
+    if let Some(n) = needs::first_unmet(timeline) {
         return Err(Refusal::NeedUnmet(n));
     }
-    if let Some(g) = goals::first_missed(s, job, points, begins) {
+    if let Some(g) = goals::first_missed(timeline) {
         return Err(Refusal::GoalFails(g));
     }
     Ok(())
 }
 
 // Refusals 10 to 13 and 21.
-fn check_timing(s: &[u8], job: Job, starts: &[u32], points: &[u64], begins: &[u16]) -> Verdict
-    requires { FormedPoints (view job s.now) (schedule_of starts.now) points.now begins.now × Laid job s.now }
-    ensures { result ≡ timing_check (clocked (view job s.now)) (schedule_of starts.now) }
+fn check_timing(timeline: Timeline) -> Verdict
+    requires { FormedPoints (seen timeline.job) (schedule timeline) timeline.points.now timeline.begins.now × IsLaid timeline.job }
+    ensures { result ≡ timing_check (model timeline.entry) (schedule timeline.entry) }
 {
-    if let Some(e) = effects::first_conflict(s, job, starts, points, begins) {
+    if let Some(e) = effects::first_conflict(timeline) {
         return Err(Refusal::EffectsConflict(e));
     }
-    if let Some(c) = conditions::first_contested(s, job, starts, points, begins) {
+    if let Some(c) = conditions::first_contested(timeline) {
         return Err(Refusal::ConditionFails(c));
     }
-    check_settled(s, job, points, begins)
+    check_settled(timeline)
 }
 
 // Refusals 8 and 9.
-fn check_starts(s: &[u8], job: Job, starts: &[u32]) -> Verdict
-    ensures { result ≡ (count_check (clocked (view job s.now)) starts.now
-        then rule_check (clocked (view job s.now)) (schedule_of starts.now) FixedSteps) }
+fn check_starts(job: JobReader, starts: &[u32]) -> Verdict
+    ensures { result ≡ (count_check (clocked (seen job.entry)) starts.now
+        then rule_check (clocked (seen job.entry)) (schedule_of starts.now) FixedSteps) }
 {
-    let other = starts.len() != job.count.steps as usize;
+    let other = starts.len() != job.head.count.steps as usize;
     if other {
         return Err(Refusal::StartsMiscounted);
     }
-    let moved = steps::first_moved(s, job, starts);
+    let moved = steps::first_moved(job, starts);
     if let Some(k) = moved {
         return Err(Refusal::FixedStepMoved(k));
     }
@@ -73,97 +76,109 @@ fn check_starts(s: &[u8], job: Job, starts: &[u32]) -> Verdict
 }
 
 // Refusals 8 to 13 and 21, of a well-formed job, rule by rule.
-fn check_formed(s: &[u8], job: Job, starts: &[u32], points: &[u64], begins: &[u16]) -> Verdict
-    requires { FormedPoints (view job s.now) (schedule_of starts.now) points.now begins.now × Laid job s.now }
-    ensures { result ≡ starts_check (clocked (view job s.now)) starts.now }
+fn check_formed(timeline: Timeline) -> Verdict
+    requires { FormedPoints (seen timeline.job) (schedule timeline) timeline.points.now timeline.begins.now × IsLaid timeline.job }
+    ensures { result ≡ starts_check (model timeline.entry) timeline.entry.starts.now }
 {
-    check_starts(s, job, starts)?;
-    check_timing(s, job, starts, points, begins)
+    let Timeline { job, starts, .. } = timeline;
+    check_starts(job, starts)?;
+    check_timing(timeline)
 }
 
 // Refusals 8, 9, 12, 13 and 21, where the walks found nothing else wrong.
-fn check_clear(s: &[u8], job: Job, starts: &[u32], points: &[u64], begins: &[u16]) -> Verdict
-    requires { FormedPoints (view job s.now) (schedule_of starts.now) points.now begins.now
-        × Clear (clocked (view job s.now)) (schedule_of starts.now) × Laid job s.now }
-    ensures { result ≡ starts_check (clocked (view job s.now)) starts.now }
+fn check_clear(timeline: Timeline) -> Verdict
+    requires { FormedPoints (seen timeline.job) (schedule timeline) timeline.points.now timeline.begins.now
+        × Clear (model timeline) (schedule timeline) × IsLaid timeline.job }
+    ensures { result ≡ starts_check (model timeline.entry) timeline.entry.starts.now }
 {
-    check_starts(s, job, starts)?;
-    check_settled(s, job, points, begins)
+    let Timeline { job, starts, .. } = timeline;
+    check_starts(job, starts)?;
+    check_settled(timeline)
 }
 
 // Whether the walks find nothing wrong: nothing is against itself, nothing conflicts, and no condition fails.
-fn is_clear(s: &[u8], job: Job, starts: &[u32], points: &[u64], begins: &[u16]) -> bool
-    requires { Ranged (view job s.now) × PointsKnown (clocked (view job s.now)) (schedule_of starts.now) points.now begins.now }
-    ensures { result ≡ true → Clear (clocked (view job s.now)) (schedule_of starts.now) }
+fn is_clear(timeline: Timeline) -> bool
+    requires { Ranged (seen timeline.job) × PointsKnown (model timeline) (schedule timeline) timeline.points.now timeline.begins.now }
+    ensures { result ≡ true → Clear (model timeline.entry) (schedule timeline.entry) }
 {
-    if any_mixed(job.count.facts, points, begins) {
+    let Timeline {
+        job,
+        points,
+        begins,
+        ..
+    } = timeline;
+    if any_mixed(job.head.count.facts, points, begins) {
         return false;
     }
-    if uses::any_twice(job.count.facts, job.count.levels, points, begins) {
+    if uses::any_twice(job.head.count.facts, job.head.count.levels, points, begins) {
         return false;
     }
-    conditions::first_contested(s, job, starts, points, begins).is_none()
+    conditions::first_contested(timeline).is_none()
 }
 
 // Refusals 7 and 17.
-fn check_against(s: &[u8], job: Job) -> Verdict
-    requires { Laid job s.now × Ranged (view job s.now) }
-    ensures { result ≡ (step_check (view job s.now) then timed_check (view job s.now)) }
+fn check_against(job: JobReader) -> Verdict
+    requires { IsLaid job × Ranged (seen job) }
+    ensures { result ≡ (step_check (seen job.entry) then timed_check (seen job.entry)) }
 {
-    self_check::check_steps(s, job)?;
-    self_check::clock::check_clock(s, job)
+    self_check::check_steps(job)?;
+    self_check::clock::check_clock(job)
 }
 
 // Refusals 7 to 13, 17 and 21, where the walks found something wrong: the search by pairs says whether a step or the clock is against itself.
-fn check_named(s: &[u8], job: Job, starts: &[u32], points: &[u64], begins: &[u16]) -> Verdict
-    requires { Ordered s.now job starts.now points.now begins.now }
-    ensures { result ≡ (step_check (view job s.now) then timed_check (view job s.now)
-        then starts_check (clocked (view job s.now)) starts.now) }
+fn check_named(timeline: Timeline) -> Verdict
+    requires { Ordered timeline.job.bytes.now timeline.job.head timeline.starts.now timeline.points.now timeline.begins.now }
+    ensures { result ≡ (step_check (seen timeline.entry.job) then timed_check (seen timeline.entry.job)
+        then starts_check (model timeline.entry) timeline.entry.starts.now) }
 {
-    check_against(s, job)?;
-    check_formed(s, job, starts, points, begins)
+    let Timeline { job, .. } = timeline;
+    check_against(job)?;
+    check_formed(timeline)
 }
 
 // Refusals 7 to 13, 17 and 21, of points in the order of their ticks.
-fn check_ordered(s: &[u8], job: Job, starts: &[u32], points: &[u64], begins: &[u16]) -> Verdict
-    requires { Ordered s.now job starts.now points.now begins.now }
-    ensures { result ≡ (step_check (view job s.now) then timed_check (view job s.now)
-        then starts_check (clocked (view job s.now)) starts.now) }
+fn check_ordered(timeline: Timeline) -> Verdict
+    requires { Ordered timeline.job.bytes.now timeline.job.head timeline.starts.now timeline.points.now timeline.begins.now }
+    ensures { result ≡ (step_check (seen timeline.entry.job) then timed_check (seen timeline.entry.job)
+        then starts_check (model timeline.entry) timeline.entry.starts.now) }
 {
-    if is_clear(s, job, starts, points, begins) {
-        check_clear(s, job, starts, points, begins)
+    if is_clear(timeline) {
+        check_clear(timeline)
     } else {
-        check_named(s, job, starts, points, begins)
+        check_named(timeline)
     }
 }
 
-// Refusals 7 to 13, 17 and 21 of a small job.
-fn check_small(s: &[u8], job: Job, starts: &[u32]) -> Verdict
-    requires { Read s.now job × Small job.count }
-    ensures { result ≡ (step_check (view job s.now) then timed_check (view job s.now)
-        then starts_check (clocked (view job s.now)) starts.now) }
+// Refusals 7 to 13, 17 and 21, where there is room for the points.
+fn check_within<const POINTS: usize, const BEGINS: usize>(job: JobReader, starts: &[u32]) -> Verdict
+    requires { Read job.bytes.now job.head × Room job.head.count POINTS BEGINS }
+    ensures { result ≡ (step_check (seen job.entry) then timed_check (seen job.entry)
+        then starts_check (clocked (seen job.entry)) starts.now) }
 {
-    let mut spare = [0u64; FEW_POINTS];
-    let mut points = [0u64; FEW_POINTS];
-    let mut begins = [0u16; FEW_GROUPS + 2];
-    list_points(s, job, starts, &mut spare, &mut points, &mut begins);
-    check_ordered(s, job, starts, &points, &begins)
+    let mut spare = [0u64; POINTS];
+    let mut points = [0u64; POINTS];
+    let mut begins = [0u16; BEGINS];
+    list_points(job, starts, &mut spare, &mut points, &mut begins);
+    let timeline = Timeline {
+        job,
+        starts,
+        points: &points,
+        begins: &begins,
+    };
+    check_ordered(timeline)
 }
 
-// Refusals 7 to 13, 17 and 21.
-fn check_read(s: &[u8], job: Job, starts: &[u32]) -> Verdict
-    requires { Read s.now job }
-    ensures { result ≡ (step_check (view job s.now) then timed_check (view job s.now)
-        then starts_check (clocked (view job s.now)) starts.now) }
+// With little room for a small job.
+fn check_read(job: JobReader, starts: &[u32]) -> Verdict
+    requires { Read job.bytes.now job.head }
+    ensures { result ≡ (step_check (seen job.entry) then timed_check (seen job.entry)
+        then starts_check (clocked (seen job.entry)) starts.now) }
 {
-    if is_small(job) {
-        return check_small(s, job, starts);
+    if is_small(job.head) {
+        check_within::<FEW_POINTS, FEW_BEGINS>(job, starts)
+    } else {
+        check_within::<MOST_POINTS, MOST_BEGINS>(job, starts)
     }
-    let mut spare = [0u64; MOST_POINTS];
-    let mut points = [0u64; MOST_POINTS];
-    let mut begins = [0u16; MOST_GROUPS + 2];
-    list_points(s, job, starts, &mut spare, &mut points, &mut begins);
-    check_ordered(s, job, starts, &points, &begins)
 }
 
 // Refusals 1 to 6, or what was read of the header. A refusal is the job check's.
@@ -174,11 +189,11 @@ pub fn open_job(s: &[u8]) -> Result<Job, Refusal>
 }
 
 // The job check of a file that 1 to 6 pass, whose points at its written starts are in order: for whoever needs them as well.
-pub fn check_planned(s: &[u8], job: Job, starts: &[u32], points: &[u64], begins: &[u16]) -> Verdict
-    requires { Planned s.now job starts.now points.now begins.now }
-    ensures { JobPromise s.now result }
+pub fn check_planned(timeline: Timeline) -> Verdict
+    requires { Planned timeline.job.bytes.now timeline.job.head timeline.starts.now timeline.points.now timeline.begins.now }
+    ensures { JobPromise timeline.entry.job.bytes.now result }
 {
-    check_ordered(s, job, starts, points, begins)
+    check_ordered(timeline)
 }
 
 // Whether a job is sound: accepted, or the first of refusals 1 to 7, 17, 10 to 13 and 21 that fits, on the
@@ -186,10 +201,11 @@ pub fn check_planned(s: &[u8], job: Job, starts: &[u32], points: &[u64], begins:
 pub fn check_job(s: &[u8]) -> Verdict
     ensures { JobPromise s.now result }
 {
-    let job = open_job(s)?;
-    let n = job.count.steps as usize;
-    let starts = ticks::planned_starts(s, job, n);
-    check_read(s, job, &starts[..n])
+    let head = open_job(s)?;
+    let job = JobReader { bytes: s, head };
+    let n = head.count.steps as usize;
+    let starts = ticks::planned_starts(job, n);
+    check_read(job, &starts[..n])
 }
 
 // Whether a list of starts is a sound timing of a job: accepted, or the first of refusals 1 to 7, 17, 8 to 13 and 21 that
@@ -197,6 +213,7 @@ pub fn check_job(s: &[u8]) -> Verdict
 pub fn check_schedule(s: &[u8], starts: &[u32]) -> Verdict
     ensures { SchedulePromise s.now starts.now result }
 {
-    let job = record_check::read_records(s)?;
-    check_read(s, job, starts)
+    let head = record_check::read_records(s)?;
+    let job = JobReader { bytes: s, head };
+    check_read(job, starts)
 }

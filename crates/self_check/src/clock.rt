@@ -1,13 +1,11 @@
 // Refusal 17: the clock against itself, by pairs of timed facts, of which there are at most 64.
+ghost use Rattle.job_reader.specs.Seen.{seen, IsLaid};
 ghost use Rattle.std.specs.Prelude.{◌≡◌, ◌&&◌, not, ◌<◌, eqb};
-ghost use Rattle.job.specs.Model.{view};
 ghost use Rattle.job.specs.WellFormed.{Ranged};
-ghost use Rattle.job.specs.Laid.{Laid};
 ghost use Rattle.against.specs.Clock.{timed_conflicts, timed_check};
 
-use job::layout::Job;
 use job::records::TimedFact;
-use job_reader::laid::timed_of;
+use job_reader::reader::JobReader;
 use verdict::{Refusal, Verdict};
 
 // Whether two timed facts set one fact both ways at one tick.
@@ -18,14 +16,14 @@ fn both_ways(a: TimedFact, b: TimedFact) -> bool
 }
 
 // Whether some timed fact sets the fact of timed fact j the other way at its tick.
-fn conflicts(s: &[u8], job: Job, j: u16) -> bool
-    requires { Laid job s.now × Ranged (view job s.now) × (j < job.count.timed) }
-    ensures { result ≡ timed_conflicts (view job s.now) j }
+fn conflicts(job: JobReader, j: u16) -> bool
+    requires { IsLaid job × Ranged (seen job) × (j < job.head.count.timed) }
+    ensures { result ≡ timed_conflicts (seen job.entry) j }
 {
-    let own = timed_of(s, job, j);
-    let n = job.count.timed;
+    let own = job.timed(j);
+    let n = job.head.count.timed;
     for k in 0..n {
-        let other = timed_of(s, job, k);
+        let other = job.timed(k);
         if both_ways(own, other) {
             return true;
         }
@@ -34,13 +32,13 @@ fn conflicts(s: &[u8], job: Job, j: u16) -> bool
 }
 
 // Refusal 17, of a file that refusals 1 to 7 pass.
-pub fn check_clock(s: &[u8], job: Job) -> Verdict
-    requires { Laid job s.now × Ranged (view job s.now) }
-    ensures { result ≡ timed_check (view job s.now) }
+pub fn check_clock(job: JobReader) -> Verdict
+    requires { IsLaid job × Ranged (seen job) }
+    ensures { result ≡ timed_check (seen job.entry) }
 {
-    let n = job.count.timed;
+    let n = job.head.count.timed;
     for j in 0..n {
-        if conflicts(s, job, j) {
+        if conflicts(job, j) {
             return Err(Refusal::TimedFactsConflict(j));
         }
     }

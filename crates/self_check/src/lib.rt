@@ -4,9 +4,9 @@
 // first. Refusal 17, the clock against itself, is in `clock`.
 #![tactic(auto)]
 
+ghost use Rattle.job_reader.specs.Seen.{seen, IsLaid};
 ghost use Rattle.std.specs.Prelude.{◌≡◌, ◌&&◌, cond, ℕ, ◌≤◌, ◌<◌, ltb};
-ghost use Rattle.job.specs.Model.{view, effect_of};
-ghost use Rattle.job.specs.Laid.{Laid};
+ghost use Rattle.job.specs.Model.{effect_of};
 ghost use Rattle.job.specs.WellFormed.{Ranged};
 ghost use Rattle.self_check.specs.Keys.{step_key, condition_key, use_key, SearchBack};
 ghost use Rattle.timeline.specs.Indexed.{key_count, capacity, Growing};
@@ -14,10 +14,8 @@ ghost use Rattle.against.specs.Against.{uses_twice, opposes_own, used_before, op
 
 pub mod clock;
 
-use job::layout::Job;
 use job::records::Effect;
-use job_fields::*;
-use job_reader::laid::effect_of;
+use job_reader::reader::JobReader;
 use pair_search::search_pairs;
 use timeline::index::{INDEX_SIZE, KEYS, UNLINKED, before_of, last_of, link};
 use verdict::{Refusal, Verdict};
@@ -29,39 +27,39 @@ fn step_key(step: u16, what: u16) -> usize
     (8 * step as usize + what as usize) % KEYS
 }
 
-fn uses_twice(s: &[u8], job: Job, u: u16, v: u16) -> bool
-    ensures { result ≡ uses_twice (view job s.now) u v }
+fn uses_twice(job: JobReader, u: u16, v: u16) -> bool
+    ensures { result ≡ uses_twice (seen job.entry) u v }
 {
-    if use_at(s, job, u) != use_at(s, job, v) {
+    if job.use_at(u) != job.use_at(v) {
         return false;
     }
-    (use_step(s, job, u) == use_step(s, job, v)) & (use_level(s, job, u) == use_level(s, job, v))
+    (job.use_step(u) == job.use_step(v)) & (job.use_level(u) == job.use_level(v))
 }
 
 // Whether e, if it is effect k, opposes c.
-fn opposes_own(s: &[u8], job: Job, e: Effect, c: u16) -> bool
-    ensures { (k : ℕ) → e ≡ effect_of (view job s.now) k → result ≡ opposes_own (view job s.now) k c }
+fn opposes_own(job: JobReader, e: Effect, c: u16) -> bool
+    ensures { (k : ℕ) → e ≡ effect_of (seen job.entry) k → result ≡ opposes_own (seen job.entry) k c }
 {
-    if e.fact != condition_fact(s, job, c) {
+    if e.fact != job.condition_fact(c) {
         return false;
     }
-    if e.value == condition_value(s, job, c) {
+    if e.value == job.condition_value(c) {
         return false;
     }
-    (e.step == condition_step(s, job, c))
-        & (condition_from(s, job, c) <= e.at)
-        & (e.at < condition_to(s, job, c))
+    (e.step == job.condition_step(c))
+        & (job.condition_from(c) <= e.at)
+        & (e.at < job.condition_to(c))
 }
 
 // Whether a use before u uses u's level in u's step at u's tick.
-fn used_before(s: &[u8], job: Job, index: &[u16], key: usize, u: u16) -> bool
-    requires { SearchBack (use_key (view job s.now)) u (use_key (view job s.now) u) key index.now }
-    ensures { result ≡ used_before (view job s.now) u }
+fn used_before(job: JobReader, index: &[u16], key: usize, u: u16) -> bool
+    requires { SearchBack (use_key (seen job)) u (use_key (seen job) u) key index.now }
+    ensures { result ≡ used_before (seen job.entry) u }
 {
     let mut v = last_of(index, key);
     // A walk along links has no range to go through.
     while v < u {
-        if uses_twice(s, job, u, v) {
+        if uses_twice(job, u, v) {
             return true;
         }
         v = before_of(index, v);
@@ -70,15 +68,15 @@ fn used_before(s: &[u8], job: Job, index: &[u16], key: usize, u: u16) -> bool
 }
 
 // Whether e, if it is effect k, opposes a condition of its own step before that condition's last tick.
-fn opposes_any(s: &[u8], job: Job, index: &[u16], key: usize, e: Effect) -> bool
-    requires { SearchBack (condition_key (view job s.now)) job.count.conditions (step_key e.step e.fact) key index.now }
-    ensures { (k : ℕ) → e ≡ effect_of (view job s.now) k → result ≡ opposes_any (view job s.now) k }
+fn opposes_any(job: JobReader, index: &[u16], key: usize, e: Effect) -> bool
+    requires { SearchBack (condition_key (seen job)) job.head.count.conditions (step_key e.step e.fact) key index.now }
+    ensures { (k : ℕ) → e ≡ effect_of (seen job.entry) k → result ≡ opposes_any (seen job.entry) k }
 {
-    let n = job.count.conditions;
+    let n = job.head.count.conditions;
     let mut c = last_of(index, key);
     // A walk along links has no range to go through.
     while c < n {
-        if opposes_own(s, job, e, c) {
+        if opposes_own(job, e, c) {
             return true;
         }
         c = before_of(index, c);
@@ -93,50 +91,50 @@ fn lower_if(found: bool, step: u16, best: u16) -> u16
 }
 
 // Links the conditions by their step and fact.
-fn link_conditions(s: &[u8], job: Job, index: &mut [u16; INDEX_SIZE])
-    requires { Growing (condition_key (view job s.now)) 0 index.old × (job.count.conditions ≤ capacity) }
-    ensures { Growing (condition_key (view job s.now)) job.count.conditions index.new }
+fn link_conditions(job: JobReader, index: &mut [u16; INDEX_SIZE])
+    requires { Growing (condition_key (seen job)) 0 index.old × (job.head.count.conditions ≤ capacity) }
+    ensures { Growing (condition_key (seen job.entry)) job.entry.head.count.conditions index.new }
 {
-    let n = job.count.conditions;
+    let n = job.head.count.conditions;
     for c in 0..n {
-        let key = step_key(condition_step(s, job, c), condition_fact(s, job, c));
+        let key = step_key(job.condition_step(c), job.condition_fact(c));
         link(key, c, index);
     }
 }
 
 // The lowest step that opposes its own condition before its last tick, or the count of steps.
-fn effects_against(s: &[u8], job: Job) -> u16
-    requires { Laid job s.now × Ranged (view job s.now) }
-    ensures { result ≡ opposes_own_step (view job s.now) }
+fn effects_against(job: JobReader) -> u16
+    requires { IsLaid job × Ranged (seen job) }
+    ensures { result ≡ opposes_own_step (seen job.entry) }
 {
     let mut index = [UNLINKED; INDEX_SIZE];
-    link_conditions(s, job, &mut index);
-    let mut best = job.count.steps;
-    let n = job.count.effects;
+    link_conditions(job, &mut index);
+    let mut best = job.head.count.steps;
+    let n = job.head.count.effects;
     for k in 0..n {
-        let e = effect_of(s, job, k);
+        let e = job.effect(k);
         let key = step_key(e.step, e.fact);
-        let found = opposes_any(s, job, &index, key, e);
+        let found = opposes_any(job, &index, key, e);
         best = lower_if(found, e.step, best);
     }
     best
 }
 
 // The lowest step that uses a level twice at one tick, or the count of steps. Without uses no index is made.
-fn uses_against(s: &[u8], job: Job) -> u16
-    requires { Ranged (view job s.now) }
-    ensures { result ≡ uses_twice_step (view job s.now) }
+fn uses_against(job: JobReader) -> u16
+    requires { Ranged (seen job) }
+    ensures { result ≡ uses_twice_step (seen job.entry) }
 {
-    let n = job.count.uses;
+    let n = job.head.count.uses;
     if n == 0 {
-        return job.count.steps;
+        return job.head.count.steps;
     }
     let mut index = [UNLINKED; INDEX_SIZE];
-    let mut best = job.count.steps;
+    let mut best = job.head.count.steps;
     for u in 0..n {
-        let step = use_step(s, job, u);
-        let key = step_key(step, use_level(s, job, u));
-        let found = used_before(s, job, &index, key, u);
+        let step = job.use_step(u);
+        let key = step_key(step, job.use_level(u));
+        let found = used_before(job, &index, key, u);
         best = lower_if(found, step, best);
         link(key, u, &mut index);
     }
@@ -144,15 +142,15 @@ fn uses_against(s: &[u8], job: Job) -> u16
 }
 
 // Refusal 7, of a file that refusals 1 to 6 pass.
-pub fn check_steps(s: &[u8], job: Job) -> Verdict
-    requires { Laid job s.now × Ranged (view job s.now) }
-    ensures { result ≡ step_check (view job s.now) }
+pub fn check_steps(job: JobReader) -> Verdict
+    requires { IsLaid job × Ranged (seen job) }
+    ensures { result ≡ step_check (seen job.entry) }
 {
-    let pairs = search_pairs(s, job);
-    let uses = uses_against(s, job);
-    let effects = effects_against(s, job);
+    let pairs = search_pairs(job);
+    let uses = uses_against(job);
+    let effects = effects_against(job);
     let step = pairs.step.min(uses).min(effects);
-    let n = job.count.steps;
+    let n = job.head.count.steps;
     if step < n {
         return Err(Refusal::StepAgainstItself(step));
     }

@@ -2,15 +2,15 @@
 // starts are any u32, and sums are made in 64 bits.
 #![tactic(auto)]
 
+ghost use Rattle.job_reader.specs.Seen.{seen};
 ghost use Rattle.std.specs.Prelude.{◌≡◌, ◌≤◌, ◌<◌, length, take};
 ghost use Rattle.laws.specs.Listed.{tabulate};
 ghost use Rattle.job.specs.Layout.{most_steps};
-ghost use Rattle.job.specs.Model.{view};
 ghost use Rattle.validity.specs.Ticks.{schedule_of, effect_tick, last_tick};
 ghost use Rattle.timeline.specs.Words.{tick_span};
 
 use job::layout::Job;
-use job_fields::*;
+use job_reader::reader::JobReader;
 
 pub fn start_of(starts: &[u32], step: u16) -> usize
     ensures { (result ≡ schedule_of starts.now step) × (result < 4294967296) }
@@ -21,28 +21,28 @@ pub fn start_of(starts: &[u32], step: u16) -> usize
     }
 }
 
-pub fn effect_tick(s: &[u8], job: Job, starts: &[u32], e: u16) -> usize
-    ensures { (result ≡ effect_tick (view job s.now) (schedule_of starts.now) e) × (result < tick_span) }
+pub fn effect_tick(job: JobReader, starts: &[u32], e: u16) -> usize
+    ensures { (result ≡ effect_tick (seen job.entry) (schedule_of starts.now) e) × (result < tick_span) }
 {
-    start_of(starts, effect_step(s, job, e)) + effect_at(s, job, e)
+    start_of(starts, job.effect_step(e)) + job.effect_at(e)
 }
 
 // The last tick of condition c, by its step.
-pub fn last_tick(s: &[u8], job: Job, starts: &[u32], c: u16, step: u16) -> usize
-    requires { step ≡ (view job s.now).condition_step c }
-    ensures { (result ≡ last_tick (view job s.now) (schedule_of starts.now) c) × (result < tick_span) }
+pub fn last_tick(job: JobReader, starts: &[u32], c: u16, step: u16) -> usize
+    requires { step ≡ (seen job).condition_step c }
+    ensures { (result ≡ last_tick (seen job.entry) (schedule_of starts.now) c) × (result < tick_span) }
 {
-    start_of(starts, step) + condition_to(s, job, c)
+    start_of(starts, step) + job.condition_to(c)
 }
 
 // The written starts of the first n steps.
-pub fn planned_starts(s: &[u8], job: Job, n: usize) -> [u32; Job::STEPS as usize]
+pub fn planned_starts(job: JobReader, n: usize) -> [u32; Job::STEPS as usize]
     requires { n ≤ most_steps }
-    ensures { (length result ≡ most_steps) × (take n result ≡ tabulate n (view job s.now).start) }
+    ensures { (length result ≡ most_steps) × (take n result ≡ tabulate n (seen job.entry).start) }
 {
     let mut starts = [0u32; Job::STEPS as usize];
     for k in 0..n {
-        starts[k] = step_start(s, job, k as u16) as u32;
+        starts[k] = job.step_start(k as u16) as u32;
     }
     starts
 }

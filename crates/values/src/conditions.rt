@@ -1,8 +1,9 @@
 // Refusal 11: conditions that fail, found along the setters of each fact, with those that their own step opposes (7).
+ghost use Rattle.points.specs.Timelines.{model, schedule};
+ghost use Rattle.job_reader.specs.Seen.{seen};
 ghost use Rattle.std.specs.Prelude.{◌≡◌, cond, ◌-◌, ◌≤◌, ◌<◌, eqb, ltb, length};
 ghost use Rattle.laws.specs.Search.{first_where};
 ghost use Rattle.job.specs.Clocked.{clocked};
-ghost use Rattle.job.specs.Model.{view};
 ghost use Rattle.timeline.specs.Words.{word_tick, word_number, value_at};
 ghost use Rattle.validity.specs.Ticks.{schedule_of};
 ghost use Rattle.points.specs.Points.{Wanting};
@@ -11,9 +12,9 @@ ghost use Rattle.laws.specs.Noted.{Noted};
 ghost use Rattle.opposing.specs.Against.{Rising};
 ghost use Rattle.values.specs.Conditions.{ConditionsKnown, ConditionAt, NotPast, Come};
 
-use job::layout::Job;
-use job_reader::reader::fact_at;
+use job_reader::reader::JobReader;
 use opposing::scan::{is_past, opposed_from, opposing_from};
+use points::timeline::Timeline;
 use ticks::last_tick;
 use timeline::walk::{Cursor, advance};
 use timeline::word::{STEP_SPAN, begin_at, number_of, step_of, tick_of, value_of};
@@ -113,44 +114,43 @@ fn is_opposed(points: &[u64], from: usize, high: usize, last: usize, value: u16,
 
 // Whether the condition in a word fails or is opposed before its last tick, by a walk that has come to its first tick.
 fn is_contested(
-    s: &[u8],
-    job: Job,
+    job: JobReader,
     starts: &[u32],
     points: &[u64],
     setters: Setters,
     walk: Walk,
     word: u64,
 ) -> bool
-    requires { ConditionAt (clocked (view job s.now)) (schedule_of starts.now) points.now setters walk word }
-    ensures { result ≡ contested (clocked (view job s.now)) (schedule_of starts.now) (word_number word) }
+    requires { ConditionAt (clocked (seen job)) (schedule_of starts.now) points.now setters walk word }
+    ensures { result ≡ contested (clocked (seen job.entry)) (schedule_of starts.now) (word_number word) }
 {
     let value = value_of(word);
     let step = step_of(word);
-    let last = last_tick(s, job, starts, number_of(word), step);
+    let last = last_tick(job, starts, number_of(word), step);
     let from = opposing(walk, value);
     let opposed = is_opposed(points, from, setters.high, last, value, step);
     (seen_at(points, setters, walk.place) != value) | opposed
 }
 
 // The lowest contested condition on a fact, or the count of conditions.
-fn contested_of(
-    s: &[u8],
-    job: Job,
-    starts: &[u32],
-    points: &[u64],
-    begins: &[u16],
-    fact: u16,
-) -> u16
-    requires { ConditionsKnown (clocked (view job s.now)) (schedule_of starts.now) points.now begins.now × (fact < job.count.facts) }
-    ensures { Noted job.count.conditions (contested (clocked (view job s.now)) (schedule_of starts.now))
-        (Wanting (clocked (view job s.now)) fact) result }
+fn contested_of(timeline: Timeline, fact: u16) -> u16
+    requires { ConditionsKnown (model timeline) (schedule timeline) timeline.points.now timeline.begins.now
+        × (fact < timeline.job.head.count.facts) }
+    ensures { Noted timeline.entry.job.head.count.conditions (contested (model timeline.entry) (schedule timeline.entry))
+        (Wanting (model timeline.entry) fact) result }
 {
+    let Timeline {
+        job,
+        starts,
+        points,
+        begins,
+    } = timeline;
     let setters = Setters {
         low: begin_at(begins, fact as usize),
         high: begin_at(begins, fact as usize + 1),
-        initial: fact_at(s, job, fact),
+        initial: job.fact_initial(fact),
     };
-    let group = job.count.facts as usize + fact as usize;
+    let group = job.head.count.facts as usize + fact as usize;
     let end = begin_at(begins, group + 1);
     let mut walk = Walk {
         place: setters.low,
@@ -158,11 +158,11 @@ fn contested_of(
         off: setters.low,
         on: setters.low,
     };
-    let mut best = job.count.conditions;
+    let mut best = job.head.count.conditions;
     for q in begin_at(begins, group)..end {
         let word = points[q];
         walk = walk_to(points, setters, word, walk);
-        if is_contested(s, job, starts, points, setters, walk, word) {
+        if is_contested(job, starts, points, setters, walk, word) {
             best = best.min(number_of(word));
         }
     }
@@ -170,20 +170,15 @@ fn contested_of(
 }
 
 // The lowest contested condition, if one is.
-pub fn first_contested(
-    s: &[u8],
-    job: Job,
-    starts: &[u32],
-    points: &[u64],
-    begins: &[u16],
-) -> Option<u16>
-    requires { ConditionsKnown (clocked (view job s.now)) (schedule_of starts.now) points.now begins.now }
-    ensures { result ≡ first_where job.count.conditions (contested (clocked (view job s.now)) (schedule_of starts.now)) }
+pub fn first_contested(timeline: Timeline) -> Option<u16>
+    requires { ConditionsKnown (model timeline) (schedule timeline) timeline.points.now timeline.begins.now }
+    ensures { result ≡ first_where timeline.entry.job.head.count.conditions (contested (model timeline.entry) (schedule timeline.entry)) }
 {
-    let n = job.count.conditions;
+    let Timeline { job, .. } = timeline;
+    let n = job.head.count.conditions;
     let mut best = n;
-    for fact in 0..job.count.facts {
-        best = best.min(contested_of(s, job, starts, points, begins, fact));
+    for fact in 0..job.head.count.facts {
+        best = best.min(contested_of(timeline, fact));
     }
     if best < n { Some(best) } else { None }
 }

@@ -1,31 +1,38 @@
 // Refusal 10: opposing effects of two steps, or of a step and the clock, at one tick.
+ghost use Rattle.points.specs.Timelines.{model, schedule};
+ghost use Rattle.job_reader.specs.Seen.{seen};
 ghost use Rattle.std.specs.Prelude.{◌≡◌, ◌+◌, ◌<◌};
 ghost use Rattle.laws.specs.Search.{first_where};
 ghost use Rattle.job.specs.Clocked.{clocked};
-ghost use Rattle.job.specs.Model.{view};
 ghost use Rattle.job.specs.WellFormed.{WellFormed};
 ghost use Rattle.validity.specs.Ticks.{schedule_of};
 ghost use Rattle.validity.specs.Checks as spec;
 ghost use Rattle.points.specs.Points.{PointsKnown};
 
-use job::layout::Job;
-use job_fields::{effect_fact, effect_step, effect_value};
+use job_reader::reader::JobReader;
 use opposing::neighbours::any_mixed;
 use opposing::scan::opposed_from;
+use points::timeline::Timeline;
 use ticks::effect_tick;
 use timeline::walk::{Cursor, advance};
 use timeline::word::begin_at;
 
 // Whether effect e conflicts with one of its fact's setters at its tick.
-fn conflicts(s: &[u8], job: Job, starts: &[u32], points: &[u64], begins: &[u16], e: u16) -> bool
-    requires { WellFormed (view job s.now) × PointsKnown (clocked (view job s.now)) (schedule_of starts.now) points.now begins.now
-        × (e < job.count.effects) }
-    ensures { result ≡ spec.conflicts (clocked (view job s.now)) (schedule_of starts.now) e }
+fn conflicts(timeline: Timeline, e: u16) -> bool
+    requires { WellFormed (seen timeline.job) × PointsKnown (model timeline) (schedule timeline) timeline.points.now timeline.begins.now
+        × (e < timeline.job.head.count.effects) }
+    ensures { result ≡ spec.conflicts (model timeline.entry) (schedule timeline.entry) e }
 {
-    let fact = effect_fact(s, job, e) as usize;
+    let Timeline {
+        job,
+        starts,
+        points,
+        begins,
+    } = timeline;
+    let fact = job.effect_fact(e) as usize;
     let low = begin_at(begins, fact);
     let high = begin_at(begins, fact + 1);
-    let tick = effect_tick(s, job, starts, e);
+    let tick = effect_tick(job, starts, e);
     let first = advance(
         points,
         low,
@@ -36,32 +43,20 @@ fn conflicts(s: &[u8], job: Job, starts: &[u32], points: &[u64], begins: &[u16],
             run: low,
         },
     );
-    let value = effect_value(s, job, e);
-    opposed_from(
-        points,
-        first.place,
-        high,
-        tick,
-        value,
-        effect_step(s, job, e),
-    )
+    let value = job.effect_value(e);
+    opposed_from(points, first.place, high, tick, value, job.effect_step(e))
 }
 
 // The lowest effect that conflicts, found one by one: only jobs that are refused come here. A timed fact conflicts with effects of steps
 // alone, so it is never the lowest.
-fn lowest_conflict(
-    s: &[u8],
-    job: Job,
-    starts: &[u32],
-    points: &[u64],
-    begins: &[u16],
-) -> Option<u16>
-    requires { WellFormed (view job s.now) × PointsKnown (clocked (view job s.now)) (schedule_of starts.now) points.now begins.now }
-    ensures { result ≡ first_where (job.count.effects + job.count.timed)
-        (spec.conflicts (clocked (view job s.now)) (schedule_of starts.now)) }
+fn lowest_conflict(timeline: Timeline) -> Option<u16>
+    requires { WellFormed (seen timeline.job) × PointsKnown (model timeline) (schedule timeline) timeline.points.now timeline.begins.now }
+    ensures { result ≡ first_where (timeline.entry.job.head.count.effects + timeline.entry.job.head.count.timed)
+        (spec.conflicts (model timeline.entry) (schedule timeline.entry)) }
 {
-    for e in 0..job.count.effects {
-        if conflicts(s, job, starts, points, begins, e) {
+    let Timeline { job, .. } = timeline;
+    for e in 0..job.head.count.effects {
+        if conflicts(timeline, e) {
             return Some(e);
         }
     }
@@ -69,19 +64,19 @@ fn lowest_conflict(
 }
 
 // The lowest effect that an opposing effect of another step shares a tick with, if one does.
-pub fn first_conflict(
-    s: &[u8],
-    job: Job,
-    starts: &[u32],
-    points: &[u64],
-    begins: &[u16],
-) -> Option<u16>
-    requires { WellFormed (view job s.now) × PointsKnown (clocked (view job s.now)) (schedule_of starts.now) points.now begins.now }
-    ensures { result ≡ first_where (job.count.effects + job.count.timed)
-        (spec.conflicts (clocked (view job s.now)) (schedule_of starts.now)) }
+pub fn first_conflict(timeline: Timeline) -> Option<u16>
+    requires { WellFormed (seen timeline.job) × PointsKnown (model timeline) (schedule timeline) timeline.points.now timeline.begins.now }
+    ensures { result ≡ first_where (timeline.entry.job.head.count.effects + timeline.entry.job.head.count.timed)
+        (spec.conflicts (model timeline.entry) (schedule timeline.entry)) }
 {
-    if any_mixed(job.count.facts, points, begins) {
-        lowest_conflict(s, job, starts, points, begins)
+    let Timeline {
+        job,
+        points,
+        begins,
+        ..
+    } = timeline;
+    if any_mixed(job.head.count.facts, points, begins) {
+        lowest_conflict(timeline)
     } else {
         None
     }

@@ -17,30 +17,30 @@ use Rattle.form.proofs.read_form.Goals as goal
 refused : (s : List ℕ) {x : Refusal} → Err x ≡ form_check s → FormPromise s (Err x)
 refused s v = record { verdict = v; job = tt; well_formed = λ z. well_formed_lem s (sym (ap number v) ∙ z) }
 
-pub returns-in_err-job : goal.returns-in_err-job
-returns-in_err-job c = rw (handed _ c.from_residual.ensures.1) (refused _ (read_refused c.in_err-job.ensures))
+pub returns-in_err-head : goal.returns-in_err-head
+returns-in_err-head c = rw (handed _ c.from_residual.ensures.1) (refused _ (read_refused c.in_err-head.ensures))
 
 pub check_steps-requires : goal.check_steps-requires
-check_steps-requires c = let p = c.in_ok-job.ensures in (read_laid p, read_ranged p)
+check_steps-requires c = let p = c.in_ok-head.ensures in (read_laid p, read_ranged p)
 
 pub returns-in_err-check_steps : goal.returns-in_err-check_steps
 unfolding ◌then◌
 returns-in_err-check_steps c =
     rw (handed _ c.from_residual-in_err-check_steps.ensures.1)
-    (refused _ (rw (sym c.in_err-check_steps.ensures) at (read_passed c.in_ok-job.ensures)))
+    (refused _ (rw (sym c.in_err-check_steps.ensures) at (read_passed c.in_ok-head.ensures)))
 
 pub check_clock-requires : goal.check_clock-requires
-check_clock-requires c = let p = c.in_ok-job.ensures in (read_laid p, read_ranged p)
+check_clock-requires c = let p = c.in_ok-head.ensures in (read_laid p, read_ranged p)
 
 pub returns-in_err-check_clock : goal.returns-in_err-check_clock
 unfolding ◌then◌
 returns-in_err-check_clock c =
     rw (handed _ c.from_residual-in_err-check_clock.ensures.1)
-    (refused _ (rw (sym c.in_ok-check_steps.ensures, sym c.in_err-check_clock.ensures) at (read_passed c.in_ok-job.ensures)))
+    (refused _ (rw (sym c.in_ok-check_steps.ensures, sym c.in_err-check_clock.ensures) at (read_passed c.in_ok-head.ensures)))
 
 pub returns : goal.returns
 unfolding ◌then◌
 returns c =
-    let p = c.in_ok-job.ensures in
+    let p = c.in_ok-head.ensures in
     let q = rw (sym c.in_ok-check_steps.ensures, sym c.in_ok-check_clock.ensures) at (read_passed p) in
     record { verdict = q; job = p.job; well_formed = λ z. well_formed_lem _ (sym (ap number q)) }

@@ -9,5 +9,5 @@ use Rattle.goals.proofs.first_missed.Given as goal
 
 abbrev pub invariant-loop-g : goal.invariant-loop-g
 invariant-loop-g l =
-    (x : ℕ → ℕ) → PointsKnown (clocked (view l.job l.s)) x l.points l.begins → OneValue (clocked (view l.job l.s)) x
-    → lowest l.g (goal_fails (clocked (view l.job l.s)) x) ≡ l.g
+    (x : ℕ → ℕ) → PointsKnown (clocked (view l.fn.timeline.job.head l.fn.timeline.job.bytes.now)) x l.fn.timeline.points.now l.fn.timeline.begins.now → OneValue (clocked (view l.fn.timeline.job.head l.fn.timeline.job.bytes.now)) x
+    → lowest l.g (goal_fails (clocked (view l.fn.timeline.job.head l.fn.timeline.job.bytes.now)) x) ≡ l.g

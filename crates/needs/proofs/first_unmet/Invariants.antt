@@ -7,4 +7,4 @@ use Rattle.needs.proofs.first_unmet.Given as goal
 
 abbrev pub invariant-loop-l : goal.invariant-loop-l
 invariant-loop-l l =
-    (x : ℕ → ℕ) → PointsKnown (clocked (view l.job l.s)) x l.points l.begins → NeedsOfLevels (clocked (view l.job l.s)) x l.l l.best
+    (x : ℕ → ℕ) → PointsKnown (clocked (view l.fn.timeline.job.head l.fn.timeline.job.bytes.now)) x l.fn.timeline.points.now l.fn.timeline.begins.now → NeedsOfLevels (clocked (view l.fn.timeline.job.head l.fn.timeline.job.bytes.now)) x l.l l.best

@@ -7,8 +7,8 @@ use Rattle.needs.proofs.sums_before.Given as goal
 
 abbrev pub invariant-loop-sums : goal.invariant-loop-sums
 invariant-loop-sums l =
-    (low : ℕ) → Behind (clocked (view l.job l.s)) l.points low l.high (word_tick l.word) l.initial.sums
-    → Behind (clocked (view l.job l.s)) l.points low l.high (word_tick l.word) l.sums
+    (low : ℕ) → Behind (clocked (view l.job.head l.job.bytes.now)) l.points low l.high (word_tick l.word) l.initial.sums
+    → Behind (clocked (view l.job.head l.job.bytes.now)) l.points low l.high (word_tick l.word) l.sums
 
 abbrev pub decreases-loop-sums : goal.decreases-loop-sums
 decreases-loop-sums l = l.high - l.sums.place

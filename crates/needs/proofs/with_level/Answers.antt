@@ -33,7 +33,7 @@ sums_before-sums-requires c = (_, visited_behind c.loop-q.invariant c.loop-q-tes
 
 pub is_unmet-requires : goal.is_unmet-requires
 is_unmet-requires c =
-    let m = clocked (view c.args.job c.args.s.now) in (
+    let m = clocked (view c.args.timeline.job.head c.args.timeline.job.bytes.now) in (
       c.requires.0,
       c.loop-q.invariant.few,
       visited_one {m = m} c.loop-q.invariant c.loop-q-test.true c.sums_before-sums.ensures,

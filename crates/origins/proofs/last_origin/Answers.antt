@@ -8,7 +8,7 @@ returns c =
     let a = c.args in
     rw (
       c.step_of.ensures.0,
-      c.condition_to.ensures.0 ∙ ap (view a.job a.s.now).condition_to c.number_of.ensures.0,
+      c.condition_to.ensures.0 ∙ ap (view a.job.head a.job.bytes.now).condition_to c.number_of.ensures.0,
       c.of.ensures,
       c.value_of.ensures.0,
       c.tick_of.ensures.0,

@@ -16,7 +16,7 @@ pub returns-in-Ok : goal.returns-in-Ok
 returns-in-Ok c =
     let p = c.in-Ok.ensures in
     let s = c.args.s.now in
-    let e = c.found_in.ensures s ∙ ap (found_in (view c.in-Ok.job s)) c.search_pairs.ensures in
+    let e = c.found_in.ensures s ∙ ap (found_in (view c.in-Ok.head s)) c.search_pairs.ensures in
     searched _ p.verdict (e ∙ ap (λ (j : Job). found_in (view j s) (pair_search (view j s))) p.job)
 
 pub returns-in-Err : goal.returns-in-Err

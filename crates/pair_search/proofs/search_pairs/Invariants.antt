@@ -7,4 +7,4 @@ use Rattle.pair_search.proofs.Stepping.{PassedSteps}
 use Rattle.pair_search.proofs.search_pairs.Given as goal
 
 abbrev pub invariant-loop-step : goal.invariant-loop-step
-invariant-loop-step l = (length l.keys ≡ most_effects) × PassedSteps (view l.job l.s) l.compared l.step
+invariant-loop-step l = (length l.keys ≡ most_effects) × PassedSteps (view l.job.head l.job.bytes.now) l.compared l.step

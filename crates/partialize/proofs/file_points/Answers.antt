@@ -99,7 +99,7 @@ file_found-requires c =
 
 pub returns : goal.returns
 returns c =
-    let s = c.args.s.now in
+    let s = c.args.timeline.job.bytes.now in
     c.file_found.ensures s _ c.find_limits.ensures c.find_latest.ensures
-    (file_numbers (view c.args.job s) c.args.starts.now _ _ c.requires.0.timed (c.number_links.ensures s))
+    (file_numbers (view c.args.timeline.job.head s) c.args.timeline.starts.now _ _ c.requires.0.timed (c.number_links.ensures s))
     c.fill_gaps.ensures

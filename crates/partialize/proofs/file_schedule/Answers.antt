@@ -23,10 +23,10 @@ find_links-requires c =
 pub file_points-requires : goal.file_points-requires
 file_points-requires c =
     let p = c.requires.0 in
-    let f = c.find_links.ensures (schedule_of c.args.starts.now) p.known p.valid.valid in (
+    let f = c.find_links.ensures (schedule_of c.args.timeline.starts.now) p.known p.valid.valid in (
       record {
         timed = record { valid = p.valid; linked = record { each = f.below }; size = f.size ∙ length-replicate {A = ℕ} link_limit 0 };
-        known = own_known (view c.args.job c.args.s.now) c.if-job-eq0.true _ p.known;
+        known = own_known (view c.args.timeline.job.head c.args.timeline.job.bytes.now) c.if-job-eq0.true _ p.known;
       },
       c.requires.1,
     )
@@ -37,7 +37,7 @@ returns-then-job-eq0 c = c.file_points.ensures
 pub file_timed-requires : goal.file_timed-requires
 file_timed-requires c =
     let p = c.requires.0 in
-    let f = c.find_links.ensures (schedule_of c.args.starts.now) p.known p.valid.valid in (
+    let f = c.find_links.ensures (schedule_of c.args.timeline.starts.now) p.known p.valid.valid in (
       record { valid = p.valid; linked = record { each = f.below }; size = f.size ∙ length-replicate {A = ℕ} link_limit 0 },
       c.requires.1,
     )

@@ -38,8 +38,8 @@ file_schedule-requires c =
         valid = record {
           form = form;
           valid = rw (p.written, p.read.header) sound.valid;
-          written = omega (arith, written_each (view c.args.job c.args.s.now) _ p.written);
-          clock = written_clock (view c.args.job c.args.s.now) _ p.written;
+          written = omega (arith, written_each (view c.args.timeline.job.head c.args.timeline.job.bytes.now) _ p.written);
+          clock = written_clock (view c.args.timeline.job.head c.args.timeline.job.bytes.now) _ p.written;
         };
         known = p.known;
       },

@@ -5,20 +5,20 @@ use lib.Seq.{length-take-le}
 use Rattle.partialize.proofs.Promised.{handed, refused_promise}
 use Rattle.partialize.proofs.partialize.Goals as goal
 
-pub returns-in_err-job : goal.returns-in_err-job
-returns-in_err-job c = rw (handed _ c.from_residual.ensures.1) (refused_promise _ _ _ c.in_err-job.ensures.refused)
+pub returns-in_err-head : goal.returns-in_err-head
+returns-in_err-head c = rw (handed _ c.from_residual.ensures.1) (refused_promise _ _ _ c.in_err-head.ensures.refused)
 
 pub planned_starts-starts-requires : goal.planned_starts-starts-requires
-planned_starts-starts-requires c = c.in_ok-job.ensures.ranged.step_count
+planned_starts-starts-requires c = c.in_ok-head.ensures.ranged.step_count
 
 pub slice_bounds-starts-end : goal.slice_bounds-starts-end
-slice_bounds-starts-end c = omega (arith, c.in_ok-job.ensures.ranged.step_count, c.planned_starts-starts.ensures.0)
+slice_bounds-starts-end c = omega (arith, c.in_ok-head.ensures.ranged.step_count, c.planned_starts-starts.ensures.0)
 
 pub slice_bounds-loosen-end : goal.slice_bounds-loosen-end
 slice_bounds-loosen-end c =
-    sym (length-take-le _ _ (omega (arith, c.in_ok-job.ensures.ranged.step_count, c.planned_starts-starts.ensures.0)))
+    sym (length-take-le _ _ (omega (arith, c.in_ok-head.ensures.ranged.step_count, c.planned_starts-starts.ensures.0)))
 
 pub loosen-requires : goal.loosen-requires
 loosen-requires c =
-    let f = c.in_ok-job.ensures in
+    let f = c.in_ok-head.ensures in
     record { read = f.read; ranged = f.ranged; laid = f.laid; written = c.planned_starts-starts.ensures.1 }

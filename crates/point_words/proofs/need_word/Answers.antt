@@ -4,22 +4,22 @@ use native.Mathlib.Omega.{arith}
 use Rattle.point_words.proofs.Parts.{need_parts}
 use Rattle.point_words.proofs.need_word.Goals as goal
 
-pub need_of-p-requires : goal.need_of-p-requires
-need_of-p-requires c = let p = c.requires in (p.2, p.1)
+pub need-p-requires : goal.need-p-requires
+need-p-requires c = let p = c.requires in (p.2, p.1)
 
 pub overflow_add-start_of : goal.overflow_add-start_of
 overflow_add-start_of c =
     let parts = need_parts c.requires.0 c.args.n c.requires.1 in
-    rw c.need_of-p.ensures (omega arith)
+    rw c.need-p.ensures (omega arith)
 
 pub word_of-requires : goal.word_of-requires
 word_of-requires c =
     let parts = need_parts c.requires.0 c.args.n c.requires.1 in
-    rw c.need_of-p.ensures (omega arith, omega arith, omega arith, omega arith, omega arith)
+    rw c.need-p.ensures (omega arith, omega arith, omega arith, omega arith, omega arith)
 
 pub returns : goal.returns
 returns c =
     let parts = need_parts c.requires.0 c.args.n c.requires.1 in
-    let read = c.need_of-p.ensures in
+    let read = c.need-p.ensures in
     let start = c.start_of.ensures in
     (c.word_of.ensures ∙ rw (start.0, read), omega (arith, rw read at start.0))

@@ -5,14 +5,14 @@ use Rattle.ranges.specs.Ranges.{effect_ok}
 use borrow.Author.Rules.{rules}
 use Rattle.ranges.proofs.effect_ok.Goals as goal
 
-pub effect_of-e-requires : goal.effect_of-e-requires
+pub effect-e-requires : goal.effect-e-requires
 unfolding effect_ok
-effect_of-e-requires c = search rules
+effect-e-requires c = search rules
 
 pub returns-then-job-e : goal.returns-then-job-e
 unfolding effect_ok
 returns-then-job-e c =
-    let r = c.effect_of-e.ensures in
+    let r = c.effect-e.ensures in
     rw (le-ltb _ _ (rw r at c.if-job-e.true)) refl
 
 pub length_within-requires : goal.length_within-requires
@@ -22,5 +22,5 @@ length_within-requires c = (c.requires.0, c.if-job-e.false)
 pub returns : goal.returns
 unfolding effect_ok
 returns c =
-    let r = c.effect_of-e.ensures in
+    let r = c.effect-e.ensures in
     rw (c.length_within.ensures.0, r, lt-ltb _ _ (rw r at c.if-job-e.false)) refl

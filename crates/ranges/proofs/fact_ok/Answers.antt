@@ -3,9 +3,9 @@ use Rattle.ranges.specs.Ranges.{fact_ok}
 use borrow.Author.Rules.{rules}
 use Rattle.ranges.proofs.fact_ok.Goals as goal
 
-pub fact_at-requires : goal.fact_at-requires
+pub fact_initial-requires : goal.fact_initial-requires
 unfolding fact_ok
-fact_at-requires c = search rules
+fact_initial-requires c = search rules
 
 pub returns : goal.returns
 unfolding fact_ok

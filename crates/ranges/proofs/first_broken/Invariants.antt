@@ -5,4 +5,4 @@ use Rattle.ranges.specs.Ranges.{record_broken}
 use Rattle.ranges.proofs.first_broken.Given as goal
 
 abbrev pub invariant-loop-k : goal.invariant-loop-k
-invariant-loop-k l = lowest l.k (record_broken (view l.job l.s) l.table) ≡ l.k
+invariant-loop-k l = lowest l.k (record_broken (view l.job.head l.job.bytes.now) l.table) ≡ l.k

@@ -3,10 +3,10 @@ use Rattle.ranges.specs.Ranges.{goal_ok}
 use borrow.Author.Rules.{rules}
 use Rattle.ranges.proofs.goal_ok.Goals as goal
 
-pub goal_at-goal-requires : goal.goal_at-goal-requires
+pub goal-goal-requires : goal.goal-goal-requires
 unfolding goal_ok
-goal_at-goal-requires c = search rules
+goal-goal-requires c = search rules
 
 pub returns : goal.returns
 unfolding goal_ok
-returns c = rw c.goal_at-goal.ensures
+returns c = rw c.goal-goal.ensures

@@ -3,9 +3,9 @@ use Rattle.ranges.specs.Ranges.{level_ok}
 use borrow.Author.Rules.{rules}
 use Rattle.ranges.proofs.level_ok.Goals as goal
 
-pub level_at-level-requires : goal.level_at-level-requires
+pub level-level-requires : goal.level-level-requires
 unfolding level_ok
-level_at-level-requires c = search rules
+level-level-requires c = search rules
 
 pub level_in_range-requires : goal.level_in_range-requires
 unfolding level_ok
@@ -26,5 +26,5 @@ returns c =
       c.level_in_range-3.ensures,
       c.level_in_range-2.ensures,
       c.level_in_range.ensures,
-      c.level_at-level.ensures,
+      c.level-level.ensures,
     )

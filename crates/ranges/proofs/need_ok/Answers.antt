@@ -5,14 +5,14 @@ use Rattle.ranges.specs.Ranges.{need_ok}
 use borrow.Author.Rules.{rules}
 use Rattle.ranges.proofs.need_ok.Goals as goal
 
-pub need_of-n-requires : goal.need_of-n-requires
+pub need-n-requires : goal.need-n-requires
 unfolding need_ok
-need_of-n-requires c = search rules
+need-n-requires c = search rules
 
 pub returns-then-job-n : goal.returns-then-job-n
 unfolding need_ok
 returns-then-job-n c =
-    let r = c.need_of-n.ensures in
+    let r = c.need-n.ensures in
     rw (le-ltb _ _ (rw r at c.if-job-n.true)) refl
 
 pub length_within-requires : goal.length_within-requires
@@ -26,5 +26,5 @@ level_in_range-requires c = search rules
 pub returns : goal.returns
 unfolding need_ok
 returns c =
-    let r = c.need_of-n.ensures in
+    let r = c.need-n.ensures in
     rw (c.level_in_range.ensures, c.length_within.ensures.0, r, lt-ltb _ _ (rw r at c.if-job-n.false)) refl

@@ -3,10 +3,10 @@ use Rattle.ranges.specs.Ranges.{timed_ok}
 use borrow.Author.Rules.{rules}
 use Rattle.ranges.proofs.timed_ok.Goals as goal
 
-pub timed_of-timed-requires : goal.timed_of-timed-requires
+pub timed-timed-requires : goal.timed-timed-requires
 unfolding timed_ok
-timed_of-timed-requires c = search rules
+timed-timed-requires c = search rules
 
 pub returns : goal.returns
 unfolding timed_ok
-returns c = rw c.timed_of-timed.ensures
+returns c = rw c.timed-timed.ensures

@@ -5,14 +5,14 @@ use Rattle.ranges.specs.Ranges.{use_ok}
 use borrow.Author.Rules.{rules}
 use Rattle.ranges.proofs.use_ok.Goals as goal
 
-pub use_of-u-requires : goal.use_of-u-requires
+pub usage-u-requires : goal.usage-u-requires
 unfolding use_ok
-use_of-u-requires c = search rules
+usage-u-requires c = search rules
 
 pub returns-then-job-u : goal.returns-then-job-u
 unfolding use_ok
 returns-then-job-u c =
-    let r = c.use_of-u.ensures in
+    let r = c.usage-u.ensures in
     rw (le-ltb _ _ (rw r at c.if-job-u.true)) refl
 
 pub length_within-requires : goal.length_within-requires
@@ -22,5 +22,5 @@ length_within-requires c = (c.requires.0, c.if-job-u.false)
 pub returns : goal.returns
 unfolding use_ok
 returns c =
-    let r = c.use_of-u.ensures in
+    let r = c.usage-u.ensures in
     rw (c.length_within.ensures.0, r, lt-ltb _ _ (rw r at c.if-job-u.false)) refl

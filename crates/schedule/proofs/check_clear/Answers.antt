@@ -26,7 +26,7 @@ returns-in_err-check_starts c = handed _ c.from_residual.ensures.1 ∙ err_then 
 pub check_settled-requires : goal.check_settled-requires
 check_settled-requires c =
     let p = c.requires in
-    (p.2, (schedule_of c.args.starts.now, cleared p.0 p.1))
+    (p.2, (schedule_of c.args.timeline.starts.now, cleared p.0 p.1))
 
 pub returns : goal.returns
 unfolding starts_check

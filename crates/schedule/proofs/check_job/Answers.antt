@@ -14,28 +14,28 @@ use Rattle.validity.proofs.Planned.{planned_check}
 use Rattle.schedule.proofs.Reading.{read_form}
 use Rattle.schedule.proofs.check_job.Goals as goal
 
-pub returns-in_err-job : goal.returns-in_err-job
-returns-in_err-job c = rw (handed _ c.from_residual.ensures.1) c.in_err-job.ensures.refused
+pub returns-in_err-head : goal.returns-in_err-head
+returns-in_err-head c = rw (handed _ c.from_residual.ensures.1) c.in_err-head.ensures.refused
 
 pub planned_starts-starts-requires : goal.planned_starts-starts-requires
-planned_starts-starts-requires c = c.in_ok-job.ensures.ranged.step_count
+planned_starts-starts-requires c = c.in_ok-head.ensures.ranged.step_count
 
 pub slice_bounds-starts-end : goal.slice_bounds-starts-end
-slice_bounds-starts-end c = omega (arith, c.in_ok-job.ensures.ranged.step_count, c.planned_starts-starts.ensures.0)
+slice_bounds-starts-end c = omega (arith, c.in_ok-head.ensures.ranged.step_count, c.planned_starts-starts.ensures.0)
 
 pub slice_bounds-check_read-end : goal.slice_bounds-check_read-end
 slice_bounds-check_read-end c =
-    sym (length-take-le _ _ (omega (arith, c.in_ok-job.ensures.ranged.step_count, c.planned_starts-starts.ensures.0)))
+    sym (length-take-le _ _ (omega (arith, c.in_ok-head.ensures.ranged.step_count, c.planned_starts-starts.ensures.0)))
 
 pub check_read-requires : goal.check_read-requires
-check_read-requires c = c.in_ok-job.ensures.read
+check_read-requires c = c.in_ok-head.ensures.read
 
 pub returns : goal.returns
 unfolding job_check
 returns c =
-    let passed = c.in_ok-job.ensures.read in
+    let passed = c.in_ok-head.ensures.read in
     let s = c.args.s.now in
-    let j = c.in_ok-job.job in
+    let j = c.in_ok-head.head in
     job_promise s
     (c.check_read.ensures
     ∙ ap₂ ◌then◌ (read_form passed)

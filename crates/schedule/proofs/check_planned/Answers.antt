@@ -18,8 +18,8 @@ check_ordered-requires c = let p = c.requires in record { read = p.read; known =
 pub returns : goal.returns
 unfolding job_check
 returns c =
-    let s = c.args.s.now in
-    let m = clocked (view c.args.job s) in
+    let s = c.args.timeline.job.bytes.now in
+    let m = clocked (view c.args.timeline.job.head s) in
     job_promise s
     (c.check_ordered.ensures
     ∙ ap₂ ◌then◌ (read_form c.requires.read)

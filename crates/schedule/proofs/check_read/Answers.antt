@@ -1,23 +1,20 @@
--- The points in the order of their ticks, then the refusals.
+-- A small job's points have little room, and any job's have the most.
 use native.Mathlib.Omega.{arith}
-use Rattle.schedule.proofs.Reading.{read_in_range, read_lies}
+use Rattle.schedule.proofs.Reading.{read_in_range}
 use Rattle.schedule.proofs.check_read.Goals as goal
 
-pub check_small-requires : goal.check_small-requires
-check_small-requires c = (c.requires, c.is_small.ensures c.if-is_small.true)
+pub check_within-requires : goal.check_within-requires
+check_within-requires c =
+    let few = c.is_small.ensures c.if-is_small.true in
+    (c.requires, record { listed = few.points; grouped = omega (arith, few.groups); fits = (omega arith, omega arith) })
 
-pub list_points-requires : goal.list_points-requires
-list_points-requires c =
-    let r = c.requires in
-    let w = read_in_range r in (
-      w,
+pub check_within-requires-else-is_small : goal.check_within-requires-else-is_small
+check_within-requires-else-is_small c =
+    let w = read_in_range c.requires in (
+      c.requires,
       record {
         listed = omega (arith, w.condition_count, w.effect_count, w.timed_count, w.use_count, w.need_count);
-        sorted = omega (arith, w.condition_count, w.effect_count, w.timed_count, w.use_count, w.need_count);
         grouped = omega (arith, w.fact_count, w.level_count);
+        fits = (omega arith, omega arith);
       },
-      read_lies r,
     )
-
-pub check_ordered-requires : goal.check_ordered-requires
-check_ordered-requires c = record { read = c.requires; known = c.list_points.ensures }

@@ -20,19 +20,19 @@ use Rattle.schedule.proofs.check_schedule.Goals as goal
 passed : {s : List ℕ} {job : Job} → RecordsPromise s (Ok job) → Read s job
 passed f = record { passed = sym (ap number f.verdict); header = f.job }
 
-pub returns-in_err-job : goal.returns-in_err-job
+pub returns-in_err-head : goal.returns-in_err-head
 unfolding schedule_check
-returns-in_err-job c =
-    rw (handed _ c.from_residual.ensures.1) (schedule_promise _ _ (err_then _ (read_refused c.in_err-job.ensures)))
+returns-in_err-head c =
+    rw (handed _ c.from_residual.ensures.1) (schedule_promise _ _ (err_then _ (read_refused c.in_err-head.ensures)))
 
 pub check_read-requires : goal.check_read-requires
-check_read-requires c = passed c.in_ok-job.ensures
+check_read-requires c = passed c.in_ok-head.ensures
 
 pub returns : goal.returns
 unfolding schedule_check
 returns c =
     let a = c.args in
-    let p = passed c.in_ok-job.ensures in
+    let p = passed c.in_ok-head.ensures in
     schedule_promise _ _
     (c.check_read.ensures
     ∙ ap₂ ◌then◌ (read_form p) (ap (λ (j : Job). starts_check (clocked (view j a.s.now)) a.starts.now) p.header))

@@ -52,7 +52,7 @@ returns-in-Some-first_contested c =
 
 pub check_settled-requires : goal.check_settled-requires
 check_settled-requires c =
-    (c.requires.1, (schedule_of c.args.starts.now, settled c.requires.0 (sym c.in_default.is ∙ c.first_conflict.ensures)))
+    (c.requires.1, (schedule_of c.args.timeline.starts.now, settled c.requires.0 (sym c.in_default.is ∙ c.first_conflict.ensures)))
 
 pub returns : goal.returns
 returns c =

@@ -17,9 +17,9 @@ pub loop-k-init : goal.loop-k-init
 unfolding opposes_own_step
 loop-k-init c = sym (owner_start _ _ _)
 
-pub effect_of-e-requires : goal.effect_of-e-requires
+pub effect-e-requires : goal.effect-e-requires
 unfolding opposes_own_step
-effect_of-e-requires c = search rules
+effect-e-requires c = search rules
 
 pub step_key-key-requires : goal.step_key-key-requires
 unfolding opposes_own_step
@@ -42,7 +42,7 @@ lower_if-best-requires c = search rules
 pub loop-k-preserved : goal.loop-k-preserved
 unfolding opposes_own_step
 loop-k-preserved c =
-    let r = c.effect_of-e.ensures in
+    let r = c.effect-e.ensures in
     owner_more _ _ _ _ c.loop-k.invariant (c.opposes_any-found.ensures _ r) (ap (λ (x : Effect). x.step) r) c.lower_if-best.ensures
 
 pub returns : goal.returns

@@ -7,4 +7,4 @@ use Rattle.self_check.proofs.effects_against.Given as goal
 
 abbrev pub invariant-loop-k : goal.invariant-loop-k
 invariant-loop-k l =
-    (l.best ≡ lowest_owner l.job.count.steps l.k (view l.job l.s).effect_step (opposes_any (view l.job l.s)))
+    (l.best ≡ lowest_owner l.job.head.count.steps l.k (view l.job.head l.job.bytes.now).effect_step (opposes_any (view l.job.head l.job.bytes.now)))

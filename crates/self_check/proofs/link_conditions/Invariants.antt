@@ -5,4 +5,4 @@ use Rattle.timeline.specs.Indexed.{Growing}
 use Rattle.self_check.proofs.link_conditions.Given as goal
 
 abbrev pub invariant-loop-c : goal.invariant-loop-c
-invariant-loop-c l = Growing (condition_key (view l.job l.s)) l.c l.index
+invariant-loop-c l = Growing (condition_key (view l.job.head l.job.bytes.now)) l.c l.index

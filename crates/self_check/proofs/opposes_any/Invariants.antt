@@ -8,8 +8,8 @@ use Rattle.self_check.proofs.opposes_any.Given as goal
 
 abbrev pub invariant-loop-c : goal.invariant-loop-c
 invariant-loop-c l =
-    (k : ℕ) → l.e ≡ effect_of (view l.job l.s) k → WalkBack (condition_key (view l.job l.s)) (effect_key (view l.job l.s) k)
-    (opposes_own (view l.job l.s) k) l.job.count.conditions l.c
+    (k : ℕ) → l.e ≡ effect_of (view l.job.head l.job.bytes.now) k → WalkBack (condition_key (view l.job.head l.job.bytes.now)) (effect_key (view l.job.head l.job.bytes.now) k)
+    (opposes_own (view l.job.head l.job.bytes.now) k) l.job.head.count.conditions l.c
 
 abbrev pub decreases-loop-c : goal.decreases-loop-c
-decreases-loop-c l = ahead l.job.count.conditions l.c
+decreases-loop-c l = ahead l.job.head.count.conditions l.c

@@ -9,4 +9,4 @@ use Rattle.self_check.proofs.uses_against.Given as goal
 
 abbrev pub invariant-loop-u : goal.invariant-loop-u
 invariant-loop-u l =
-    Growing (use_key (view l.job l.s)) l.u l.index × (l.best ≡ lowest_owner l.job.count.steps l.u (view l.job l.s).use_step (used_before (view l.job l.s)))
+    Growing (use_key (view l.job.head l.job.bytes.now)) l.u l.index × (l.best ≡ lowest_owner l.job.head.count.steps l.u (view l.job.head l.job.bytes.now).use_step (used_before (view l.job.head l.job.bytes.now)))

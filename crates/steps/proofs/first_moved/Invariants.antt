@@ -7,4 +7,4 @@ use Rattle.validity.specs.Checks.{moved}
 use Rattle.steps.proofs.first_moved.Given as goal
 
 abbrev pub invariant-loop-k : goal.invariant-loop-k
-invariant-loop-k l = lowest l.k (moved (clocked (view l.job l.s)) (schedule_of l.starts)) ≡ l.k
+invariant-loop-k l = lowest l.k (moved (clocked (view l.job.head l.job.bytes.now)) (schedule_of l.starts)) ≡ l.k

@@ -5,4 +5,4 @@ use Rattle.job.specs.Model.{view}
 use Rattle.ticks.proofs.planned_starts.Given as goal
 
 abbrev pub invariant-loop-k : goal.invariant-loop-k
-invariant-loop-k l = (length l.starts ≡ 64) × (take l.k l.starts ≡ tabulate l.k (view l.job l.s).start)
+invariant-loop-k l = (length l.starts ≡ 64) × (take l.k l.starts ≡ tabulate l.k (view l.job.head l.job.bytes.now).start)

@@ -17,7 +17,7 @@ pub loop-f-preserved : goal.loop-f-preserved
 loop-f-preserved c =
     let a = c.args in
     within_up _ _ _ _ _ _ _ (omega arith) c.loop-f.invariant
-    (given_reached c.places_of-fact.ensures _ (view a.job a.s.now) (schedule_of a.starts.now) a.points.now _ _
+    (given_reached c.places_of-fact.ensures _ (view a.timeline.job.head a.timeline.job.bytes.now) (schedule_of a.timeline.starts.now) a.timeline.points.now _ _
     c.raise_conditions.ensures)
 
 pub returns : goal.returns

@@ -12,7 +12,7 @@ fill_opposing-requires c =
     let w = c.requires.0 in
     let none = empty_gaps _ w.size w.empty in
     let whole1 = (c.fill_support.ensures _ w.linked).whole none in
-    (c.args.s.now, own_points w, whole1, c.requires.2)
+    (c.args.timeline.job.bytes.now, own_points w, whole1, c.requires.2)
 
 pub fill_conditions-requires : goal.fill_conditions-requires
 unfolding gap_of
@@ -33,7 +33,7 @@ fill_levels-requires c =
     let whole1 = (c.fill_support.ensures _ w.linked).whole none in
     let whole2 = (c.fill_opposing.ensures _ known).whole whole1 in
     let whole3 = c.fill_conditions.ensures.whole whole2 in
-    (c.args.s.now, known, whole3, c.requires.2)
+    (c.args.timeline.job.bytes.now, known, whole3, c.requires.2)
 
 pub fill_needs-requires : goal.fill_needs-requires
 unfolding gap_of
@@ -45,14 +45,14 @@ fill_needs-requires c =
     let whole2 = (c.fill_opposing.ensures _ known).whole whole1 in
     let whole3 = c.fill_conditions.ensures.whole whole2 in
     let whole4 = (c.fill_levels.ensures _ known).whole whole3 in
-    (c.args.s.now, known, whole4, c.requires.2)
+    (c.args.timeline.job.bytes.now, known, whole4, c.requires.2)
 
 pub returns : goal.returns
 unfolding gap_of
 returns c =
     let w = c.requires.0 in
     let known = own_points w in
-    let m = view c.args.job c.args.s.now in
+    let m = view c.args.timeline.job.head c.args.timeline.job.bytes.now in
     table_of _ _ _ _ _ w.form.step_count
     (raised_is _ _ _ _ _
     (raised_then _ _ _ _ _ _

@@ -18,7 +18,7 @@ pub loop-l-preserved : goal.loop-l-preserved
 loop-l-preserved c =
     let a = c.args in
     within_up _ _ _ _ _ _ _ (omega arith) c.loop-l.invariant
-    (given_points _ (schedule_of a.starts.now) a.points.now _ _ Same c.begin_at-low.ensures.0 c.begin_at-high.ensures.0
+    (given_points _ (schedule_of a.timeline.starts.now) a.timeline.points.now _ _ Same c.begin_at-low.ensures.0 c.begin_at-high.ensures.0
     c.raise_among.ensures)
 
 pub returns : goal.returns

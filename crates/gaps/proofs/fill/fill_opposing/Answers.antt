@@ -21,7 +21,7 @@ pub loop-f-preserved : goal.loop-f-preserved
 loop-f-preserved c =
     let a = c.args in
     within_up _ _ _ _ _ _ _ (omega arith) c.loop-f.invariant
-    (given_points _ (schedule_of a.starts.now) a.points.now _ _ Other c.begin_at-low.ensures.0 c.begin_at-high.ensures.0
+    (given_points _ (schedule_of a.timeline.starts.now) a.timeline.points.now _ _ Other c.begin_at-low.ensures.0 c.begin_at-high.ensures.0
     c.raise_setters.ensures)
 
 pub returns : goal.returns

@@ -8,4 +8,4 @@ use Rattle.gaps.proofs.fill.fill_support.Given as goal
 
 abbrev pub invariant-loop-c : goal.invariant-loop-c
 invariant-loop-c l =
-    Gaps l.gaps × RaisedByLinks (clocked (view l.job l.s)) l.links (λ m x i k. largest l.c (support_order m x i k)) l.initial.gaps l.gaps
+    Gaps l.gaps × RaisedByLinks (clocked (view l.job.head l.job.bytes.now)) l.links (λ m x i k. largest l.c (support_order m x i k)) l.initial.gaps l.gaps

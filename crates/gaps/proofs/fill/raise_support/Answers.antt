@@ -13,15 +13,15 @@ use Rattle.gaps.proofs.fill.raise_support.Goals as goal
 
 pub returns-then-of_clock : goal.returns-then-of_clock
 returns-then-of_clock c =
-    let m = view c.args.job c.args.s.now in
+    let m = view c.args.job.head c.args.job.bytes.now in
     record { raised_by_links = λ x l. raised_none _ _ _ (support_none m _ _ (condition_link_lem _ _ _ l _ c.requires.1) (omega (arith, c.if-of_clock.true))); gaps = c.requires.0.whole }
 
 pub returns : goal.returns
 returns c =
-    let m = view c.args.job c.args.s.now in
+    let m = view c.args.job.head c.args.job.bytes.now in
     let form = c.requires.0.form in
-    let first = c.effect_of-effect.ensures in
-    let second = c.condition_of-condition.ensures in
+    let first = c.effect-effect.ensures in
+    let second = c.condition-condition.ensures in
     let step = ap (λ (e : Effect). e.step) first in
     let step' = ap (λ (q : Condition). q.step) second in record {
       raised_by_links = λ x l. raised_one _ _ _ _ _ _ _ form.step_count

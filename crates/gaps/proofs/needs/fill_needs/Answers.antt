@@ -16,7 +16,7 @@ returns-then-job-eq0 c s known = raised_none _ _ _ (λ i k _. rw c.if-job-eq0.tr
 pub raise_between-requires : goal.raise_between-requires
 unfolding largest need_gap
 raise_between-requires c =
-    let starts = c.args.starts.now in
+    let starts = c.args.timeline.starts.now in
     let known = c.requires.1 in
     let uses = given_group {starts = starts} c.span_of-used.ensures (level_known known c.requires.3 _ c.loop-l-test.true) in
     let others = given_group {starts = starts} c.span_of-needed.ensures (need_known known c.requires.3 _ c.loop-l-test.true) in
@@ -27,7 +27,7 @@ unfolding largest need_gap
 loop-l-preserved c =
     let a = c.args in
     within_up _ _ _ _ _ _ _ (omega arith) c.loop-l.invariant
-    (given_between _ (schedule_of a.starts.now) a.points.now _ _ c.span_of-used.ensures c.span_of-needed.ensures
+    (given_between _ (schedule_of a.timeline.starts.now) a.timeline.points.now _ _ c.span_of-used.ensures c.span_of-needed.ensures
     c.raise_between.ensures)
 
 pub returns : goal.returns

@@ -9,5 +9,5 @@ use Rattle.levels.proofs.bounds.first_out_of_bounds.Given as goal
 
 abbrev pub invariant-loop-l : goal.invariant-loop-l
 invariant-loop-l l =
-    (x : ℕ → ℕ) → PointsKnown (clocked (view l.job l.s)) x l.points l.begins
-    → lowest l.l (level_fails (clocked (view l.job l.s)) x) ≡ l.l
+    (x : ℕ → ℕ) → PointsKnown (clocked (view l.fn.timeline.job.head l.fn.timeline.job.bytes.now)) x l.fn.timeline.points.now l.fn.timeline.begins.now
+    → lowest l.l (level_fails (clocked (view l.fn.timeline.job.head l.fn.timeline.job.bytes.now)) x) ≡ l.l

@@ -43,8 +43,8 @@ loop-f-preserved c =
     let i = c.loop-f.invariant in
     let a = c.args in
     moved_more Up up_same up_on _ _ _ _ _ _ (omega arith) i
-    (moved_points Up up_same up_on (view a.job a.s.now) a.points.now a.begins.now _ _
-    (LaterThan (schedule_of a.starts.now)) (LaterThan (schedule_of a.starts.now)) c.requires.0.form c.list_timed.ensures
+    (moved_points Up up_same up_on (view a.timeline.job.head a.timeline.job.bytes.now) a.timeline.points.now a.timeline.begins.now _ _
+    (LaterThan (schedule_of a.timeline.starts.now)) (LaterThan (schedule_of a.timeline.starts.now)) c.requires.0.form c.list_timed.ensures
     _ _ _ c.loop-f.f
     setters.0 setters.1 setters.2 setters.3 wanted.0 wanted.1 wanted.2 wanted.3
     c.raise_points.ensures c.raise_points-in-loop-f.ensures)
@@ -53,6 +53,6 @@ pub returns : goal.returns
 returns c =
     let i = c.loop-f.invariant in
     let a = c.args in
-    moved_timed Up up_same up_on (view a.job a.s.now) a.points.now a.begins.now _ _
-    (LaterThan (schedule_of a.starts.now)) (LaterThan (schedule_of a.starts.now)) c.requires.0.form c.list_timed.ensures _ _
+    moved_timed Up up_same up_on (view a.timeline.job.head a.timeline.job.bytes.now) a.timeline.points.now a.timeline.begins.now _ _
+    (LaterThan (schedule_of a.timeline.starts.now)) (LaterThan (schedule_of a.timeline.starts.now)) c.requires.0.form c.list_timed.ensures _ _
     (moved_all Up up_same up_on _ _ _ _ _ _ c.loop-f.auto.f-end (omega (arith, c.loop-f-test.false)) i)

@@ -5,4 +5,4 @@ use Rattle.limits.proofs.earliest.raise_timed.Given as goal
 
 abbrev pub invariant-loop-f : goal.invariant-loop-f
 invariant-loop-f l =
-    Moved Up (Among 0 l.f (OfFact l.facts l.points l.begins l.order l.marks (LaterThan (schedule_of l.starts)) (LaterThan (schedule_of l.starts)))) l.initial.limits l.limits
+    Moved Up (Among 0 l.f (OfFact l.facts l.fn.timeline.points.now l.fn.timeline.begins.now l.order l.marks (LaterThan (schedule_of l.fn.timeline.starts.now)) (LaterThan (schedule_of l.fn.timeline.starts.now)))) l.initial.limits l.limits

@@ -10,4 +10,4 @@ lower_points-requires c =
 
 pub returns : goal.returns
 returns c =
-    c.lower_points.ensures (λ word. (view c.args.job c.args.s.now).condition_to (word_number word)) (λ p r a b e. search rules)
+    c.lower_points.ensures (λ word. (view c.args.job.head c.args.job.bytes.now).condition_to (word_number word)) (λ p r a b e. search rules)

@@ -6,4 +6,4 @@ use Rattle.limits.proofs.latest.lower_timed.Given as goal
 
 abbrev pub invariant-loop-f : goal.invariant-loop-f
 invariant-loop-f l =
-    Moved Down (Among 0 l.f (OfFact l.facts l.points l.begins l.order l.marks (SoonerThan (schedule_of l.starts)) (EndedBy (view l.job l.s)))) l.initial.latest l.latest
+    Moved Down (Among 0 l.f (OfFact l.facts l.fn.timeline.points.now l.fn.timeline.begins.now l.order l.marks (SoonerThan (schedule_of l.fn.timeline.starts.now)) (EndedBy (view l.fn.timeline.job.head l.fn.timeline.job.bytes.now)))) l.initial.latest l.latest

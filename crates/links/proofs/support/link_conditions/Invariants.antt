@@ -9,5 +9,5 @@ use Rattle.links.proofs.support.link_conditions.Given as goal
 
 abbrev pub invariant-loop-fact : goal.invariant-loop-fact
 invariant-loop-fact l =
-    Linkable (clocked (view l.job l.s)) l.points l.begins l.initial.links × (length l.firsts ≡ step_span)
-    × LinksPut (clocked (view l.job l.s)) l.points l.begins (Below (clocked (view l.job l.s)) l.fact) l.initial.links l.links
+    Linkable (clocked (view l.fn.timeline.job.head l.fn.timeline.job.bytes.now)) l.fn.timeline.points.now l.fn.timeline.begins.now l.initial.links × (length l.firsts ≡ step_span)
+    × LinksPut (clocked (view l.fn.timeline.job.head l.fn.timeline.job.bytes.now)) l.fn.timeline.points.now l.fn.timeline.begins.now (Below (clocked (view l.fn.timeline.job.head l.fn.timeline.job.bytes.now)) l.fact) l.initial.links l.links

@@ -9,7 +9,7 @@ loop-p-init c =
     (record {
       can = pre.0;
       fact = pre.1;
-      initially = c.fact_at-initial.ensures;
+      initially = c.fact_initial-initial.ensures;
       begin = c.begin_at-low.ensures.0;
       next = c.begin_at-high.ensures;
       wanted = c.begin_at-begin.ensures.0;
@@ -35,7 +35,7 @@ returns c =
     (record {
       can = pre.0;
       fact = pre.1;
-      initially = c.fact_at-initial.ensures;
+      initially = c.fact_initial-initial.ensures;
       begin = c.begin_at-low.ensures.0;
       next = c.begin_at-high.ensures;
       wanted = c.begin_at-begin.ensures.0;

@@ -7,5 +7,5 @@ use Rattle.links.proofs.support.link_goals.Given as goal
 
 abbrev pub invariant-loop-g : goal.invariant-loop-g
 invariant-loop-g l =
-    Linkable (clocked (view l.job l.s)) l.points l.begins l.initial.links
-    × LinksPut (clocked (view l.job l.s)) l.points l.begins (FromTo l.job.count.conditions (l.job.count.conditions + l.g)) l.initial.links l.links
+    Linkable (clocked (view l.fn.timeline.job.head l.fn.timeline.job.bytes.now)) l.fn.timeline.points.now l.fn.timeline.begins.now l.initial.links
+    × LinksPut (clocked (view l.fn.timeline.job.head l.fn.timeline.job.bytes.now)) l.fn.timeline.points.now l.fn.timeline.begins.now (FromTo l.fn.timeline.job.head.count.conditions (l.fn.timeline.job.head.count.conditions + l.g)) l.initial.links l.links

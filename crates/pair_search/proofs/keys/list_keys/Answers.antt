@@ -17,11 +17,11 @@ loop-k-init c =
 pub overflow_sub-low : goal.overflow_sub-low
 overflow_sub-low c = listing_room _ _ c.loop-k.invariant c.loop-k-test.true
 
-pub effect_of-e-requires : goal.effect_of-e-requires
-effect_of-e-requires c = (c.requires.0, c.loop-k-test.true)
+pub effect-e-requires : goal.effect-e-requires
+effect-e-requires c = (c.requires.0, c.loop-k-test.true)
 
 pub effect_key-requires : goal.effect_key-requires
-effect_key-requires c = in_range c.requires.1 c.loop-k-test.true c.effect_of-e.ensures
+effect_key-requires c = in_range c.requires.1 c.loop-k-test.true c.effect-e.ensures
 
 pub offset_bounds-keys-low : goal.offset_bounds-keys-low
 offset_bounds-keys-low c = omega (arith, c.loop-k.invariant.most)
@@ -45,7 +45,7 @@ pub loop-k-preserved : goal.loop-k-preserved
 loop-k-preserved c =
     let p = c.requires in
     listing_more _ _ _ p.1.effect_count _ p.2 _ _ _ _ _ c.loop-k.invariant c.loop-k-test.true
-    (c.effect_key.ensures ∙ ap key_of c.effect_of-e.ensures) c.before_of-k.ensures
+    (c.effect_key.ensures ∙ ap key_of c.effect-e.ensures) c.before_of-k.ensures
 
 pub shape_of-keys : goal.shape_of-keys
 shape_of-keys c = c.loop-k.invariant.size ∙ sym c.requires.4

@@ -18,7 +18,7 @@ sort_points-requires c =
       spare_size = omega (arith, listed.1, p.1.sorted);
       few = omega (arith, p.0.condition_count, p.0.effect_count, p.0.timed_count, p.0.use_count, p.0.need_count);
       room = p.1.grouped;
-      known = groups_low (clocked_range (view c.args.job c.args.s.now) p.0) listed.0;
+      known = groups_low (clocked_range (view c.args.job.head c.args.job.bytes.now) p.0) listed.0;
     })
 
 pub returns : goal.returns
@@ -27,5 +27,5 @@ returns c =
     let n = c.points_counted.ensures in
     let groups = c.groups_counted.ensures in
     let p = c.requires in
-    points_known (clocked_range (view c.args.job c.args.s.now) p.0) c.put_words.ensures.0 (rw n at sorted.rearranged)
+    points_known (clocked_range (view c.args.job.head c.args.job.bytes.now) p.0) c.put_words.ensures.0 (rw n at sorted.rearranged)
     (rw (n, groups) at sorted.grouped) (omega (arith, sorted.points_len_unchanged, p.1.listed)) (omega (arith, sorted.begins_len_unchanged, p.1.grouped))

@@ -14,7 +14,7 @@ use Rattle.points.proofs.words.put_words.Goals as goal
 pub returns : goal.returns
 returns c =
     let a = c.args in
-    let m = view a.job a.s.now in
+    let m = view a.job.head a.job.bytes.now in
     let x = schedule_of a.starts.now in
     let conditions : ConditionsPut m x a.points.now c.put_words_of.new.points =
     words_put c.put_words_of.ensures (condition_word m x) (first_tick m x) (omega arith) (λ k v h r. search rules)

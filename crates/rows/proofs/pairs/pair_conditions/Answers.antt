@@ -28,7 +28,7 @@ raise_around-requires c =
     let origin = rw read at c.last_origin-origin.ensures in
     let from = rw read at c.offset_of-from.ensures in
     let p = fact.after + c.loop-word.word-index in
-    let m = view c.args.job c.args.s.now in (
+    let m = view c.args.job.head c.args.job.bytes.now in (
       c.loop-word.invariant.whole c.requires.1,
       origin_wide w.few (last_known w.wanted w.few p (omega arith) there m origin (c.requires.0.ended p (omega arith) there)),
       omega (arith, from, w.wanted.near p (omega arith) there),
@@ -40,13 +40,13 @@ loop-word-preserved c =
     let fact = c.args.fact in
     let read = part_at c.args.points.now fact.after fact.until c.loop-word-test.true in
     part_more _ _ _ _ _ _ _ c.loop-word.invariant
-    (around_given (view c.args.job c.args.s.now) (schedule_of c.args.starts.now) c.args.points.now fact _ _ _
+    (around_given (view c.args.job.head c.args.job.bytes.now) (schedule_of c.args.starts.now) c.args.points.now fact _ _ _
     (rw read at c.last_origin-origin.ensures) (rw read at c.offset_of-from.ensures) c.raise_around.ensures)
 
 pub returns : goal.returns
 returns c =
     let wanted = c.requires.0.placed.wanted in
-    fact_paired (view c.args.job c.args.s.now) (schedule_of c.args.starts.now) c.args.points.now c.args.fact _ _ _
+    fact_paired (view c.args.job.head c.args.job.bytes.now) (schedule_of c.args.starts.now) c.args.points.now c.args.fact _ _ _
     c.requires.0.placed
     (within_all _ _ _ _ _ _ _ _ refl (part_end c.args.points.now _ _ wanted.begins wanted.ends c.loop-word.auto.word-index-end c.loop-word-test.false)
     c.loop-word.invariant)

@@ -7,5 +7,5 @@ use Rattle.rows.proofs.pairs.pair_conditions.Given as goal
 
 abbrev pub invariant-loop-word : goal.invariant-loop-word
 invariant-loop-word l =
-    Reached row_width (Among l.fact.after (l.fact.after + l.word-index) (AroundCondition (view l.job l.s) (schedule_of l.starts) l.points l.fact))
+    Reached row_width (Among l.fact.after (l.fact.after + l.word-index) (AroundCondition (view l.job.head l.job.bytes.now) (schedule_of l.starts) l.points l.fact))
     l.initial.gaps l.gaps

@@ -22,7 +22,7 @@ raise_row-requires c =
     let i = c.loop-p.invariant in
     let t = c.loop-p-test.true in
     let e = c.last_origin-origin.ensures in
-    let m = view c.args.job c.args.s.now in
+    let m = view c.args.job.head c.args.job.bytes.now in
     let back = c.note_from-noted.ensures _ (rowing_noting w.few w.setters i t e) in (
       i.reached.whole c.requires.1,
       w.few,

@@ -6,4 +6,4 @@ use Rattle.against.specs.Clock.{timed_conflicts}
 use Rattle.self_check.proofs.clock.check_clock.Given as goal
 
 abbrev pub invariant-loop-j : goal.invariant-loop-j
-invariant-loop-j l = (lowest l.j (timed_conflicts (view l.job l.s)) ≡ l.j)
+invariant-loop-j l = (lowest l.j (timed_conflicts (view l.job.head l.job.bytes.now)) ≡ l.j)

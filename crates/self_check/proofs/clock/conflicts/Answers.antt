@@ -24,17 +24,17 @@ of_records m j k e f q = q ∙ ap₂ differ e f
 none_found : (p : ℕ → Bool) (n k : ℕ) → lowest k p ≡ k → n ≤ k → false ≡ any n p
 none_found p n k e g = sym (any_none p n (λ i l. (lowest_facts p k).1 i (omega (arith, e))))
 
-pub timed_of-own-requires : goal.timed_of-own-requires
+pub timed-own-requires : goal.timed-own-requires
 unfolding timed_conflicts
-timed_of-own-requires c = search rules
+timed-own-requires c = search rules
 
 pub loop-k-init : goal.loop-k-init
 unfolding timed_conflicts
 loop-k-init c = lowest_start _
 
-pub timed_of-other-requires : goal.timed_of-other-requires
+pub timed-other-requires : goal.timed-other-requires
 unfolding timed_conflicts
-timed_of-other-requires c = (c.requires.0, c.loop-k-test.true)
+timed-other-requires c = (c.requires.0, c.loop-k-test.true)
 
 pub both_ways-requires : goal.both_ways-requires
 unfolding timed_conflicts
@@ -44,14 +44,14 @@ pub returns-then-both_ways : goal.returns-then-both_ways
 unfolding timed_conflicts
 returns-then-both_ways c =
     any_found _ _ _ c.loop-k-test.true
-    (of_records _ _ _ c.timed_of-own.ensures c.timed_of-other.ensures c.both_ways.ensures)
+    (of_records _ _ _ c.timed-own.ensures c.timed-other.ensures c.both_ways.ensures)
     c.if-both_ways.true
 
 pub loop-k-preserved : goal.loop-k-preserved
 unfolding timed_conflicts
 loop-k-preserved c =
     lowest_more _ _ c.loop-k.invariant
-    (of_records _ _ _ c.timed_of-own.ensures c.timed_of-other.ensures c.both_ways.ensures)
+    (of_records _ _ _ c.timed-own.ensures c.timed-other.ensures c.both_ways.ensures)
     c.if-both_ways.false
 
 pub returns : goal.returns

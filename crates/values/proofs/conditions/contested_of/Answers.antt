@@ -23,7 +23,7 @@ loop-q-init c =
     let low = c.begin_at.ensures.0 in
     let high = c.begin_at-2.ensures.0 in
     walked_start p.0 p.1 c.begin_at-end.ensures.0
-    (record { low = low; high = high; initial = c.fact_at.ensures })
+    (record { low = low; high = high; initial = c.fact_initial.ensures })
     c.begin_at-q.ensures.0
 
 pub bounds-points-q : goal.bounds-points-q

@@ -6,4 +6,4 @@ use Rattle.values.proofs.conditions.contested_of.Given as goal
 
 abbrev pub invariant-loop-q : goal.invariant-loop-q
 invariant-loop-q l =
-    Walked (clocked (view l.job l.s)) (schedule_of l.starts) l.points l.begins l.fact l.setters l.end l.walk l.best l.q
+    Walked (clocked (view l.fn.timeline.job.head l.fn.timeline.job.bytes.now)) (schedule_of l.fn.timeline.starts.now) l.fn.timeline.points.now l.fn.timeline.begins.now l.fact l.setters l.end l.walk l.best l.q

@@ -15,8 +15,8 @@ contested_of-requires c = (c.requires, c.loop-fact-test.true)
 
 pub loop-fact-preserved : goal.loop-fact-preserved
 loop-fact-preserved c =
-    fact_more (clocked (view c.args.job
-    c.args.s.now)) c.min-best.ensures
+    fact_more (clocked (view c.args.timeline.job.head
+    c.args.timeline.job.bytes.now)) c.min-best.ensures
     c.loop-fact.invariant c.contested_of.ensures
 
 pub returns-then-best-n : goal.returns-then-best-n

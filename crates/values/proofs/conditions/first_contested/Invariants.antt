@@ -8,5 +8,5 @@ use Rattle.values.proofs.conditions.first_contested.Given as goal
 
 abbrev pub invariant-loop-fact : goal.invariant-loop-fact
 invariant-loop-fact l =
-    Noted l.job.count.conditions (contested (clocked (view l.job l.s)) (schedule_of l.starts))
-    (λ c. (view l.job l.s).condition_fact c < l.fact) l.best
+    Noted l.fn.timeline.job.head.count.conditions (contested (clocked (view l.fn.timeline.job.head l.fn.timeline.job.bytes.now)) (schedule_of l.fn.timeline.starts.now))
+    (λ c. (view l.fn.timeline.job.head l.fn.timeline.job.bytes.now).condition_fact c < l.fact) l.best

@@ -27,7 +27,7 @@ returns c =
     let a = c.args in
     contested_there c.requires
     c.value_of-value.ensures.0
-    (c.last_tick-last.ensures.0 ∙ ap (last_tick (clocked (view a.job a.s.now)) (schedule_of a.starts.now))
+    (c.last_tick-last.ensures.0 ∙ ap (last_tick (clocked (view a.job.head a.job.bytes.now)) (schedule_of a.starts.now))
     c.number_of.ensures.0)
     c.opposing-from.ensures c.step_of-step.ensures.0
     c.is_opposed-opposed.ensures c.seen_at.ensures

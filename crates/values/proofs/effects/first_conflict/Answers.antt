@@ -19,8 +19,8 @@ returns-then-any_mixed c = c.lowest_conflict.ensures
 
 pub returns-else-any_mixed : goal.returns-else-any_mixed
 returns-else-any_mixed c =
-    let m = view c.args.job c.args.s.now in
+    let m = view c.args.timeline.job.head c.args.timeline.job.bytes.now in
     let p = c.requires in
     none_is _ _ _
-    (one_value_lowest (clocked m) (schedule_of c.args.starts.now)
+    (one_value_lowest (clocked m) (schedule_of c.args.timeline.starts.now)
     (unmixed_one p.1 (clocked_form m p.0).effect_fact (c.any_mixed.ensures c.if-any_mixed.false))) (omega arith)

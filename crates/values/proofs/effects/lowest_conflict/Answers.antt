@@ -24,4 +24,4 @@ pub returns : goal.returns
 returns c =
     let a = c.args in
     let loop = c.loop-e in
-    none_is _ _ _ (no_step_conflicts (view a.job a.s.now) (schedule_of a.starts.now) loop.e loop.invariant c.loop-e-test.false) (omega arith)
+    none_is _ _ _ (no_step_conflicts (view a.timeline.job.head a.timeline.job.bytes.now) (schedule_of a.timeline.starts.now) loop.e loop.invariant c.loop-e-test.false) (omega arith)

@@ -7,4 +7,4 @@ use Rattle.validity.specs.Checks.{conflicts}
 use Rattle.values.proofs.effects.lowest_conflict.Given as goal
 
 abbrev pub invariant-loop-e : goal.invariant-loop-e
-invariant-loop-e l = lowest l.e (conflicts (clocked (view l.job l.s)) (schedule_of l.starts)) ≡ l.e
+invariant-loop-e l = lowest l.e (conflicts (clocked (view l.fn.timeline.job.head l.fn.timeline.job.bytes.now)) (schedule_of l.fn.timeline.starts.now)) ≡ l.e

@@ -24,7 +24,7 @@ loop-k-preserved c =
     let p = c.requires in
     let i = c.loop-k.invariant in
     let k = c.loop-k.k in
-    let m = view c.args.job c.args.s.now in
+    let m = view c.args.job.head c.args.job.bytes.now in
     filled_more _ _ _ _ _ (omega (arith, c.loop-k-test.true, p.0.step_count, p.1)) i
     (c.fixed_start.ensures ∙ ap (λ v. fixed_start m v k) (i.rest k (omega arith)))
 

@@ -11,4 +11,4 @@ use Rattle.windows.proofs.window.latest_starts.Given as goal
 abbrev pub invariant-loop-g : goal.invariant-loop-g
 invariant-loop-g l =
     (length l.at ≡ row_width)
-    × ((x : ℕ → ℕ) → LinksOf (clocked (view l.job l.s)) x l.links → LatestBy (view l.job l.s) x 0 l.initial.at → LatestBy (view l.job l.s) x l.g l.at)
+    × ((x : ℕ → ℕ) → LinksOf (clocked (view l.job.head l.job.bytes.now)) x l.links → LatestBy (view l.job.head l.job.bytes.now) x 0 l.initial.at → LatestBy (view l.job.head l.job.bytes.now) x l.g l.at)

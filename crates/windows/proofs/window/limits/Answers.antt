@@ -22,5 +22,5 @@ unfolding limit_of
 returns c =
     let w = c.fix_starts.ensures in
     let p = c.requires in
-    let m = view c.args.job c.args.s.now in
+    let m = view c.args.job.head c.args.job.bytes.now in
     record { limits = λ x l k h. w.each k h ∙ ap (λ v. fixed_start m v k) (l.each k h); bounded = limits_bounded _ _ _ _ p.0 p.1.1 w }

@@ -3,7 +3,7 @@ use Rattle.std.proofs.Common.{sym}
 use Rattle.verdict.specs.Verdict.{◌then◌}
 use Rattle.verdict.proofs.Chain.{handed}
 use Rattle.record_check.specs.Records.{record_check}
-use Rattle.record_check.proofs.tables.check_records.Goals as goal
+use Rattle.record_check.proofs.tables.check_tables.Goals as goal
 
 pub returns-in_err-check_table : goal.returns-in_err-check_table
 unfolding record_check ◌then◌

@@ -5,7 +5,7 @@ use mathlib.Core.Bool.{true, ◌&&◌}
 use lib.Dec.{leb}
 use Rattle.laws.proofs.Search.{and_both}
 use borrow.Author.Tests.{leb-true, le-leb}
-use Rattle.job_reader.proofs.laid.is_laid.Goals as goal
+use Rattle.job_reader.proofs.reader.JobReader.is_laid.Goals as goal
 
 parts :
     (a b c d t u n : ℕ) → (leb a n && leb b n && leb c n && leb d n && leb t n && leb u n) ≡ true
@@ -25,12 +25,12 @@ whole a b c d t u n p q r s v w = rw (le-leb a n p, le-leb b n q, le-leb c n r, 
 
 pub returns : goal.returns
 returns c =
-    let steps = c.steps_end.ensures in
-    let conditions = c.conditions_end.ensures in
-    let effects = c.effects_end.ensures in
-    let uses = c.uses_end.ensures in
-    let timed = c.timed_end.ensures in
-    let needed = c.needs_end.ensures in (
+    let steps = c.table_end.ensures in
+    let conditions = c.table_end-2.ensures in
+    let effects = c.table_end-3.ensures in
+    let uses = c.table_end-4.ensures in
+    let timed = c.table_end-5.ensures in
+    let needed = c.table_end-6.ensures in (
       rw (needed, timed, uses, effects, conditions, steps) (λ e.
           let p = parts _ _ _ _ _ _ _ e in
           record { steps = p.0; conditions = p.1; effects = p.2; uses = p.3; timed = p.4; needs = p.5 }),

@@ -1,0 +1,2 @@
+-- The job that a reader holds.
+pub mod Seen
