@@ -10,13 +10,11 @@ ghost use Rattle.order_text.specs.Text.{window_line, link_line, file_text, order
 ghost use Rattle.text.specs.Put.{Put, Written};
 ghost use Rattle.little_endian.specs.Bytes.{u16_values};
 
+use order_answers::NotAnOrderFile;
 use order_file::layout;
 
 // The longest text.
 pub const MOST_TEXT: usize = 186566;
-
-// The refusal of bytes that are no order file.
-const NO_ORDER_FILE: u16 = 16;
 
 // Puts the lines of all steps. The loop of `put_links` differs in the line alone: a closure for that would need a longer contract
 // than the loop.
@@ -64,6 +62,6 @@ pub fn write_text(file: &[u8], out: &mut [u8]) -> usize
     if order_check::well_formed(file) {
         put_file(file, out)
     } else {
-        sheet::write_refused(NO_ORDER_FILE, 0, out)
+        sheet::write_refused(NotAnOrderFile.number(), NotAnOrderFile.place(), out)
     }
 }

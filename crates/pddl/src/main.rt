@@ -1,8 +1,7 @@
 // Makes a job of a supplier's two texts: `pddl ACTIONS PLAN JOB`. Prints a line, the job's length or in words what is wrong and where.
 #![tactic(auto)]
 
-mod files;
-
+use filling::fill;
 use from_pddl::job_from_texts;
 use job_from_notes::file::LONGEST_JOB;
 use std::io::Write;
@@ -46,9 +45,9 @@ fn make(
     job_path: &str,
 ) -> io::Result<()> {
     let mut actions = [0u8; MOST_READ];
-    let m = files::read_file(rt, actions_path, &mut actions)?;
+    let m = fill(&mut fs::open(rt, actions_path)?, &mut actions)?;
     let mut plan = [0u8; MOST_READ];
-    let n = files::read_file(rt, plan_path, &mut plan)?;
+    let n = fill(&mut fs::open(rt, plan_path)?, &mut plan)?;
     let mut job = [0u8; LONGEST_JOB];
     let answer = job_from_texts(&actions[..m], &plan[..n], &mut job);
     finish(rt, job_path, answer, &job)

@@ -32,11 +32,10 @@ fn print_hex(output: &mut impl Write, bytes: &[u8], end: usize) -> io::Result<()
 fn front(bytes: &[u8]) -> usize
     ensures { result ≤ length bytes.now }
 {
-    let mut end = bytes.len();
-    while end > 0 && bytes[end - 1] == FILL {
-        end -= 1;
+    match bytes.iter().rposition(|b| *b != FILL) {
+        Some(last) => last + 1,
+        None => 0,
     }
-    end
 }
 
 // Prints a buffer up to its last byte unlike the filling, and how many follow.

@@ -20,15 +20,12 @@ pub fn serve_loosen(cases: &mut impl Read, output: &mut impl Write) -> io::Resul
     let mut file = [0u8; LONGEST_FIELD];
     let field = read_field(cases, &mut file)?;
     let room = read_number(cases)?;
-    if !(field.whole & room.whole) {
+    let (Some(n), Some(room)) = (field, room) else {
         return lines::bad_cases(output);
-    }
-    if LONGEST_BUFFER < room.value {
+    };
+    if LONGEST_BUFFER < room {
         return lines::bad_cases(output);
     }
     let mut out = [FILL; LONGEST_BUFFER as usize];
-    let n = field.len;
-    let from = 0;
-    let k = room.value as usize;
-    print_loosened(output, &file[..n], &mut out[from..k])
+    print_loosened(output, &file[..n], &mut out[..room as usize])
 }

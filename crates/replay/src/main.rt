@@ -18,7 +18,7 @@ use std::io::{BufReader, BufWriter, Read, Write};
 // Serves the next case, and answers whether to go on.
 fn serve(cases: &mut impl Read, output: &mut impl Write) -> io::Result<bool> {
     let mut command = [0u8; 1];
-    if fields::fill(cases, &mut command)? == 0 {
+    if filling::fill(cases, &mut command)? == 0 {
         return Ok(false);
     }
     let letter = command[0];

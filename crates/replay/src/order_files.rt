@@ -12,11 +12,9 @@ const LINKS: u32 = 2;
 // `h`: the header.
 pub fn serve_header(cases: &mut impl Read, output: &mut impl Write) -> io::Result<bool> {
     let mut file = [0u8; LONGEST_FIELD];
-    let field = read_field(cases, &mut file)?;
-    if !field.whole {
+    let Some(n) = read_field(cases, &mut file)? else {
         return lines::bad_cases(output);
-    }
-    let n = field.len;
+    };
     match order_reader::read_header(&file[..n]) {
         Ok(header) => {
             lines::begin(output, b"h", 0, NOWHERE)?;
@@ -67,18 +65,17 @@ pub fn serve_record(cases: &mut impl Read, output: &mut impl Write) -> io::Resul
     let field = read_field(cases, &mut file)?;
     let table = read_number(cases)?;
     let number = read_number(cases)?;
-    if !(field.whole & table.whole & number.whole) {
+    let (Some(n), Some(table), Some(number)) = (field, table, number) else {
         return lines::bad_cases(output);
-    }
-    let n = field.len;
-    match order_reader::read_record(&file[..n], table.value, number.value) {
+    };
+    match order_reader::read_record(&file[..n], table, number) {
         Ok(record) => {
             lines::begin(output, b"r", 0, NOWHERE)?;
             print_record(output, record)?;
         }
         Err(refusal) => {
             lines::begin(output, b"r", refusal.number(), refusal.place())?;
-            print_zeros(output, table.value)?;
+            print_zeros(output, table)?;
         }
     }
     lines::end(output)
@@ -90,11 +87,9 @@ pub fn serve_alike(cases: &mut impl Read, output: &mut impl Write) -> io::Result
     let mut b = [0u8; LONGEST_FIELD];
     let first = read_field(cases, &mut a)?;
     let second = read_field(cases, &mut b)?;
-    if !(first.whole & second.whole) {
+    let (Some(n), Some(m)) = (first, second) else {
         return lines::bad_cases(output);
-    }
-    let n = first.len;
-    let m = second.len;
+    };
     match order_reader::alike(&a[..n], &b[..m]) {
         Ok(same) => {
             lines::begin(output, b"a", 0, NOWHERE)?;

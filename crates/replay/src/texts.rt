@@ -31,16 +31,12 @@ pub fn serve_texts(cases: &mut impl Read, output: &mut impl Write) -> io::Result
     let first = read_field(cases, &mut actions)?;
     let second = read_field(cases, &mut plan)?;
     let room = read_number(cases)?;
-    if !(first.whole & second.whole & room.whole) {
+    let (Some(n), Some(m), Some(room)) = (first, second, room) else {
         return lines::bad_cases(output);
-    }
-    if LONGEST_BUFFER < room.value {
+    };
+    if LONGEST_BUFFER < room {
         return lines::bad_cases(output);
     }
     let mut out = [FILL; LONGEST_BUFFER as usize];
-    let n = first.len;
-    let m = second.len;
-    let from = 0;
-    let k = room.value as usize;
-    print_made(output, &actions[..n], &plan[..m], &mut out[from..k])
+    print_made(output, &actions[..n], &plan[..m], &mut out[..room as usize])
 }

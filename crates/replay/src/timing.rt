@@ -18,11 +18,9 @@ const LONGEST_LIST: usize = 81920;
 // `c`: the job check.
 pub fn serve_job(cases: &mut impl Read, output: &mut impl Write) -> io::Result<bool> {
     let mut file = [0u8; LONGEST_FIELD];
-    let field = read_field(cases, &mut file)?;
-    if !field.whole {
+    let Some(n) = read_field(cases, &mut file)? else {
         return lines::bad_cases(output);
-    }
-    let n = field.len;
+    };
     let v = schedule::check_job(&file[..n]);
     lines::begin(output, b"c", verdict::number(v), verdict::place(v))?;
     lines::end(output)
@@ -34,10 +32,8 @@ fn decode(bytes: &[u8], n: usize) -> [u32; 81920]
     ensures { length result ≡ 81920 }
 {
     let mut starts = [0u32; LONGEST_LIST];
-    let mut i = 0;
-    while i < n {
+    for i in 0..n {
         starts[i] = little_endian::u32_at(bytes, 4 * i) as u32;
-        i += 1;
     }
     starts
 }
@@ -57,19 +53,14 @@ pub fn serve_schedule(cases: &mut impl Read, output: &mut impl Write) -> io::Res
     let field = read_field(cases, &mut file)?;
     let starts = read_field(cases, &mut list)?;
     let further = read_number(cases)?;
-    let len = starts.len;
+    let (Some(m), Some(len), Some(further)) = (field, starts, further) else {
+        return lines::bad_cases(output);
+    };
     let n = len / 4;
-    if !(field.whole & starts.whole & further.whole & (len % 4 == 0)) {
+    if (len % 4 != 0) | (MOST_STARTS < n) | (MOST_FURTHER < further) {
         return lines::bad_cases(output);
     }
-    if MOST_STARTS < n {
-        return lines::bad_cases(output);
-    }
-    if MOST_FURTHER < further.value {
-        return lines::bad_cases(output);
-    }
-    let m = field.len;
-    let all = n + further.value as usize;
+    let all = n + further as usize;
     let v = check_decoded(&file[..m], &list[..len], n, all);
     lines::begin(output, b"t", verdict::number(v), verdict::place(v))?;
     lines::end(output)

@@ -7,11 +7,9 @@ use std::io::{Read, Write};
 // `w`: the well-formedness check.
 pub fn serve_form(cases: &mut impl Read, output: &mut impl Write) -> io::Result<bool> {
     let mut file = [0u8; LONGEST_FIELD];
-    let field = read_field(cases, &mut file)?;
-    if !field.whole {
+    let Some(n) = read_field(cases, &mut file)? else {
         return lines::bad_cases(output);
-    }
-    let n = field.len;
+    };
     let v = form::check_form(&file[..n]);
     lines::begin(output, b"w", verdict::number(v), verdict::place(v))?;
     lines::end(output)

@@ -15,4 +15,5 @@ returns-then-well_formed c =
 pub returns-else-well_formed : goal.returns-else-well_formed
 returns-else-well_formed c =
     let e = sym c.well_formed-2.ensures ∙ c.if-well_formed.false in
-    record { written = rw (text_refused _ e) c.write_refused.ensures.written; upper_bound = omega arith }
+    let w = rw (c.number.ensures, c.place.ensures) at c.write_refused.ensures.written in
+    record { written = rw (text_refused _ e) w; upper_bound = omega arith }
