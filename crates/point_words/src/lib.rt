@@ -49,13 +49,8 @@ pub fn timed_word(job: JobReader, starts: &[u32], j: u16) -> u64
     let p = job.timed(j);
     let clock = job.head.count.steps;
     let tick = start_of(starts, clock) + p.tick;
-    word_of(
-        p.fact as usize,
-        tick,
-        job.head.count.effects + j,
-        p.value,
-        clock,
-    )
+    let number = job.head.count.effects + j;
+    word_of(p.fact as usize, tick, number, p.value, clock)
 }
 
 pub fn use_word(job: JobReader, starts: &[u32], u: u16) -> u64

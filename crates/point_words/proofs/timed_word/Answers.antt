@@ -14,8 +14,8 @@ overflow_add-tick c =
     let parts = timed_parts c.requires.0 c.args.j c.requires.1 in
     rw c.timed-p.ensures (omega arith)
 
-pub overflow_add-job : goal.overflow_add-job
-overflow_add-job c = omega (arith, (timed_parts c.requires.0 c.args.j c.requires.1).number)
+pub overflow_add-number : goal.overflow_add-number
+overflow_add-number c = omega (arith, (timed_parts c.requires.0 c.args.j c.requires.1).number)
 
 pub word_of-requires : goal.word_of-requires
 word_of-requires c =
