@@ -11,7 +11,7 @@ use crate::literals::{read_change, read_fact, read_literal};
 use notes::Place;
 use token_reader::{Fault, Reader, refuse, sees_bracket, sees_word, take_bracket, take_word};
 
-// What the items are.
+// What the items are: symbols of the grammar, which contracts name, so readers match on them and take no closure.
 #[derive(Clone, Copy)]
 pub enum Items {
     Conditions,

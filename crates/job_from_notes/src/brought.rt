@@ -7,7 +7,8 @@ ghost use Rattle.job_from_notes.specs.Brought.{brings, within};
 
 use notes::{GIVEN, NUMBER, OVER_ALL, REACHED, RISE, SET, WANTED, WANTED_AT_END};
 
-// The tables whose records notes bring one by one.
+// The tables whose records notes bring one by one: a closed few, by which contracts say what is brought, so functions match on them and take no
+// closure.
 #[derive(Clone, Copy)]
 pub enum Kind {
     Conditions,

@@ -7,7 +7,7 @@ use crate::brought::leading;
 use crate::noted::Noted;
 use notes::{GIVEN, STOCK};
 
-// What is said of the beginning.
+// What is said of the beginning: a fact or a level, told apart by a match, so that contracts can name which.
 #[derive(Clone, Copy)]
 pub enum Opening {
     Fact,
@@ -36,7 +36,7 @@ fn amount(of: Opening, said: &[u64], k: usize) -> usize
     }
 }
 
-// Puts a value at a name's number, where the list has room for it.
+// Puts a value at a name's number, where the list has room for it. What `get_mut` lends is not known to be written back by a proof.
 fn store(n: u16, value: usize, list: &mut [usize])
     ensures { list.new ≡ set list.old n value }
 {

@@ -1,4 +1,5 @@
-// Whether the records of a job lie within the bytes.
+// Whether the records of a job lie within the bytes. That is a clause of who asks for it and no ghost field of the reader: searches and readers
+// of fields take a job of any bytes.
 ghost use Rattle.std.specs.Prelude.{◌≡◌, true, ◌+◌, ◌*◌, ◌≤◌};
 ghost use Rattle.job_reader.specs.Seen.{IsLaid};
 

@@ -29,22 +29,14 @@ fn only_timed(job: Job) -> Job
     ensures { result ≡ only_timed job }
 {
     let count = Counts {
-        facts: job.count.facts,
         levels: 0,
-        steps: job.count.steps,
         conditions: 0,
         effects: 0,
         uses: 0,
-        goals: job.count.goals,
-        timed: job.count.timed,
         needs: 0,
+        ..job.count
     };
-    let at = job.at;
-    Job {
-        edition: job.edition,
-        count,
-        at,
-    }
+    Job { count, ..job }
 }
 
 // Lists the timed facts; a schedule starts the clock at 0.

@@ -27,15 +27,14 @@ fn finish(
     answer: TextsAnswer,
     job: &[u8],
 ) -> io::Result<()> {
-    if texts_answer::number(answer) != 0 {
-        return say(rt, answer);
-    }
-    let n = texts_answer::length(answer) as usize;
-    if n <= job.len() {
+    if let Ok(length) = answer {
+        let n = length as usize;
+        if job.len() < n {
+            return Ok(());
+        }
         fs::write(rt, path, &job[..n])?;
-        say(rt, answer)?;
     }
-    Ok(())
+    say(rt, answer)
 }
 
 fn make(

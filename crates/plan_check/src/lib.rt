@@ -55,7 +55,8 @@ fn line_action(
     Some(action + 1)
 }
 
-// Keeps where the action of line s stands, if that is one of the steps that there can be.
+// Keeps where the action of line s stands, if that is one of the steps that there can be. What `get_mut` lends is not known to be written
+// back by a proof.
 fn keep(acts: &mut [u16], s: usize, behind: usize)
     requires { behind ≤ 65535 }
     ensures { acts.new ≡ set acts.old s behind }

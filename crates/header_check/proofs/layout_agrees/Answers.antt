@@ -8,73 +8,37 @@ pub u32_at-requires : goal.u32_at-requires
 unfolding layout_agrees
 u32_at-requires c = tt
 
-pub overflow_cast-result : goal.overflow_cast-result
-unfolding layout_agrees
-overflow_cast-result c = search rules
-
 pub u32_at-requires-2 : goal.u32_at-requires-2
 unfolding layout_agrees
 u32_at-requires-2 c = tt
-
-pub overflow_cast-result-2 : goal.overflow_cast-result-2
-unfolding layout_agrees
-overflow_cast-result-2 c = search rules
 
 pub u32_at-requires-3 : goal.u32_at-requires-3
 unfolding layout_agrees
 u32_at-requires-3 c = tt
 
-pub overflow_cast-result-3 : goal.overflow_cast-result-3
-unfolding layout_agrees
-overflow_cast-result-3 c = search rules
-
 pub u32_at-requires-4 : goal.u32_at-requires-4
 unfolding layout_agrees
 u32_at-requires-4 c = tt
-
-pub overflow_cast-result-4 : goal.overflow_cast-result-4
-unfolding layout_agrees
-overflow_cast-result-4 c = search rules
 
 pub u32_at-requires-5 : goal.u32_at-requires-5
 unfolding layout_agrees
 u32_at-requires-5 c = tt
 
-pub overflow_cast-result-5 : goal.overflow_cast-result-5
-unfolding layout_agrees
-overflow_cast-result-5 c = search rules
-
 pub u32_at-requires-6 : goal.u32_at-requires-6
 unfolding layout_agrees
 u32_at-requires-6 c = tt
-
-pub overflow_cast-result-6 : goal.overflow_cast-result-6
-unfolding layout_agrees
-overflow_cast-result-6 c = search rules
 
 pub u32_at-requires-7 : goal.u32_at-requires-7
 unfolding layout_agrees
 u32_at-requires-7 c = tt
 
-pub overflow_cast-result-7 : goal.overflow_cast-result-7
-unfolding layout_agrees
-overflow_cast-result-7 c = search rules
-
 pub u32_at-requires-8 : goal.u32_at-requires-8
 unfolding layout_agrees
 u32_at-requires-8 c = tt
 
-pub overflow_cast-result-8 : goal.overflow_cast-result-8
-unfolding layout_agrees
-overflow_cast-result-8 c = search rules
-
 pub u32_at-requires-9 : goal.u32_at-requires-9
 unfolding layout_agrees
 u32_at-requires-9 c = tt
-
-pub overflow_cast-result-9 : goal.overflow_cast-result-9
-unfolding layout_agrees
-overflow_cast-result-9 c = search rules
 
 pub overflow_cast-result-10 : goal.overflow_cast-result-10
 unfolding layout_agrees

@@ -2,14 +2,6 @@ use Rattle.order_check.specs.WellFormed.{rounds_hold}
 use borrow.Author.Rules.{rules}
 use Rattle.order_check.proofs.rounds_hold.Goals as goal
 
-pub rounds-requires : goal.rounds-requires
-unfolding rounds_hold
-rounds-requires c = search rules
-
-pub steps-requires : goal.steps-requires
-unfolding rounds_hold
-steps-requires c = search rules
-
 pub returns : goal.returns
 unfolding rounds_hold
 returns c = simp (c.rounds.ensures.0, c.steps.ensures.0)

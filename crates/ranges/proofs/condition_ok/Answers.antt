@@ -5,10 +5,6 @@ use Rattle.ranges.specs.Ranges.{condition_ok}
 use borrow.Author.Rules.{rules}
 use Rattle.ranges.proofs.condition_ok.Goals as goal
 
-pub condition-c-requires : goal.condition-c-requires
-unfolding condition_ok
-condition-c-requires c = search rules
-
 pub returns-then-job-c : goal.returns-then-job-c
 unfolding condition_ok
 returns-then-job-c c =

@@ -5,10 +5,6 @@ use Rattle.ranges.specs.Ranges.{effect_ok}
 use borrow.Author.Rules.{rules}
 use Rattle.ranges.proofs.effect_ok.Goals as goal
 
-pub effect-e-requires : goal.effect-e-requires
-unfolding effect_ok
-effect-e-requires c = search rules
-
 pub returns-then-job-e : goal.returns-then-job-e
 unfolding effect_ok
 returns-then-job-e c =

@@ -3,10 +3,6 @@ use Rattle.ranges.specs.Ranges.{fact_ok}
 use borrow.Author.Rules.{rules}
 use Rattle.ranges.proofs.fact_ok.Goals as goal
 
-pub fact_initial-requires : goal.fact_initial-requires
-unfolding fact_ok
-fact_initial-requires c = search rules
-
 pub returns : goal.returns
 unfolding fact_ok
 returns c = cc

@@ -3,10 +3,6 @@ use Rattle.ranges.specs.Ranges.{goal_ok}
 use borrow.Author.Rules.{rules}
 use Rattle.ranges.proofs.goal_ok.Goals as goal
 
-pub goal-goal-requires : goal.goal-goal-requires
-unfolding goal_ok
-goal-goal-requires c = search rules
-
 pub returns : goal.returns
 unfolding goal_ok
 returns c = rw c.goal-goal.ensures

@@ -5,10 +5,6 @@ use Rattle.ranges.specs.Ranges.{need_ok}
 use borrow.Author.Rules.{rules}
 use Rattle.ranges.proofs.need_ok.Goals as goal
 
-pub need-n-requires : goal.need-n-requires
-unfolding need_ok
-need-n-requires c = search rules
-
 pub returns-then-job-n : goal.returns-then-job-n
 unfolding need_ok
 returns-then-job-n c =
@@ -18,10 +14,6 @@ returns-then-job-n c =
 pub length_within-requires : goal.length_within-requires
 unfolding need_ok
 length_within-requires c = (c.requires.0, c.if-job-n.false)
-
-pub level_in_range-requires : goal.level_in_range-requires
-unfolding need_ok
-level_in_range-requires c = search rules
 
 pub returns : goal.returns
 unfolding need_ok

@@ -3,10 +3,6 @@ use Rattle.ranges.specs.Ranges.{step_ok}
 use borrow.Author.Rules.{rules}
 use Rattle.ranges.proofs.step_ok.Goals as goal
 
-pub step-step-requires : goal.step-step-requires
-unfolding step_ok
-step-step-requires c = search rules
-
 pub returns : goal.returns
 unfolding step_ok
 returns c = rw c.step-step.ensures

@@ -3,10 +3,6 @@ use Rattle.ranges.specs.Ranges.{timed_ok}
 use borrow.Author.Rules.{rules}
 use Rattle.ranges.proofs.timed_ok.Goals as goal
 
-pub timed-timed-requires : goal.timed-timed-requires
-unfolding timed_ok
-timed-timed-requires c = search rules
-
 pub returns : goal.returns
 unfolding timed_ok
 returns c = rw c.timed-timed.ensures

@@ -5,10 +5,6 @@ use Rattle.ranges.specs.Ranges.{use_ok}
 use borrow.Author.Rules.{rules}
 use Rattle.ranges.proofs.use_ok.Goals as goal
 
-pub usage-u-requires : goal.usage-u-requires
-unfolding use_ok
-usage-u-requires c = search rules
-
 pub returns-then-job-u : goal.returns-then-job-u
 unfolding use_ok
 returns-then-job-u c =

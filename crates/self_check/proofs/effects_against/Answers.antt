@@ -17,14 +17,6 @@ pub loop-k-init : goal.loop-k-init
 unfolding opposes_own_step
 loop-k-init c = sym (owner_start _ _ _)
 
-pub effect-e-requires : goal.effect-e-requires
-unfolding opposes_own_step
-effect-e-requires c = search rules
-
-pub step_key-key-requires : goal.step_key-key-requires
-unfolding opposes_own_step
-step_key-key-requires c = search rules
-
 pub slice_bounds-opposes_any-end : goal.slice_bounds-opposes_any-end
 unfolding opposes_own_step
 slice_bounds-opposes_any-end c = sym c.link_conditions.ensures.size
@@ -34,10 +26,6 @@ unfolding opposes_own_step
 opposes_any-found-requires c =
     let k = c.step_key-key.ensures in
     record { growing = c.link_conditions.ensures; few = c.requires.1.condition_count; same = k.0; low = k.1 }
-
-pub lower_if-best-requires : goal.lower_if-best-requires
-unfolding opposes_own_step
-lower_if-best-requires c = search rules
 
 pub loop-k-preserved : goal.loop-k-preserved
 unfolding opposes_own_step

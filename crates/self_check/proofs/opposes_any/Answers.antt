@@ -21,10 +21,6 @@ loop-c-init c =
     λ k q. back_start p.growing.linked p.few _ _ (own_opposes _ _) _ _ (p.same ∙ ap (λ (x : Effect). step_key x.step x.fact) q) p.low
     c.last_of-c.ensures
 
-pub opposes_own-requires : goal.opposes_own-requires
-unfolding opposes_any
-opposes_own-requires c = search rules
-
 pub returns-then-opposes_own : goal.returns-then-opposes_own
 unfolding opposes_any
 returns-then-opposes_own c = λ k q. any_found _ _ _ c.loop-c-test.true (c.opposes_own.ensures k q) c.if-opposes_own.true

@@ -5,14 +5,6 @@ use Rattle.self_check.specs.Keys.{step_key}
 use borrow.Author.Rules.{rules}
 use Rattle.self_check.proofs.step_key.Goals as goal
 
-pub overflow_mul-result : goal.overflow_mul-result
-unfolding step_key
-overflow_mul-result c = search rules
-
-pub overflow_add-result : goal.overflow_add-result
-unfolding step_key
-overflow_add-result c = search rules
-
 pub returns : goal.returns
 unfolding step_key
 returns c = (refl, omega arith)

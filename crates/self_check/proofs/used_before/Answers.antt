@@ -17,10 +17,6 @@ loop-v-init c =
     let p = c.requires in
     back_start p.growing.linked p.few _ _ (own_uses_twice _ _) _ _ p.same p.low c.last_of-v.ensures
 
-pub uses_twice-requires : goal.uses_twice-requires
-unfolding used_before
-uses_twice-requires c = search rules
-
 pub returns-then-uses_twice : goal.returns-then-uses_twice
 unfolding used_before
 returns-then-uses_twice c = any_found _ _ _ c.loop-v-test.true c.uses_twice.ensures c.if-uses_twice.true

@@ -17,18 +17,6 @@ pub loop-u-init : goal.loop-u-init
 unfolding uses_twice_step
 loop-u-init c = (growing_start _, sym (owner_start _ _ _))
 
-pub use_step-step-requires : goal.use_step-step-requires
-unfolding uses_twice_step
-use_step-step-requires c = search rules
-
-pub use_level-requires : goal.use_level-requires
-unfolding uses_twice_step
-use_level-requires c = search rules
-
-pub step_key-key-requires : goal.step_key-key-requires
-unfolding uses_twice_step
-step_key-key-requires c = search rules
-
 pub slice_bounds-used_before-end : goal.slice_bounds-used_before-end
 unfolding uses_twice_step
 slice_bounds-used_before-end c = sym c.loop-u.invariant.0.size
@@ -42,10 +30,6 @@ used_before-found-requires c =
       same = k.0 ∙ ap₂ step_key c.use_step-step.ensures c.use_level.ensures;
       low = k.1;
     }
-
-pub lower_if-best-requires : goal.lower_if-best-requires
-unfolding uses_twice_step
-lower_if-best-requires c = search rules
 
 pub link-requires : goal.link-requires
 unfolding uses_twice_step

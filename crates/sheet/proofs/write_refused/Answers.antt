@@ -5,22 +5,6 @@ use borrow.Author.Rules.{rules}
 use native.Mathlib.Omega.{arith}
 use Rattle.sheet.proofs.write_refused.Goals as goal
 
-pub put_field-refused-requires : goal.put_field-refused-requires
-unfolding refused_text
-put_field-refused-requires c = search rules
-
-pub put_field-placed-requires : goal.put_field-placed-requires
-unfolding refused_text
-put_field-placed-requires c = search rules
-
-pub put_word-requires : goal.put_word-requires
-unfolding refused_text
-put_word-requires c = search rules
-
-pub shape_of-out : goal.shape_of-out
-unfolding refused_text
-shape_of-out c = search rules
-
 pub returns : goal.returns
 unfolding refused_text
 returns c =

@@ -5,18 +5,6 @@ use borrow.Author.Rules.{rules}
 use native.Mathlib.Omega.{arith}
 use Rattle.telling.proofs.write_made.Goals as goal
 
-pub put_field-made-requires : goal.put_field-made-requires
-unfolding made_line
-put_field-made-requires c = search rules
-
-pub put_word-requires : goal.put_word-requires
-unfolding made_line
-put_word-requires c = search rules
-
-pub shape_of-out : goal.shape_of-out
-unfolding made_line
-shape_of-out c = search rules
-
 pub returns : goal.returns
 unfolding made_line
 returns c =

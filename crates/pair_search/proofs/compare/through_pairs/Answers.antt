@@ -10,9 +10,6 @@ loop-p-init c = pairs_start
 pub with_higher-search-requires : goal.with_higher-search-requires
 with_higher-search-requires c = (c.loop-p-test.true, omega arith)
 
-pub overflow_add-compared : goal.overflow_add-compared
-overflow_add-compared c = omega arith
-
 pub returns-then-search : goal.returns-then-search
 returns-then-search c =
     let a = c.with_higher-search.ensures in

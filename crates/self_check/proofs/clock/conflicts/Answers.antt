@@ -24,10 +24,6 @@ of_records m j k e f q = q ∙ ap₂ differ e f
 none_found : (p : ℕ → Bool) (n k : ℕ) → lowest k p ≡ k → n ≤ k → false ≡ any n p
 none_found p n k e g = sym (any_none p n (λ i l. (lowest_facts p k).1 i (omega (arith, e))))
 
-pub timed-own-requires : goal.timed-own-requires
-unfolding timed_conflicts
-timed-own-requires c = search rules
-
 pub loop-k-init : goal.loop-k-init
 unfolding timed_conflicts
 loop-k-init c = lowest_start _
@@ -35,10 +31,6 @@ loop-k-init c = lowest_start _
 pub timed-other-requires : goal.timed-other-requires
 unfolding timed_conflicts
 timed-other-requires c = (c.requires.0, c.loop-k-test.true)
-
-pub both_ways-requires : goal.both_ways-requires
-unfolding timed_conflicts
-both_ways-requires c = search rules
 
 pub returns-then-both_ways : goal.returns-then-both_ways
 unfolding timed_conflicts

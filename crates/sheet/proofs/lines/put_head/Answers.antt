@@ -5,30 +5,6 @@ use borrow.Author.Rules.{rules}
 use native.Mathlib.Omega.{arith}
 use Rattle.sheet.proofs.lines.put_head.Goals as goal
 
-pub steps-requires : goal.steps-requires
-unfolding head_line
-steps-requires c = search rules
-
-pub put_field-steps-requires : goal.put_field-steps-requires
-unfolding head_line
-put_field-steps-requires c = search rules
-
-pub rounds-requires : goal.rounds-requires
-unfolding head_line
-rounds-requires c = search rules
-
-pub put_field-rounds-requires : goal.put_field-rounds-requires
-unfolding head_line
-put_field-rounds-requires c = search rules
-
-pub put_word-requires : goal.put_word-requires
-unfolding head_line
-put_word-requires c = search rules
-
-pub shape_of-out : goal.shape_of-out
-unfolding head_line
-shape_of-out c = search rules
-
 pub returns : goal.returns
 unfolding head_line
 returns c =

@@ -5,38 +5,6 @@ use borrow.Author.Rules.{rules}
 use native.Mathlib.Omega.{arith}
 use Rattle.sheet.proofs.lines.put_window.Goals as goal
 
-pub put_field-step-requires : goal.put_field-step-requires
-unfolding window_line
-put_field-step-requires c = search rules
-
-pub earliest-requires : goal.earliest-requires
-unfolding window_line
-earliest-requires c = search rules
-
-pub put_field-earliest-requires : goal.put_field-earliest-requires
-unfolding window_line
-put_field-earliest-requires c = search rules
-
-pub put_word-word-requires : goal.put_word-word-requires
-unfolding window_line
-put_word-word-requires c = search rules
-
-pub latest-requires : goal.latest-requires
-unfolding window_line
-latest-requires c = search rules
-
-pub put_latest-latest-requires : goal.put_latest-latest-requires
-unfolding window_line
-put_latest-latest-requires c = search rules
-
-pub put_word-requires : goal.put_word-requires
-unfolding window_line
-put_word-requires c = search rules
-
-pub shape_of-out : goal.shape_of-out
-unfolding window_line
-shape_of-out c = search rules
-
 pub returns : goal.returns
 unfolding window_line
 returns c =
