@@ -16,7 +16,7 @@ use job::layout::Job;
 use job_reader::reader::JobReader;
 use order_file::table::{NO_ORDER, WIDTH};
 use origins::{Fact, raise, strictly};
-use points::timeline::Timeline;
+use points::timelines::Timeline;
 use rows::{raise_among, raise_conditions, raise_setters};
 use timeline::word::begin_at;
 

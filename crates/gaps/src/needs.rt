@@ -11,7 +11,7 @@ ghost use Rattle.gaps.specs.Rules.{ValidPoints, span_at};
 use job::layout::Job;
 use job_reader::reader::JobReader;
 use origins::Span;
-use points::timeline::Timeline;
+use points::timelines::Timeline;
 use rows::raise_between;
 use timeline::word::begin_at;
 

@@ -12,7 +12,7 @@ ghost use Rattle.goals.specs.GoalRuns.{GoalsKnown, LateRun};
 
 use job::records::NO_DEADLINE;
 use job_reader::reader::JobReader;
-use points::timeline::Timeline;
+use points::timelines::Timeline;
 use timeline::walk::last_run;
 use timeline::word::{begin_at, tick_of, value_of};
 

@@ -11,7 +11,7 @@ ghost use Rattle.levels.specs.LevelSums.{sum_limit, in_bounds, UsesPlaced, Stret
 
 use job_reader::reader::JobReader;
 use little_endian::SIGN_BIAS;
-use points::timeline::Timeline;
+use points::timelines::Timeline;
 use timeline::word::{begin_at, number_of, tick_of};
 
 // What a level's uses before a place add to it and take from it.

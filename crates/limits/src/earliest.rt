@@ -15,7 +15,7 @@ use job_reader::reader::JobReader;
 use moves::others::last_other;
 use moves::{raise_limit, raise_point};
 use order_file::layout::INITIAL_STATE;
-use points::timeline::Timeline;
+use points::timelines::Timeline;
 use timeline::walk::{Cursor, advance};
 use timeline::word::{tick_of, value_of};
 

@@ -15,7 +15,7 @@ use crate::timed::{MARKS, MOST_TIMED, Span, list_timed, span_of};
 use job_reader::reader::JobReader;
 use moves::others::{next_other, next_tick};
 use moves::{end_in, lower_start, offset_in};
-use points::timeline::Timeline;
+use points::timelines::Timeline;
 use timeline::word::{step_of, tick_of, value_of};
 
 // For points of a span, each as far into its step as `at` says: along them and, beside them, the timed facts that come next.

@@ -11,7 +11,7 @@ ghost use Rattle.links.specs.Linking.{run_link, LinkIs, LinksPut, FromTo};
 use crate::tie::{FIRSTS, Tie, own_place, tie_at};
 use job_reader::reader::JobReader;
 use order_file::layout::INITIAL_STATE;
-use points::timeline::Timeline;
+use points::timelines::Timeline;
 use timeline::walk::{Cursor, advance, last_run};
 use timeline::word::{begin_at, number_of, step_of, tick_of, value_of};
 

@@ -18,7 +18,7 @@ ghost use Rattle.needs.specs.LevelNeeds.{Behind, NeedAt, NeedsOfLevels};
 use job_reader::reader::JobReader;
 use levels::bounds::{Sums, with_use};
 use little_endian::SIGN_BIAS;
-use points::timeline::Timeline;
+use points::timelines::Timeline;
 use timeline::word::{begin_at, number_of, step_of, tick_of};
 
 // The sums with all uses before the tick of a need's word.

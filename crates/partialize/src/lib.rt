@@ -26,7 +26,7 @@ use links::support;
 use order_file::layout::{MOST_LINKS, NO_LATEST, link_at};
 use order_file::table::{ENTRIES, NO_ORDER, WIDTH};
 use order_file::write::{Header, count_orders, write_file};
-use points::timeline::Timeline;
+use points::timelines::Timeline;
 use points::words::{
     FEW_BEGINS, FEW_POINTS, MOST_BEGINS, MOST_POINTS, is_small, list_own_points, list_points,
 };

@@ -4,7 +4,7 @@ use Rattle.job.specs.Model.{Model}
 use Rattle.job.specs.Clocked.{clocked}
 use Rattle.job_reader.specs.Seen.{seen}
 use Rattle.validity.specs.Ticks.{schedule_of}
-use Rattle.points.specs.declared.timeline.Timeline.{Timeline}
+use Rattle.points.specs.declared.timelines.Timeline.{Timeline}
 
 -- its job, with the timed facts among the effects
 abbrev pub model : Timeline → Model

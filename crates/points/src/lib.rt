@@ -1,5 +1,5 @@
 // The points of a job: their words in order.
 #![tactic(auto)]
 
-pub mod timeline;
+pub mod timelines;
 pub mod words;

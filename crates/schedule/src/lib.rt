@@ -22,7 +22,7 @@ use job::layout::Job;
 use job_reader::reader::JobReader;
 use levels::{bounds, uses};
 use opposing::neighbours::any_mixed;
-use points::timeline::Timeline;
+use points::timelines::Timeline;
 use points::words::{FEW_BEGINS, FEW_POINTS, MOST_BEGINS, MOST_POINTS, is_small, list_points};
 use values::{conditions, effects};
 use verdict::{Refusal, Verdict};

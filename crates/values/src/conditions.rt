@@ -14,7 +14,7 @@ ghost use Rattle.values.specs.Conditions.{ConditionsKnown, ConditionAt, NotPast,
 
 use job_reader::reader::JobReader;
 use opposing::scan::{is_past, opposed_from, opposing_from};
-use points::timeline::Timeline;
+use points::timelines::Timeline;
 use ticks::last_tick;
 use timeline::walk::{Cursor, advance};
 use timeline::word::{STEP_SPAN, begin_at, number_of, step_of, tick_of, value_of};

@@ -12,7 +12,7 @@ ghost use Rattle.points.specs.Points.{PointsKnown};
 use job_reader::reader::JobReader;
 use opposing::neighbours::any_mixed;
 use opposing::scan::opposed_from;
-use points::timeline::Timeline;
+use points::timelines::Timeline;
 use ticks::effect_tick;
 use timeline::walk::{Cursor, advance};
 use timeline::word::begin_at;
