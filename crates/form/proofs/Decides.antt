@@ -3,7 +3,7 @@ use Prim.Native.Nat.{ℕ}
 use mathlib.Core.Path.{◌≡◌, sym, ap, ◌∙◌}
 use mathlib.Core.List.{List}
 use Rattle.std.specs.Prelude.{Ok, Err}
-use Rattle.verdict.specs.declared.Refusal.{Refusal}
+use Rattle.record_check.specs.declared.RefusedFile.{RefusedFile}
 use Rattle.verdict.specs.Verdict.{Verdict, number, ◌then◌}
 use Rattle.verdict.proofs.Chain.{refusal_nonzero, then_accepted, first_refused}
 use Rattle.job.specs.declared.layout.Job.{Job}
@@ -26,8 +26,8 @@ module _ (s : List ℕ) where
   records_refused = first_refused _ _ _
 
 -- the same of records that were read: the verdict of the form check with and without refusals 7 and 17
-pub read_refused : {s : List ℕ} {x : Refusal} → RecordsPromise s (Err x) → Err x ≡ form_check s
-read_refused {s} {x} p = p.verdict ∙ records_refused s (λ z. refusal_nonzero x (ap number p.verdict ∙ z))
+pub read_refused : {s : List ℕ} {x : RefusedFile} → RecordsPromise s (Err x) → Err x.refusal ≡ form_check s
+read_refused {s} {x} p = p.verdict ∙ records_refused s (λ z. refusal_nonzero x.refusal (ap number p.verdict ∙ z))
 
 pub read_passed : {s : List ℕ} {job : Job} → RecordsPromise s (Ok job) → (step_check (view job s) then timed_check (view job s)) ≡ form_check s
 read_passed {s} p = ap (λ (j : Job). step_check (view j s) then timed_check (view j s)) p.job ∙ records_passed s (sym (ap number p.verdict))

@@ -2,6 +2,7 @@
 #![tactic(auto)]
 
 mod compare;
+pub mod numbers;
 
 ghost use Rattle.std.specs.Prelude.{◌≡◌, ◌<◌};
 ghost use Rattle.order_file.specs.Layout.{contents_of};

@@ -76,6 +76,6 @@ pub fn compare_pairs(s: &[u8]) -> PairsAnswer
             let job = JobReader { bytes: s, head };
             found_in(search_pairs(job), head)
         }
-        Err(refusal) => PairsAnswer::Refused(refusal),
+        Err(file) => PairsAnswer::Refused(file.refusal),
     }
 }

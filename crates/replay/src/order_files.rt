@@ -2,9 +2,9 @@
 use crate::fields::{LONGEST_FIELD, read_field, read_number};
 use crate::lines;
 use order_answers::Record;
+use order_reader::numbers;
 use std::io;
 use std::io::{Read, Write};
-use verdict::NOWHERE;
 
 // The table of the links, whose records have one number; those of the others have three.
 const LINKS: u32 = 2;
@@ -15,16 +15,14 @@ pub fn serve_header(cases: &mut impl Read, output: &mut impl Write) -> io::Resul
     let Some(n) = read_field(cases, &mut file)? else {
         return lines::bad_cases(output);
     };
-    match order_reader::read_header(&file[..n]) {
-        Ok(header) => {
-            lines::begin(output, b"h", 0, NOWHERE)?;
-            lines::print_numbers(output, &header.numbers())?;
-        }
-        Err(refusal) => {
-            lines::begin(output, b"h", refusal.number(), refusal.place())?;
-            lines::print_numbers(output, &[0; 8])?;
-        }
-    }
+    let header = order_reader::read_header(&file[..n]);
+    lines::begin(
+        output,
+        b"h",
+        numbers::header_number(header),
+        numbers::header_place(header),
+    )?;
+    lines::print_numbers(output, &numbers::header_values(header))?;
     lines::end(output)
 }
 
@@ -68,15 +66,16 @@ pub fn serve_record(cases: &mut impl Read, output: &mut impl Write) -> io::Resul
     let (Some(n), Some(table), Some(number)) = (field, table, number) else {
         return lines::bad_cases(output);
     };
-    match order_reader::read_record(&file[..n], table, number) {
-        Ok(record) => {
-            lines::begin(output, b"r", 0, NOWHERE)?;
-            print_record(output, record)?;
-        }
-        Err(refusal) => {
-            lines::begin(output, b"r", refusal.number(), refusal.place())?;
-            print_zeros(output, table)?;
-        }
+    let answer = order_reader::read_record(&file[..n], table, number);
+    lines::begin(
+        output,
+        b"r",
+        numbers::record_number(answer),
+        numbers::record_place(answer),
+    )?;
+    match answer {
+        Ok(record) => print_record(output, record)?,
+        Err(_refusal) => print_zeros(output, table)?,
     }
     lines::end(output)
 }
@@ -90,15 +89,13 @@ pub fn serve_alike(cases: &mut impl Read, output: &mut impl Write) -> io::Result
     let (Some(n), Some(m)) = (first, second) else {
         return lines::bad_cases(output);
     };
-    match order_reader::alike(&a[..n], &b[..m]) {
-        Ok(same) => {
-            lines::begin(output, b"a", 0, NOWHERE)?;
-            lines::print_number(output, u64::from(same))?;
-        }
-        Err(broken) => {
-            lines::begin(output, b"a", broken.number(), broken.place())?;
-            lines::print_number(output, 0)?;
-        }
-    }
+    let answer = order_reader::alike(&a[..n], &b[..m]);
+    lines::begin(
+        output,
+        b"a",
+        numbers::alike_number(answer),
+        numbers::alike_place(answer),
+    )?;
+    lines::print_number(output, u64::from(numbers::alike_yes(answer)))?;
     lines::end(output)
 }

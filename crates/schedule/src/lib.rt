@@ -185,7 +185,7 @@ fn check_read(job: JobReader, starts: &[u32]) -> Verdict
 pub fn open_job(s: &[u8]) -> Result<Job, Refusal>
     ensures { Opened s.now result }
 {
-    record_check::read_records(s)
+    Ok(record_check::read_records(s)?)
 }
 
 // The job check of a file that 1 to 6 pass, whose points at its written starts are in order: for whoever needs them as well.

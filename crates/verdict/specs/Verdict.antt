@@ -53,11 +53,6 @@ refusal_place (GoalFails k) = k
 refusal_place (TimedFactsConflict k) = k
 refusal_place (NeedUnmet k) = k
 
--- an answer as a verdict: accepted where there is one
-abbrev pub verdict_of : {A : Type 0} → Result A Refusal → Verdict
-verdict_of (Ok _) = Accepted
-verdict_of (Err refusal) = Err refusal
-
 -- the number of a verdict, 0 for accepted
 abbrev pub number : Verdict → ℕ
 number (Ok _) = 0

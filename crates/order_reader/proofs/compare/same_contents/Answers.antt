@@ -1,5 +1,4 @@
 use Rattle.order_answers.specs.Alike.{alike_contents}
-use borrow.Author.Rules.{rules}
 use Rattle.order_reader.proofs.compare.same_contents.Goals as goal
 
 pub returns : goal.returns

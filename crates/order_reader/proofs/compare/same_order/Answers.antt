@@ -1,5 +1,4 @@
 use Rattle.order_answers.specs.Alike.{same_order}
-use borrow.Author.Rules.{rules}
 use Rattle.order_reader.proofs.compare.same_order.Goals as goal
 
 pub returns : goal.returns

@@ -1,5 +1,4 @@
 use Rattle.order_answers.specs.Alike.{same_window}
-use borrow.Author.Rules.{rules}
 use Rattle.order_reader.proofs.compare.same_window.Goals as goal
 
 pub returns : goal.returns
