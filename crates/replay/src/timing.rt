@@ -26,23 +26,22 @@ pub fn serve_job(cases: &mut impl Read, output: &mut impl Write) -> io::Result<b
     lines::end(output)
 }
 
-// The first n of a field's u32 numbers, followed by zeros.
-fn decode(bytes: &[u8], n: usize) -> [u32; 81920]
-    requires { n ≤ 81920 }
-    ensures { length result ≡ 81920 }
+// Puts the first n of a field's u32 numbers into a list.
+fn decode(bytes: &[u8], n: usize, starts: &mut [u32])
+    requires { n ≤ length starts.old }
+    ensures { length starts.new ≡ length starts.old }
 {
-    let mut starts = [0u32; LONGEST_LIST];
     for i in 0..n {
         starts[i] = little_endian::u32_at(bytes, 4 * i) as u32;
     }
-    starts
 }
 
 fn check_decoded(file: &[u8], bytes: &[u8], n: usize, all: usize) -> verdict::Verdict
     requires n_le_all { n ≤ all }
     requires all_bound { all ≤ 81920 }
 {
-    let starts = decode(bytes, n);
+    let mut starts = [0u32; LONGEST_LIST];
+    decode(bytes, n, &mut starts);
     schedule::check_schedule(file, &starts[..all])
 }
 

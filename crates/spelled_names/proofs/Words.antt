@@ -1,7 +1,8 @@
--- Comparing two words, and testing each byte of one, as the library's methods do.
-use Rattle.std.proofs.Common.{◌≡◌, ℕ, ◌<◌, Bool, true, false, List, length, get_or, refl, sym, ap, ◌∙◌}
+-- Comparing a part of a text with a word, byte by byte, and testing each byte of one, as the library's method does.
+use Rattle.std.proofs.Common.{◌≡◌, ℕ, ◌+◌, ◌-◌, ◌≤◌, ◌<◌, Bool, true, false, List, length, get_or, refl, sym, ap, ◌∙◌}
+use native.Mathlib.Omega.{arith}
+use lib.Seq.{slice, length-slice, ext_get_or}
 use Rattle.std.specs.List.{list_all}
-use Rattle.std.specs.Bool.{Decides}
 use Rattle.std.proofs.lemmas.List.Folds.{list_all_at}
 use Rattle.std.proofs.lemmas.List.Sums.{list_all-from_AllPass}
 use Rattle.std.proofs.lemmas.List.Elements.{All-from_get_or}
@@ -9,15 +10,35 @@ use Rattle.laws.specs.Search.{all}
 use Rattle.laws.proofs.Search.{contrary, all_intro, all_elim}
 use Rattle.spelling.specs.Keywords.{same}
 use Rattle.spelling.proofs.Same.{same_refl, same_eq}
+use Rattle.spelling.proofs.Part.{part_at}
 
--- two words are the same where a test decides that they are equal
-pub same_is : {w v : List ℕ} (r : Bool) → Decides r (w ≡ v) → r ≡ same w v
-same_is {w} {v} true d = sym (ap (same w) (sym (d.0 refl)) ∙ same_refl w)
-same_is {w} {v} false d = go (same w v) refl
+-- two words that differ in something are not the same
+same_not : (w v : List ℕ) → (w ≡ v → ⊥) → same w v ≡ false
+same_not w v f = go (same w v) refl
   where
-    go : (b : Bool) → same w v ≡ b → false ≡ same w v
-    go true e = contrary (d.1 (same_eq w v e)) refl
-    go false e = sym e
+    go : (b : Bool) → same w v ≡ b → same w v ≡ false
+    go true e = absurd (f (same_eq w v e))
+    go false e = e
+
+module _ (text : List ℕ) (at end : ℕ) (word : List ℕ) (h : end ≤ length text) where
+  pub same_longer : (end - at ≡ length word → ⊥) → false ≡ same (slice at end text) word
+  same_longer f = sym (same_not _ _ (λ e. f (sym (length-slice at end text h) ∙ ap length e)))
+
+  pub same_apart : (k : ℕ) → at + k < end → (get_or text (at + k) 0 ≡ get_or word k 0 → ⊥) → false ≡ same (slice at end text) word
+  same_apart k l f = sym (same_not _ _ (λ e. f (sym (part_at text at end k l) ∙ ap (λ w. get_or w k 0) e)))
+
+  pub same_all :
+      at ≤ end → end - at ≡ length word → ((j : ℕ) → j < length word → get_or text (at + j) 0 ≡ get_or word j 0) →
+      true ≡ same (slice at end text) word
+  same_all a e f = sym (ap (λ w. same (slice at end text) w) (sym whole) ∙ same_refl (slice at end text))
+    where
+      whole : slice at end text ≡ word
+      whole =
+          ext_get_or 0 (slice at end text) word (length-slice at end text h ∙ e)
+          (λ i l.
+          let b : i < end - at = rw (length-slice at end text h) at l in
+          let c : at + i < end = omega arith in
+          part_at text at end i c ∙ f i (omega arith))
 
 -- every byte passes where the library finds that each does
 pub all_is : (p : ℕ → Bool) (w : List ℕ) → list_all p w ≡ all (length w) (λ k. p (get_or w k 0))

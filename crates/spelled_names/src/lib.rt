@@ -11,13 +11,21 @@ ghost use Rattle.spelling.specs.Cursor.{here, Standing, is_such, is_word};
 use spelling::Cursor;
 use spelling::here::at_some_word;
 
-// Whether the bytes from a place up to another are this word.
+// Whether the bytes from a place up to another are this word. They are compared one by one: names are short and differ early, and the
+// library's comparison of slices is a call.
 pub fn word_is(text: &[u8], at: usize, end: usize, word: &[u8]) -> bool
     requires { (at ≤ end) × (end ≤ length text.now) }
     ensures { result ≡ same (slice at end text.now) word.now }
 {
-    let part = &text[at..end];
-    part == word
+    if end - at != word.len() {
+        return false;
+    }
+    for k in 0..word.len() {
+        if text[at + k] != word[k] {
+            return false;
+        }
+    }
+    true
 }
 
 fn is_name_byte(b: u8) -> bool
