@@ -1,4 +1,3 @@
--- What is well formed is within the format and what is encoded is well formed; and the loops over records.
+-- What is well formed is within the format and what is encoded is well formed.
 pub mod WellFormed
 pub mod Ascending
-pub mod Passed

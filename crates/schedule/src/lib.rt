@@ -196,16 +196,24 @@ pub fn check_planned(timeline: Timeline) -> Verdict
     check_ordered(timeline)
 }
 
+// Refusals 7 to 13, 17 and 21, on the written starts. Their list stands in a function of its own: behind a `?` it would be cleared and
+// copied once more.
+fn check_opened(job: JobReader) -> Verdict
+    requires { Read job.bytes.now job.head × Ranged (seen job) }
+    ensures { JobPromise job.entry.bytes.now result }
+{
+    let n = job.head.count.steps as usize;
+    let starts = ticks::planned_starts(job, n);
+    check_read(job, &starts[..n])
+}
+
 // Whether a job is sound: accepted, or the first of refusals 1 to 7, 17, 10 to 13 and 21 that fits, on the
 // written starts.
 pub fn check_job(s: &[u8]) -> Verdict
     ensures { JobPromise s.now result }
 {
     let head = open_job(s)?;
-    let job = JobReader { bytes: s, head };
-    let n = head.count.steps as usize;
-    let starts = ticks::planned_starts(job, n);
-    check_read(job, &starts[..n])
+    check_opened(JobReader { bytes: s, head })
 }
 
 // Whether a list of starts is a sound timing of a job: accepted, or the first of refusals 1 to 7, 17, 8 to 13 and 21 that

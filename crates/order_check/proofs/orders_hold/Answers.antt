@@ -1,10 +1,20 @@
-use Rattle.std.proofs.Common.{arith, rules, tests}
-use Rattle.order_file.specs.Layout.{contents_of}
-use Rattle.order_check.specs.WellFormed.{order_holds}
-use Rattle.order_check.proofs.Passed.{all_told}
+-- The records passed hold.
+use native.Mathlib.Omega.{arith}
+use Rattle.laws.proofs.Search.{all_start, all_more, all_found, all_end}
 use Rattle.order_check.proofs.orders_hold.Goals as goal
+
+pub loop-k-init : goal.loop-k-init
+loop-k-init c = all_start _
+
+pub returns-then-not-order_holds : goal.returns-then-not-order_holds
+returns-then-not-order_holds c =
+    let e = c.orders-k-end.ensures.0 in
+    all_found _ _ c.loop-k.k (omega (arith, c.loop-k-test.true, e)) c.order_holds.ensures c.if-not-order_holds.true
+
+pub loop-k-preserved : goal.loop-k-preserved
+loop-k-preserved c = all_more _ _ c.loop-k.invariant c.order_holds.ensures c.if-not-order_holds.false
 
 pub returns : goal.returns
 returns c =
-    all_told _ _ 65536 (order_holds (contents_of c.args.file.now)) c.orders.ensures.0 (omega arith) c.all.ensures.ran (λ x q k. search (rules, tests))
-    (λ x q k. search (rules, tests))
+    let e = c.orders-k-end.ensures.0 in
+    all_end _ _ c.loop-k.k c.loop-k.invariant (omega (arith, c.loop-k.auto.k-end, e)) (omega (arith, c.loop-k-test.false, e))

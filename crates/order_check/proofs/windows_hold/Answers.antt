@@ -1,10 +1,20 @@
-use Rattle.std.proofs.Common.{arith, rules, tests}
-use Rattle.order_file.specs.Layout.{contents_of}
-use Rattle.order_check.specs.WellFormed.{window_holds}
-use Rattle.order_check.proofs.Passed.{all_told}
+-- The records passed hold.
+use native.Mathlib.Omega.{arith}
+use Rattle.laws.proofs.Search.{all_start, all_more, all_found, all_end}
 use Rattle.order_check.proofs.windows_hold.Goals as goal
+
+pub loop-k-init : goal.loop-k-init
+loop-k-init c = all_start _
+
+pub returns-then-not-window_holds : goal.returns-then-not-window_holds
+returns-then-not-window_holds c =
+    let e = c.steps-k-end.ensures.0 in
+    all_found _ _ c.loop-k.k (omega (arith, c.loop-k-test.true, e)) c.window_holds.ensures c.if-not-window_holds.true
+
+pub loop-k-preserved : goal.loop-k-preserved
+loop-k-preserved c = all_more _ _ c.loop-k.invariant c.window_holds.ensures c.if-not-window_holds.false
 
 pub returns : goal.returns
 returns c =
-    all_told _ _ 65536 (window_holds (contents_of c.args.file.now)) c.steps.ensures.0 (omega arith) c.all.ensures.ran (λ x q k. search (rules, tests))
-    (λ x q k. search (rules, tests))
+    let e = c.steps-k-end.ensures.0 in
+    all_end _ _ c.loop-k.k c.loop-k.invariant (omega (arith, c.loop-k.auto.k-end, e)) (omega (arith, c.loop-k-test.false, e))

@@ -1,43 +1,12 @@
--- Refusals 1 to 6, then the others of the written starts, of which none is moved.
-use mathlib.Core.Path.{sym, ap, ap₂, ◌∙◌}
-use lib.Seq.{length-take-le}
-use native.Mathlib.Omega.{arith}
-use Rattle.verdict.specs.Verdict.{◌then◌}
+-- Refusals 1 to 6, then the others of the written starts.
 use Rattle.verdict.proofs.Chain.{handed}
-use Rattle.job.specs.declared.layout.Job.{Job}
-use Rattle.job.specs.Model.{view}
-use Rattle.job.specs.Clocked.{clocked}
-use Rattle.validity.specs.Ticks.{planned}
-use Rattle.validity.specs.Checks.{starts_check, timing_check, job_check}
-use Rattle.validity.proofs.Accepted.{job_promise}
-use Rattle.validity.proofs.Planned.{planned_check}
-use Rattle.schedule.proofs.Reading.{read_form}
 use Rattle.schedule.proofs.check_job.Goals as goal
 
 pub returns-in_err-head : goal.returns-in_err-head
 returns-in_err-head c = rw (handed _ c.from_residual.ensures.1) c.in_err-head.ensures.refused
 
-pub planned_starts-starts-requires : goal.planned_starts-starts-requires
-planned_starts-starts-requires c = c.in_ok-head.ensures.ranged.step_count
-
-pub slice_bounds-starts-end : goal.slice_bounds-starts-end
-slice_bounds-starts-end c = omega (arith, c.in_ok-head.ensures.ranged.step_count, c.planned_starts-starts.ensures.0)
-
-pub slice_bounds-check_read-end : goal.slice_bounds-check_read-end
-slice_bounds-check_read-end c =
-    sym (length-take-le _ _ (omega (arith, c.in_ok-head.ensures.ranged.step_count, c.planned_starts-starts.ensures.0)))
-
-pub check_read-requires : goal.check_read-requires
-check_read-requires c = c.in_ok-head.ensures.read
+pub check_opened-requires : goal.check_opened-requires
+check_opened-requires c = let f = c.in_ok-head.ensures in (f.read, f.ranged)
 
 pub returns : goal.returns
-unfolding job_check
-returns c =
-    let passed = c.in_ok-head.ensures.read in
-    let s = c.args.s.now in
-    let j = c.in_ok-head.head in
-    job_promise s
-    (c.check_read.ensures
-    ∙ ap₂ ◌then◌ (read_form passed)
-    (ap (starts_check (clocked (view j s))) c.planned_starts-starts.ensures.1 ∙ planned_check (clocked (view j s))
-    ∙ ap (λ (k : Job). timing_check (clocked (view k s)) (planned (view k s))) passed.header))
+returns c = c.check_opened.ensures

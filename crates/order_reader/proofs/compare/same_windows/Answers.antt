@@ -1,11 +1,20 @@
-use Rattle.std.proofs.Common.{arith, rules, tests}
-use Rattle.order_file.specs.Layout.{contents_of}
-use Rattle.order_answers.specs.Alike.{same_window}
-use Rattle.order_check.proofs.Passed.{all_told}
+-- The records passed hold.
+use native.Mathlib.Omega.{arith}
+use Rattle.laws.proofs.Search.{all_start, all_more, all_found, all_end}
 use Rattle.order_reader.proofs.compare.same_windows.Goals as goal
+
+pub loop-k-init : goal.loop-k-init
+loop-k-init c = all_start _
+
+pub returns-then-not-same_window : goal.returns-then-not-same_window
+returns-then-not-same_window c =
+    let e = c.steps-k-end.ensures.0 in
+    all_found _ _ c.loop-k.k (omega (arith, c.loop-k-test.true, e)) c.same_window.ensures c.if-not-same_window.true
+
+pub loop-k-preserved : goal.loop-k-preserved
+loop-k-preserved c = all_more _ _ c.loop-k.invariant c.same_window.ensures c.if-not-same_window.false
 
 pub returns : goal.returns
 returns c =
-    all_told _ _ 65536 (same_window (contents_of c.args.a.now) (contents_of c.args.b.now)) c.steps.ensures.0 (omega arith) c.all.ensures.ran
-    (λ x q k. search (rules, tests))
-    (λ x q k. search (rules, tests))
+    let e = c.steps-k-end.ensures.0 in
+    all_end _ _ c.loop-k.k c.loop-k.invariant (omega (arith, c.loop-k.auto.k-end, e)) (omega (arith, c.loop-k-test.false, e))
