@@ -150,7 +150,7 @@ pub fn count_in(job: Job, table: Table) -> u16
     }
 }
 
-// The lowest of the first n records of a table that is broken, if one is. It is taken into its calls, where the table is known.
+// The lowest of the first n records of a table that is broken, if one is. Inlined with its caller, it is a loop for each table.
 #[inline(always)]
 pub fn first_broken(job: JobReader, table: Table, n: u16) -> Option<u16>
     requires { IsLaid job × (n ≤ count_in (seen job) table) }

@@ -10,7 +10,7 @@ use job_reader::reader::JobReader;
 use ranges::{count_in, first_broken};
 use verdict::{Refusal, Verdict};
 
-// Refusal 6 in one table. It is taken into its nine calls, as `first_broken` is, so that none hands the reader on.
+// Refusal 6 in one table. Inlined, and `first_broken` with it, since a call would copy the reader.
 #[inline(always)]
 fn check_table(job: JobReader, table: Table) -> Verdict
     requires { IsLaid job }

@@ -196,8 +196,8 @@ pub fn check_planned(timeline: Timeline) -> Verdict
     check_ordered(timeline)
 }
 
-// Refusals 7 to 13, 17 and 21, on the written starts. Their list stands in a function of its own: behind a `?` it would be cleared and
-// copied once more.
+// Refusals 7, 17, 10 to 13 and 21, on the written starts. Their list stands in a function of its own: behind a `?` it would be cleared
+// and copied once more.
 fn check_opened(job: JobReader) -> Verdict
     requires { Read job.bytes.now job.head × Ranged (seen job) }
     ensures { JobPromise job.entry.bytes.now result }

@@ -1,4 +1,4 @@
--- The records passed hold.
+-- The orders passed hold.
 use native.Mathlib.Omega.{arith}
 use Rattle.laws.proofs.Search.{all_start, all_more, all_found, all_end}
 use Rattle.order_check.proofs.orders_hold.Goals as goal

@@ -1,4 +1,4 @@
--- The records passed hold.
+-- The windows passed are the same.
 use native.Mathlib.Omega.{arith}
 use Rattle.laws.proofs.Search.{all_start, all_more, all_found, all_end}
 use Rattle.order_reader.proofs.compare.same_windows.Goals as goal
