@@ -1,20 +1,12 @@
 -- The orders passed hold.
+use mathlib.Core.Path.{sym}
 use native.Mathlib.Omega.{arith}
-use Rattle.laws.proofs.Search.{all_start, all_more, all_found, all_end}
+use Rattle.laws.proofs.Search.{all_intro, all_found}
 use Rattle.order_check.proofs.orders_hold.Goals as goal
-
-pub loop-k-init : goal.loop-k-init
-loop-k-init c = all_start _
 
 pub returns-then-not-order_holds : goal.returns-then-not-order_holds
 returns-then-not-order_holds c =
-    let e = c.orders-k-end.ensures.0 in
-    all_found _ _ c.loop-k.k (omega (arith, c.loop-k-test.true, e)) c.order_holds.ensures c.if-not-order_holds.true
-
-pub loop-k-preserved : goal.loop-k-preserved
-loop-k-preserved c = all_more _ _ c.loop-k.invariant c.order_holds.ensures c.if-not-order_holds.false
+    all_found _ _ c.loop-k.k (omega (arith, c.loop-k-test.true, c.orders-k-end.ensures.0)) c.order_holds.ensures c.if-not-order_holds.true
 
 pub returns : goal.returns
-returns c =
-    let e = c.orders-k-end.ensures.0 in
-    all_end _ _ c.loop-k.k c.loop-k.invariant (omega (arith, c.loop-k.auto.k-end, e)) (omega (arith, c.loop-k-test.false, e))
+returns c = sym (all_intro _ _ (λ j l. c.loop-k.invariant j (omega (arith, l, c.loop-k-test.false, c.orders-k-end.ensures.0))))
