@@ -1,7 +1,5 @@
 -- The others of the written starts, of which none is moved.
-use mathlib.Core.Path.{sym, ap, ap₂, ◌∙◌}
-use lib.Seq.{length-take-le}
-use native.Mathlib.Omega.{arith}
+use mathlib.Core.Path.{ap, ap₂, ◌∙◌}
 use Rattle.verdict.specs.Verdict.{◌then◌}
 use Rattle.job.specs.declared.layout.Job.{Job}
 use Rattle.job.specs.Model.{view}
@@ -12,19 +10,6 @@ use Rattle.validity.proofs.Accepted.{job_promise}
 use Rattle.validity.proofs.Planned.{planned_check}
 use Rattle.schedule.proofs.Reading.{read_form}
 use Rattle.schedule.proofs.check_opened.Goals as goal
-
-pub planned_starts-starts-requires : goal.planned_starts-starts-requires
-planned_starts-starts-requires c = c.requires.1.step_count
-
-pub slice_bounds-starts-end : goal.slice_bounds-starts-end
-slice_bounds-starts-end c = omega (arith, c.requires.1.step_count, c.planned_starts-starts.ensures.0)
-
-pub slice_bounds-check_read-end : goal.slice_bounds-check_read-end
-slice_bounds-check_read-end c =
-    sym (length-take-le _ _ (omega (arith, c.requires.1.step_count, c.planned_starts-starts.ensures.0)))
-
-pub check_read-requires : goal.check_read-requires
-check_read-requires c = c.requires.0
 
 pub returns : goal.returns
 unfolding job_check
